@@ -1,0 +1,4 @@
+pub mod Nearest
+pub mod Growing
+pub mod Folding
+pub mod Sessions
