@@ -1,0 +1,84 @@
+//! Corners in numbers that are wide enough for their products: places in 1/256 pixel, areas in 1/65,536 of a pixel.
+
+ghost use Rattle.std.specs.Prelude.{◌≡◌, ◌≤◌, ◌<◌, ◌^◌, pos, ◌-ℤ◌, ◌*ℤ◌, neg_ℤ, if◌then◌else◌, unsigned_abs};
+ghost use Rattle.gfxspec.specs.Raster.{side};
+ghost use Rattle.gfxspec.specs.Snapping.{IsGridPlace};
+ghost use Rattle.snap.specs.Corners.{corner as corner_of};
+ghost use Rattle.snap.specs.Wide.{point_of, IsNear};
+
+use crate::SnapTri;
+
+/// A corner, in numbers that are wide enough for their products.
+#[derive(Clone, Copy, Debug)]
+pub struct Corner {
+    pub x: i64,
+    pub y: i64,
+}
+
+/// Corner i.
+pub fn corner_at(triangle: &SnapTri, i: usize) -> Corner
+    requires { i < 3 }
+    ensures place { point_of result ≡ corner_of triangle.now i }
+    ensures near { IsNear result }
+{
+    Corner {
+        x: triangle.x[i] as i64,
+        y: triangle.y[i] as i64,
+    }
+}
+
+/// How far it is from one place to another.
+pub fn between(from: i64, to: i64) -> i64
+    requires start { IsGridPlace from }
+    requires end { IsGridPlace to }
+    ensures value { result ≡ to -ℤ from }
+    ensures bound { unsigned_abs result ≤ 2 ^ 21 }
+{
+    to - from
+}
+
+/// The cross product of (dx, dy) and (ex, ey).
+pub fn cross(dx: i64, dy: i64, ex: i64, ey: i64) -> i64
+    requires dx { unsigned_abs dx ≤ 2 ^ 21 }
+    requires dy { unsigned_abs dy ≤ 2 ^ 21 }
+    requires ex { unsigned_abs ex ≤ 2 ^ 21 }
+    requires ey { unsigned_abs ey ≤ 2 ^ 21 }
+    ensures value { result ≡ dx *ℤ ey -ℤ dy *ℤ ex }
+    ensures bound { unsigned_abs result ≤ 2 ^ 43 }
+{
+    dx * ey - dy * ex
+}
+
+/// Twice the area of a, b and p, with its sign.
+pub fn double_area(a: Corner, b: Corner, p: Corner) -> i64
+    requires first { IsNear a }
+    requires second { IsNear b }
+    requires third { IsNear p }
+    ensures value { result ≡ side (point_of a) (point_of b) (point_of p) }
+    ensures bound { unsigned_abs result ≤ 2 ^ 43 }
+{
+    cross(
+        between(a.x, b.x),
+        between(a.y, b.y),
+        between(a.x, p.x),
+        between(a.y, p.y),
+    )
+}
+
+/// The number, or its opposite.
+pub fn negated_if(flip: bool, number: i64) -> i64
+    requires { unsigned_abs number ≤ 2 ^ 21 }
+    ensures value { result ≡ (if flip then neg_ℤ number else number) }
+    ensures bound { unsigned_abs result ≤ 2 ^ 21 }
+{
+    if flip { -number } else { number }
+}
+
+/// What 256 places of 1/256 pixel come to.
+pub fn whole_pixel(each: i64) -> i64
+    requires { unsigned_abs each ≤ 2 ^ 21 }
+    ensures value { result ≡ pos 256 *ℤ each }
+    ensures bound { unsigned_abs result ≤ 2 ^ 29 }
+{
+    256 * each
+}
