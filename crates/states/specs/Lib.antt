@@ -1,0 +1,5 @@
+pub mod ColorMask
+pub mod MaskLaws
+pub mod Raster
+pub mod DepthStencil
+pub mod Blend
