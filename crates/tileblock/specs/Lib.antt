@@ -1,0 +1,3 @@
+pub mod Block
+pub mod Surface
+pub mod EachPixelOnce

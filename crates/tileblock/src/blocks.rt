@@ -1,0 +1,153 @@
+//! A tile's block: what its pixels hold.
+
+use gfxspec::{DEPTH_MAX, DepthStencil, Pixel, PixelRect};
+use std::alloc::{AllocError, Allocator};
+use std::marker::Model;
+
+/// The stored values of a tile's pixels: span s of row y at place 4 * y + s.
+#[derive(Drop)]
+struct Spans {
+    colors: [[u32; 8]; 128],
+    depths: [[u32; 8]; 128],
+    stencils: [[u8; 8]; 128],
+}
+
+impl Spans {
+    ghost use Rattle.std.specs.Prelude.{◌≡◌, replicate};
+    ghost use Rattle.std.specs.Int.{w32, from_le_bytes};
+    ghost use Rattle.tileblock.specs.Block.{stored};
+
+    fn set(&mut self, x: u32, y: u32, pixel: Pixel)
+        ensures colors { self.new.colors ≡ stored self.old.colors x y (from_le_bytes w32 pixel.rgba) }
+        ensures depths { self.new.depths ≡ stored self.old.depths x y pixel.ds.depth }
+        ensures stencils { self.new.stencils ≡ stored self.old.stencils x y pixel.ds.stencil }
+    {
+        let at = (4 * (y % 32) + x % 32 / 8) as usize;
+        let lane = (x % 8) as usize;
+        self.colors[at][lane] = u32::from_le_bytes(pixel.rgba);
+        self.depths[at][lane] = pixel.ds.depth;
+        self.stencils[at][lane] = pixel.ds.stencil;
+    }
+
+    fn clear_color(&mut self, color: u32)
+        ensures { self.new ≡ record self.old { colors = replicate 128 (replicate 8 color) } }
+    {
+        self.colors = [[color; 8]; 128];
+    }
+
+    fn clear_depth_stencil(&mut self, value: DepthStencil)
+        ensures { self.new ≡ record self.old { depths = replicate 128 (replicate 8 value.depth); stencils = replicate 128 (replicate 8 value.stencil) } }
+    {
+        self.depths = [[value.depth; 8]; 128];
+        self.stencils = [[value.stencil; 8]; 128];
+    }
+}
+
+/// The pixels of a tile that lie on the target.
+#[derive(Drop)]
+pub struct TileBlock<A: Allocator> {
+    rect: PixelRect,
+    spans: Box<Spans, A>,
+}
+
+impl<A: Allocator> Model for TileBlock<A> {
+    ghost use Rattle.tileblock.specs.Block.{Block, IsBlock};
+
+    ghost Value = { Block };
+
+    ghost view = { λ b. record { rect = b.rect; colors = b.spans.value.colors; depths = b.spans.value.depths; stencils = b.spans.value.stencils } };
+
+    ghost invariant = { λ b. IsBlock (record { rect = b.rect; colors = b.spans.value.colors; depths = b.spans.value.depths; stencils = b.spans.value.stencils }) };
+}
+
+/// A tile that was taken out of its target.
+#[derive(Drop)]
+pub struct OpenTile<A: Allocator> {
+    pub number: u32,
+    pub block: TileBlock<A>,
+}
+
+impl<A: Allocator> TileBlock<A> {
+    ghost use Rattle.std.specs.Prelude.{◌≡◌, ◌≢◌, ◌<◌, ◌⊎◌, ◌+◌, ◌*◌, ℕ, IfOk, slice_index};
+    ghost use Rattle.std.specs.Int.{w32, to_le_bytes};
+    ghost use Rattle.gfxspec.specs.Tiles.{IsIn};
+    ghost use Rattle.gfxspec.specs.Items.{opening, after_item, ColorCleared, DepthStencilCleared};
+    ghost use Rattle.tileblock.specs.Block.{Block, IsInTile, pixel_at};
+
+    /// A tile of a new target.
+    pub(crate) fn new(alloc: A, rect: PixelRect) -> Result<TileBlock<A>, AllocError>
+        requires { IsInTile rect }
+        ensures rect { IfOk result (λ b. b.rect ≡ rect) }
+        ensures opening { IfOk result (λ b. (x y : ℕ) → IsIn rect x y → pixel_at b x y ≡ opening) }
+    {
+        let spans = Box::new(
+            alloc,
+            Spans {
+                colors: [[0; 8]; 128],
+                depths: [[DEPTH_MAX; 8]; 128],
+                stencils: [[0; 8]; 128],
+            },
+        )?;
+        Ok(TileBlock { rect, spans })
+    }
+
+    /// The tile's part of the target.
+    pub fn rect(&self) -> PixelRect
+        ensures { result ≡ self.now.rect }
+    {
+        self.rect
+    }
+
+    /// What a pixel of the rectangle holds.
+    pub fn get(&self, x: u32, y: u32) -> Pixel
+        requires { IsIn self.now.rect x y }
+        ensures { result ≡ pixel_at self.now x y }
+    {
+        let at = (4 * (y % 32) + x % 32 / 8) as usize;
+        let lane = (x % 8) as usize;
+        Pixel {
+            rgba: self.spans.colors[at][lane].to_le_bytes(),
+            ds: DepthStencil {
+                depth: self.spans.depths[at][lane],
+                stencil: self.spans.stencils[at][lane],
+            },
+        }
+    }
+
+    /// The colours of eight pixels side by side, which are a span of a row; both are counted within the tile. A
+    /// colour is one number, red in its low byte and alpha in its high one.
+    pub fn color_span(&self, span: u32, row: u32) -> [u32; 8]
+        requires span { span < 4 }
+        requires row { row < 32 }
+        ensures { (j : ℕ) → j < 8 → to_le_bytes w32 (slice_index result j)
+            ≡ (pixel_at self.now (self.now.rect.left + 8 * span + j) (self.now.rect.top + row)).rgba }
+    {
+        self.spans.colors[(4 * row + span) as usize]
+    }
+
+    /// Stores all of a pixel of the rectangle.
+    pub fn set(&mut self, x: u32, y: u32, pixel: Pixel)
+        requires { IsIn self.old.rect x y }
+        ensures rect { self.new.rect ≡ self.old.rect }
+        ensures here { pixel_at self.new x y ≡ pixel }
+        ensures elsewhere { (u v : ℕ) → IsIn self.old.rect u v → (u ≢ x) ⊎ (v ≢ y) → pixel_at self.new u v ≡ pixel_at self.old u v }
+    {
+        self.spans.set(x, y, pixel);
+    }
+
+    /// Stores a colour in all pixels, whatever they hold.
+    pub fn clear_color(&mut self, rgba: [u8; 4])
+        ensures rect { self.new.rect ≡ self.old.rect }
+        ensures pixels { (x y : ℕ) → IsIn self.old.rect x y → pixel_at self.new x y ≡ after_item (ColorCleared rgba) x y (pixel_at self.old x y) }
+    {
+        self.spans.clear_color(u32::from_le_bytes(rgba));
+    }
+
+    /// Stores a depth and a stencil value in all pixels, whatever they hold.
+    pub fn clear_depth_stencil(&mut self, value: DepthStencil)
+        ensures rect { self.new.rect ≡ self.old.rect }
+        ensures pixels { (x y : ℕ) → IsIn self.old.rect x y → pixel_at self.new x y ≡ after_item (DepthStencilCleared value.depth value.stencil) x y (pixel_at self.old x y) }
+    {
+        self.spans.clear_depth_stencil(value);
+    }
+}
