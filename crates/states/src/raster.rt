@@ -17,6 +17,9 @@ pub struct RasterDesc {
     pub scissor: bool,
 }
 
+/// What is added to each depth while no description has a bias.
+const NO_BIAS: i32 = 0;
+
 /// A rasterizer state (Direct3D 11.3 Functional Specification, "Rasterizer Stage").
 #[derive(Clone, Copy, Debug, PartialEq, Eq)]
 pub struct RasterState {
@@ -65,6 +68,15 @@ impl RasterState {
         ensures { result ≡ self.now.scissor }
     {
         self.desc.scissor
+    }
+
+    /// What is added to each depth, in units of depth. No description sets it.
+    #[inline]
+    pub fn depth_bias(&self) -> i32
+        ensures { result ≡ self.now.depth_bias }
+    {
+        let _ = &self.desc;
+        NO_BIAS
     }
 }
 
