@@ -36,7 +36,10 @@ impl Spans {
     }
 
     fn clear_depth_stencil(&mut self, value: DepthStencil)
-        ensures { self.new ≡ record self.old { depths = replicate 128 (replicate 8 value.depth); stencils = replicate 128 (replicate 8 value.stencil) } }
+        ensures { self.new ≡ record self.old {
+          depths = replicate 128 (replicate 8 value.depth);
+          stencils = replicate 128 (replicate 8 value.stencil);
+        } }
     {
         self.depths = [[value.depth; 8]; 128];
         self.stencils = [[value.stencil; 8]; 128];
@@ -130,7 +133,8 @@ impl<A: Allocator> TileBlock<A> {
         requires { IsIn self.old.rect x y }
         ensures rect { self.new.rect ≡ self.old.rect }
         ensures here { pixel_at self.new x y ≡ pixel }
-        ensures elsewhere { (u v : ℕ) → IsIn self.old.rect u v → (u ≢ x) ⊎ (v ≢ y) → pixel_at self.new u v ≡ pixel_at self.old u v }
+        ensures elsewhere { (u v : ℕ) → IsIn self.old.rect u v → (u ≢ x) ⊎ (v ≢ y)
+            → pixel_at self.new u v ≡ pixel_at self.old u v }
     {
         self.spans.set(x, y, pixel);
     }
@@ -138,7 +142,8 @@ impl<A: Allocator> TileBlock<A> {
     /// Stores a colour in all pixels, whatever they hold.
     pub fn clear_color(&mut self, rgba: [u8; 4])
         ensures rect { self.new.rect ≡ self.old.rect }
-        ensures pixels { (x y : ℕ) → IsIn self.old.rect x y → pixel_at self.new x y ≡ after_item (ColorCleared rgba) x y (pixel_at self.old x y) }
+        ensures pixels { (x y : ℕ) → IsIn self.old.rect x y
+            → pixel_at self.new x y ≡ after_item (ColorCleared rgba) x y (pixel_at self.old x y) }
     {
         self.spans.clear_color(u32::from_le_bytes(rgba));
     }
@@ -146,7 +151,8 @@ impl<A: Allocator> TileBlock<A> {
     /// Stores a depth and a stencil value in all pixels, whatever they hold.
     pub fn clear_depth_stencil(&mut self, value: DepthStencil)
         ensures rect { self.new.rect ≡ self.old.rect }
-        ensures pixels { (x y : ℕ) → IsIn self.old.rect x y → pixel_at self.new x y ≡ after_item (DepthStencilCleared value.depth value.stencil) x y (pixel_at self.old x y) }
+        ensures pixels { (x y : ℕ) → IsIn self.old.rect x y → pixel_at self.new x y
+            ≡ after_item (DepthStencilCleared value.depth value.stencil) x y (pixel_at self.old x y) }
     {
         self.spans.clear_depth_stencil(value);
     }
