@@ -1,2 +1,21 @@
-//! To come.
+//! Deferred contexts and the command lists that they record (Microsoft Learn, ID3D11DeviceContext, "Command List").
+//!
+//! A context is seen by contracts as the commands of the list that it records, each accepted behind those before it; all
+//! that the list means (settings by looking back, items, issues, open queries) follows from them by the definitions. The
+//! code keeps beside the commands what it needs to answer each refusal in constant time, and its type says that this is
+//! what the definitions give. Buffers are shared between the command that set them and the settings that are kept, so
+//! that no call copies a vertex but the one that was handed it.
 #![tactic(auto)]
+
+mod buffer;
+mod command;
+mod context;
+mod drawing;
+mod list;
+mod settings;
+
+pub use buffer::Buffer;
+pub use command::Command;
+pub use context::DeferredContext;
+pub use list::CommandList;
+pub use settings::{Settings, State};

@@ -13,6 +13,7 @@ use Rattle.gfxspec.specs.Assembly.{Primitive, draw_primitives, draw_indexed_prim
 use Rattle.gfxspec.specs.Items.{Item, Drawn, ColorCleared, DepthStencilCleared}
 use Rattle.gfxspec.specs.Commands.{Command, SetVertices, SetIndices, SetTopology, SetRaster, SetScissor, SetDepthStencil, SetBlend, Draw, DrawIndexed, ClearColor, ClearDepthStencil, Begin, End, Kept}
 use Rattle.gfxspec.specs.Recorded.{settings_after, open_after, queries_open, ends, items_at, items_behind, items, drawn_items, is_drawn, triangle_count, issues, query_begun}
+use Rattle.meaning.specs.OneMore.{triangles_of, without, queries_with}
 use Rattle.gfxspec.specs.Refusals.{IsAccepted, AcceptedBehind, AreAccepted}
 
 -- the items of one more command stand at the end
@@ -29,12 +30,6 @@ items-push cs c = items_behind-push [] [] cs c
 
 pub issues-push : (cs : List Command) (c : Command) → issues (cs ++ c ∷ []) ≡ issues cs ++ issues (c ∷ [])
 issues-push cs c = filter_map-append query_begun cs (c ∷ [])
-
--- how many triangles a command draws
-abbrev pub triangles_of : Settings → Command → ℕ
-triangles_of s (Draw count start) = length (draw_primitives s count start)
-triangles_of s (DrawIndexed count start base) = length (draw_indexed_primitives s count start base)
-triangles_of s c = 0
 
 drawn_count : (s : Settings) (opened : List ℕ) (ps : List Primitive) → count_by is_drawn (drawn_items s opened ps) ≡ length ps
 drawn_count s opened [] = refl
@@ -73,10 +68,6 @@ begun-push (Begin p ∷ cs) q =
     chosen false e = ap (λ qs. p ∷ qs) e
 begun-push (c ∷ cs) q = begun-push cs q
 
--- the open queries but this one
-abbrev pub without : ℕ → List ℕ → List ℕ
-without q open_queries = filter (λ p. not (q == p)) open_queries
-
 ended-push : (cs : List Command) (q : ℕ) → queries_open (cs ++ End q ∷ []) ≡ without q (queries_open cs)
 ended-push [] q = refl
 ended-push (Begin p ∷ cs) q =
@@ -96,12 +87,6 @@ still-push (Begin p ∷ cs) c h k =
     ap (λ b. cond b (queries_open (cs ++ c ∷ [])) (p ∷ queries_open (cs ++ c ∷ []))) (list_any-append (ends p) cs (c ∷ []) ∙ ap (λ b. list_any (ends p) cs || (b || false)) (h p) ∙ or-false (list_any (ends p) cs))
     ∙ ap (λ qs. cond (list_any (ends p) cs) qs (p ∷ qs)) (still-push cs c h k)
 still-push (d ∷ cs) c h k = still-push cs c h k
-
--- the queries that are open after one more command
-abbrev pub queries_with : Command → List ℕ → List ℕ
-queries_with (Begin q) open_queries = open_queries ++ q ∷ []
-queries_with (End q) open_queries = without q open_queries
-queries_with c open_queries = open_queries
 
 pub queries_open-push : (cs : List Command) (c : Command) → queries_open (cs ++ c ∷ []) ≡ queries_with c (queries_open cs)
 queries_open-push cs (Begin q) = begun-push cs q

@@ -5,6 +5,7 @@ use Rattle.std.proofs.lemmas.List.{append-nil}
 use Rattle.std.proofs.lemmas.List.Elements.{filter_map-append}
 use Rattle.gfxspec.specs.State.{Settings}
 use Rattle.gfxspec.specs.Commands.{Command, SetVertices, SetIndices, SetTopology, SetRaster, SetScissor, SetDepthStencil, SetBlend, Draw, DrawIndexed, ClearColor, ClearDepthStencil, Begin, End, Kept}
+use Rattle.meaning.specs.OneMore.{settings_with}
 use Rattle.gfxspec.specs.Recorded.{vertices_set, indices_set, topology_set, raster_set, scissor_set, depth_stencil_set, reference_set, blend_set, last_or, nearest, settings_after}
 
 pub last_or-push : {A : Type 0} (d : A) (xs : List A) (x : A) → last_or d (xs ++ x ∷ []) ≡ x
@@ -18,20 +19,6 @@ last_or-option d xs (Some x) c set e = rw e (last_or-push d xs x)
 -- the nearest setting is the last command's, if that sets the kind
 pub nearest-push : {A : Type 0} (set : Command → Option A) (d : A) (cs : List Command) (c : Command) → nearest set d (cs ++ c ∷ []) ≡ unwrap_or (set c) (nearest set d cs)
 nearest-push set d cs c = ap (last_or d) (filter_map-append set cs (c ∷ [])) ∙ last_or-option d (filter_map set cs) (set c) c set refl
-
--- settings with those kinds changed that a command sets
-abbrev pub settings_with : Command → Settings → Settings
-settings_with c s =
-    record {
-      vertices = unwrap_or (vertices_set c) s.vertices;
-      indices = unwrap_or (indices_set c) s.indices;
-      topology = unwrap_or (topology_set c) s.topology;
-      raster = unwrap_or (raster_set c) s.raster;
-      scissor = unwrap_or (scissor_set c) s.scissor;
-      depth_stencil = unwrap_or (depth_stencil_set c) s.depth_stencil;
-      reference = unwrap_or (reference_set c) s.reference;
-      blend = unwrap_or (blend_set c) s.blend;
-    }
 
 pub settings_after-push : (cs : List Command) (c : Command) → settings_after (cs ++ c ∷ []) ≡ settings_with c (settings_after cs)
 settings_after-push cs c =

@@ -9,7 +9,8 @@ use Rattle.gfxspec.specs.Items.{Item}
 use Rattle.gfxspec.specs.Commands.{Command, Kept}
 use Rattle.gfxspec.specs.Recorded.{settings_after, open_after, queries_open, items_at, items_behind, after_finish}
 use Rattle.gfxspec.specs.Session.{Step, Records, Executes, Flushes, seen, all_seen, run, all_run, step_items, session_items, items_of_session, settings_now, open_now, pending_from, pending}
-use Rattle.meaning.proofs.Nearest.{settings_with, settings_after-push}
+use Rattle.meaning.specs.OneMore.{settings_with, pending_with}
+use Rattle.meaning.proofs.Nearest.{settings_after-push}
 
 -- a step's items depend on what was seen and run before it
 step-same : (e f : List Step) (s : Step) → all_seen e ≡ all_seen f → all_run e ≡ all_run f → step_items e s ≡ step_items f s
@@ -63,12 +64,6 @@ all_seen-push ss s = flat_map-append seen ss (s ∷ []) ∙ ap (λ x. all_seen s
 
 pub all_run-push : (ss : List Step) (s : Step) → all_run (ss ++ s ∷ []) ≡ all_run ss ++ run s
 all_run-push ss s = flat_map-append run ss (s ∷ []) ∙ ap (λ x. all_run ss ++ x) (append-nil (run s))
-
--- the pending list behind one more step
-abbrev pub pending_with : List Command → List Step → Step → List Command
-pending_with list steps (Records c) = list ++ c ∷ []
-pending_with list steps (Executes commands restore) = after_finish restore (all_seen steps)
-pending_with list steps Flushes = after_finish true (all_seen steps)
 
 pending_from-push : (e : List Step) (list : List Command) (ss : List Step) (s : Step) → pending_from e list (ss ++ s ∷ []) ≡ pending_with (pending_from e list ss) (e ++ ss) s
 pending_from-push e list [] (Records c) = refl

@@ -1,0 +1,44 @@
+-- What a recorder keeps beside its commands.
+use Rattle.std.specs.Prelude.{ℕ, ◌≡◌, ◌≤◌, Bool, true, false, List, [], ◌∷◌, length, map}
+use Rattle.gfxspec.specs.declared.TheConstants.{LIST_LIMIT}
+use Rattle.gfxspec.specs.Commands.{Command, Begin, Kept}
+use Rattle.gfxspec.specs.Recorded.{settings_after, issues, queries_open, triangle_count}
+use Rattle.gfxspec.specs.Refusals.{Row, first_row, list_rows, too_long, AreAccepted}
+use Rattle.meaning.specs.OneMore.{triangles_of}
+use Rattle.cmdlist.specs.Seen.{settings_value, command_value}
+use Rattle.cmdlist.specs.declared.context.DeferredContext.TheInside as context
+use Rattle.cmdlist.specs.declared.list.CommandList.TheInside as list
+
+-- the commands that were recorded
+abbrev pub commands_of : {A : Type 0} → context.Inside A → List Command
+commands_of c = map command_value c.commands.items
+
+-- The commands are accepted ones, and what stands beside them is what the definitions give of them.
+pub record IsRecorded {A : Type 0} (c : context.Inside A) : Type 0 where
+  pub accepted : AreAccepted (commands_of c)
+  pub settings : settings_value c.settings ≡ settings_after (commands_of c)
+  pub triangles : c.triangles ≡ triangle_count (commands_of c)
+  pub few_triangles : c.triangles ≤ LIST_LIMIT
+  pub few_commands : length (commands_of c) ≤ LIST_LIMIT
+  pub issues : c.issues ≡ length (issues (commands_of c))
+  pub few_issues : c.issues ≤ 64
+  pub opened : c.open_queries.items ≡ queries_open (commands_of c)
+
+-- the commands of a finished list
+abbrev pub list_commands : {A : Type 0} → list.Inside A → List Command
+list_commands l = map command_value l.commands.items
+
+-- a command that is a call of its own
+abbrev pub is_call : Command → Bool
+is_call (Kept s) = false
+is_call c = true
+
+abbrev pub is_begin : Command → Bool
+is_begin (Begin query) = true
+is_begin c = false
+
+-- Of the rows of a call that draws so many triangles only that on the length of the list may apply.
+pub record OnlyLength (list : List Command) (c : Command) (triangles : ℕ) : Type 0 where
+  pub call : is_call c ≡ true
+  pub counted : triangles ≡ triangles_of (settings_after list) c
+  pub rows : first_row (list_rows list c) ≡ first_row (too_long list triangles ∷ [])
