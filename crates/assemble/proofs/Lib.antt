@@ -1,0 +1,4 @@
+pub mod CutLaws
+pub mod TurnLaws
+pub mod CountLaws
+pub mod PlaceLaws

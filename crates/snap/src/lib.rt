@@ -12,6 +12,7 @@ ghost use Rattle.gfxspec.specs.Items.{snapped_triangle};
 ghost use Rattle.gfxspec.specs.Snapping.{IsCoordinate, IsGridPlace, SnapsTo, snapped};
 ghost use Rattle.gfxspec.specs.Vertices.{IsPlaced};
 
+use crate::corner::{corner_at, double_area};
 use gfxspec::Vertex;
 
 /// A triangle's corners in 1/256 pixel, the leading one first.
@@ -53,6 +54,8 @@ pub fn snap_tri(v: &[Vertex; 3]) -> SnapTri
 }
 
 impl SnapTri {
+    ghost use Rattle.std.specs.Prelude.{unsigned_abs, ◌^◌};
+    ghost use Rattle.gfxspec.specs.Raster.{area};
     ghost use Rattle.snap.specs.Corners.{triangle_of};
 
     /// Snaps three corners that are known one by one, the leading one first.
@@ -65,12 +68,19 @@ impl SnapTri {
     {
         snap_tri(&[*first, *second, *third])
     }
+
+    /// Twice the area, in 1/65,536 of a pixel: above 0 where the corners go round clockwise on the target.
+    pub fn double_area(&self) -> i64
+        ensures value { result ≡ area (triangle_of self.now) }
+        ensures bound { unsigned_abs result ≤ 2 ^ 43 }
+    {
+        double_area(corner_at(self, 0), corner_at(self, 1), corner_at(self, 2))
+    }
 }
 
 #[cfg(test)]
 mod tests {
     use super::*;
-    use crate::corner::{corner_at, double_area};
 
     #[test]
     fn ties_go_to_even(rt: HostRuntime) {
@@ -110,11 +120,6 @@ mod tests {
         assert_eq!(rt; triangle.x, [0, 1024, 0]);
         assert_eq!(rt; triangle.y, [256, 2, 1024]);
         assert_eq!(rt; snap_tri(&[first, second, third]).x, triangle.x);
-        let area = double_area(
-            corner_at(&triangle, 0),
-            corner_at(&triangle, 1),
-            corner_at(&triangle, 2),
-        );
-        assert_eq!(rt; area, 1024 * 768);
+        assert_eq!(rt; triangle.double_area(), 1024 * 768);
     }
 }
