@@ -1,0 +1,3 @@
+pub mod ImageLemmas
+mod SpanLemmas
+mod Vectors

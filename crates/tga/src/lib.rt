@@ -1,2 +1,13 @@
-//! To come.
+//! Targets as Truevision TGA images, uncompressed, 32 bits a pixel.
+//!
+//! The image is written row by row: the colours of a row are read from the tiles eight pixels at a time into a buffer
+//! of whole tiles, and its part on the target is handed on as one piece. So nothing is counted or tested per pixel,
+//! and no memory is taken.
 #![tactic(auto)]
+
+mod image;
+mod row;
+#[cfg(test)]
+mod tests;
+
+pub use image::{TgaFault, write_tga};

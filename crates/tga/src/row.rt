@@ -1,0 +1,45 @@
+//! A row of pixels, read from the tiles.
+
+ghost use Rattle.std.specs.Prelude.{◌≡◌, ℕ, ◌+◌, ◌<◌, ◌≤◌, [], length, slice_index, slice_index_or};
+ghost use Rattle.std.specs.Int.{w32, to_le_bytes};
+ghost use Rattle.tileblock.specs.Surface.{IsWhole, pixel_of};
+ghost use Rattle.tga.specs.Image.{kept_color};
+
+use gfxspec::TILE_SIDE;
+use std::alloc::Allocator;
+use tileblock::Target;
+
+/// The longest row, in pixels.
+pub(crate) const ROW: usize = 4096;
+
+/// Stores eight colours, as the image keeps them.
+fn store_span(row: &mut [[u8; 4]; ROW], at: usize, colors: [u32; 8])
+    requires { at + 8 ≤ 4096 }
+    ensures len { length row.new ≡ 4096 }
+    ensures here { (j : ℕ) → j < 8
+        → slice_index_or row.new (at + j) [] ≡ kept_color (to_le_bytes w32 (slice_index colors j)) }
+    ensures before { (x : ℕ) → x < at → slice_index_or row.new x [] ≡ slice_index_or row.old x [] }
+{
+    for j in 0..8usize {
+        let [red, green, blue, alpha] = colors[j].to_le_bytes();
+        row[at + j] = [blue, green, red, alpha];
+    }
+}
+
+/// Stores row y of a target, as the image keeps it. What follows the target's last pixel is of no use.
+pub(crate) fn store_row<A: Allocator>(row: &mut [[u8; 4]; ROW], target: &Target<A>, y: u32)
+    requires whole { IsWhole target.now }
+    requires y { y < target.now.size.height }
+    ensures len { length row.new ≡ 4096 }
+    ensures pixels { (x : ℕ) → x < target.now.size.width
+        → slice_index_or row.new x [] ≡ kept_color (pixel_of target.now x y).rgba }
+{
+    let along = target.size().width.div_ceil(TILE_SIDE);
+    let first = y / TILE_SIDE * along;
+    for at in 0..4 * along {
+        let colors = target
+            .block(first + at / 4)
+            .color_span(at % 4, y % TILE_SIDE);
+        store_span(row, 8 * at as usize, colors);
+    }
+}
