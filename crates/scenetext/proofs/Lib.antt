@@ -1,0 +1,10 @@
+pub mod TextLemmas
+pub mod NumberLemmas
+pub mod RangeLemmas
+pub mod VerbLemmas
+pub mod SceneLemmas
+pub mod ReadingLaw
+pub mod CutLemmas
+pub mod WordLemmas
+pub mod ReadLemmas
+pub mod LoopLemmas

@@ -1,0 +1,10 @@
+pub mod Scene
+pub mod Text
+pub mod Numbers
+pub mod Commands
+pub mod Spelling
+pub mod Faults
+pub mod Seen
+pub mod SeenScene
+pub mod Ranges
+pub mod Reading

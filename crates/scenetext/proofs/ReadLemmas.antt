@@ -1,0 +1,147 @@
+-- What the parts of the reader owe.
+use Rattle.std.proofs.Common.{◌≡◌, ◌≢◌, ℕ, ℤ, suc, ◌+◌, ◌*◌, ◌<◌, Bool, true, false, cond, ◌&&◌, eqb, List, [], ◌∷◌, ◌++◌, length, get_or, map, replicate, Option, Some, None, refl, sym, ap, ◌∙◌, append_assoc, arith}
+use Rattle.std.specs.Prelude.{decimal, slice_index, count_by}
+use Rattle.std.specs.List.{AllByRecursion, flat_map}
+use Rattle.std.specs.Fmt.{signed_decimal}
+use Rattle.std.proofs.lemmas.List.{length-append, length-map, append-nil}
+use Rattle.std.proofs.lemmas.Bool.Decides.{nat_tests}
+use Rattle.std.proofs.lemmas.Fmt.{digits_value-decimal}
+use Rattle.gfxspec.specs.declared.geometry.Vertex.{Vertex}
+use Rattle.gfxspec.specs.Commands as gfx
+use Rattle.scenetext.specs.declared.fault.Fault.{Fault}
+use Rattle.scenetext.specs.declared.fault.Fault.TheVariants as faults
+use Rattle.scenetext.specs.declared.fault.ReadError.{ReadError}
+use Rattle.scenetext.specs.declared.fault.ReadError.TheVariants as errors
+use Rattle.scenetext.specs.declared.range.Range.{Range}
+use Rattle.scenetext.specs.declared.command.CommandWord.{CommandWord}
+use Rattle.scenetext.specs.declared.command.CommandWord.TheVariants as words
+use Rattle.scenetext.specs.Scene.{Actor, Verb, Call, Execute}
+use Rattle.scenetext.specs.Text.{TextLine, words_of}
+use Rattle.scenetext.specs.Numbers.{Kind, context_word, fits_kind, fit, i32s}
+use Rattle.scenetext.specs.Commands.{OneOf, vertex_kinds, shape, name, serves}
+use Rattle.scenetext.specs.Spelling.{vertex_words, verb_words, IsVertex, IsVerb, actor_word, is_immediate_actor}
+use Rattle.scenetext.specs.Faults.{word, or_fault, unless, arguments_fault, finishes, has_list, later_line_fault}
+use Rattle.scenetext.specs.Ranges.{AreIn}
+use Rattle.scenetext.specs.Reading.{Reads, Refuses, Counts, LacksCounted, IsHead, RefusesLine}
+use Rattle.scenetext.proofs.NumberLemmas.{own}
+use Rattle.scenetext.proofs.RangeLemmas.{and_false, length-AreIn}
+use Rattle.scenetext.proofs.VerbLemmas.{u32_range, flag_range, flag_back, IsMade, fit-append, vertex_fits, length-vertex_words, length-vertices, groups_of, Fits, verb_fits, command_named-name}
+use Rattle.scenetext.proofs.SceneLemmas.{actor_known, immediate_is}
+
+-- ---- arguments that are numbers
+
+-- as many words as numbers
+pub all_taken : (rs : List Range) (ns : List ℕ) (old rest : List (List ℕ)) → old ≡ map decimal ns ++ rest → AreIn rs ns → length old ≡ length rs → old ≡ map decimal ns
+all_taken rs ns old [] e h l = e ∙ nil (map decimal ns)
+  where
+    nil : (xs : List (List ℕ)) → xs ++ [] ≡ xs
+    nil xs = append-nil xs
+all_taken rs ns old (w ∷ rest) e h l = absurd (omega (arith, ap length e, length-append (map decimal ns) (w ∷ rest), length-map ns decimal, length-AreIn rs ns h))
+
+-- another number of arguments
+pub count_refused : (ks : List Kind) (old : List (List ℕ)) (rows : Option Fault) → length old ≢ length ks → arguments_fault (OneOf (ks ∷ [])) old rows ≡ Some faults.ArgumentCount
+count_refused ks old rows h =
+    let t : eqb (length ks) (length old) ≡ false = grind (arith, nat_tests) in
+    ap (λ b. or_fault (cond b (Some ks) None) faults.ArgumentCount (λ kinds. unless (fit kinds old) faults.Argument rows)) t
+
+-- as many, of which one does not fit
+pub form_refused : (ks : List Kind) (old : List (List ℕ)) (rows : Option Fault) → length old ≡ length ks → fit ks old ≡ false → arguments_fault (OneOf (ks ∷ [])) old rows ≡ Some faults.Argument
+form_refused ks old rows l f =
+    let t : eqb (length ks) (length old) ≡ true = grind (arith, nat_tests) in
+    ap (λ b. or_fault (cond b (Some ks) None) faults.ArgumentCount (λ kinds. unless (fit kinds old) faults.Argument rows)) t ∙ ap (λ b. unless b faults.Argument rows) f
+
+pub made_reads : (c : CommandWord) (old : List (List ℕ)) (ns : List ℕ) (v : Verb) → old ≡ map decimal ns → IsMade c ns v → Reads c old v
+made_reads c old ns v e m = record { words_are = m.words ∙ ap (λ ws. name c ∷ ws) (sym e); verb = m.verb; taken = m.taken }
+
+pub four_parts : (a b c d : Range) (ns : List ℕ) → AreIn (a ∷ b ∷ c ∷ d ∷ []) ns → ns ≡ get_or ns 0 0 ∷ get_or ns 1 0 ∷ get_or ns 2 0 ∷ get_or ns 3 0 ∷ []
+four_parts a b c d [] h = absurd h
+four_parts a b c d (r ∷ []) h = absurd h.1
+four_parts a b c d (r ∷ g ∷ []) h = absurd h.1.1
+four_parts a b c d (r ∷ g ∷ x ∷ []) h = absurd h.1.1.1
+four_parts a b c d (r ∷ g ∷ x ∷ y ∷ []) h = refl
+four_parts a b c d (r ∷ g ∷ x ∷ y ∷ z ∷ ns) h = absurd h.1.1.1.1
+
+pub exec_reads : (old ws rest : List (List ℕ)) (values : List ℕ) (k : ℕ) → old ≡ context_word k ∷ ws → k < 8 → ws ≡ map decimal values ++ rest → length old ≡ 3 → AreIn (u32_range ∷ flag_range ∷ []) values → Reads words.Exec old (Execute k (get_or values 0 0) (eqb (get_or values 1 0) 1))
+exec_reads old ws rest [] k e b f l h = absurd h
+exec_reads old ws rest (n ∷ []) k e b f l h = absurd h.1
+exec_reads old ws [] (n ∷ m ∷ []) k e b f l h = record {
+  words_are = ap (λ i. name words.Exec ∷ context_word k ∷ decimal n ∷ decimal i ∷ []) (flag_back m h.1.0.high) ∙ ap (λ x. name words.Exec ∷ context_word k ∷ x) (sym f) ∙ ap (λ x. name words.Exec ∷ x) (sym e);
+  verb = (b, omega (arith, h.0.high));
+  taken = λ im. refl;
+}
+exec_reads old ws (w ∷ rest) (n ∷ m ∷ []) k e b f l h = absurd (omega (arith, ap length e, ap length f))
+exec_reads old ws rest (n ∷ m ∷ p ∷ values) k e b f l h = absurd h.1.1
+
+-- ---- vertices
+
+first_false : (a b : Bool) → a ≡ false → (a && b) ≡ false
+first_false true b e = absurd cc
+first_false false b e = refl
+
+pub second_fails : (old ws : List (List ℕ)) (x : ℤ) → old ≡ signed_decimal x ∷ ws → 0 < length ws → fits_kind i32s (word ws 0) ≡ false → fit vertex_kinds old ≡ false
+second_fails old [] x e l f = absurd (omega arith)
+second_fails old (w ∷ ws) x e l f = ap (fit vertex_kinds) e ∙ and_false (fits_kind i32s (signed_decimal x)) _ (first_false (fits_kind i32s w) _ f)
+
+pub others_fail : (old us ws : List (List ℕ)) (x y : ℤ) (ks : List Kind) → old ≡ signed_decimal x ∷ us → us ≡ signed_decimal y ∷ ws → fit ks ws ≡ false → fit (i32s ∷ i32s ∷ ks) old ≡ false
+others_fail old us ws x y ks e f h = ap (fit (i32s ∷ i32s ∷ ks)) (e ∙ ap (λ r. signed_decimal x ∷ r) f) ∙ and_false (fits_kind i32s (signed_decimal x)) _ (and_false (fits_kind i32s (signed_decimal y)) _ h)
+
+fit-front : (ks ls : List Kind) (ws : List (List ℕ)) → fit ks ws ≡ false → fit (ks ++ ls) ws ≡ false
+fit-front [] ls ws h = absurd cc
+fit-front (k ∷ ks) ls [] h = refl
+fit-front (k ∷ ks) ls (w ∷ ws) h = by (fits_kind k w) (fit ks ws) (fit (ks ++ ls) ws) h (fit-front ks ls ws)
+  where
+    by : (a b c : Bool) → (a && b) ≡ false → (b ≡ false → c ≡ false) → (a && c) ≡ false
+    by true b c h f = f h
+    by false b c h f = refl
+
+fit_vertices_fail : (vs : List Vertex) (ws : List (List ℕ)) (r : ℕ) → AllByRecursion IsVertex vs → fit vertex_kinds ws ≡ false → fit (flat_map (λ k. k) (replicate (length vs + suc r) vertex_kinds)) (flat_map vertex_words vs ++ ws) ≡ false
+fit_vertices_fail [] ws r h f =
+    let e : 0 + suc r ≡ suc r = omega arith in
+    rw e (fit-front vertex_kinds (flat_map (λ k. k) (replicate r vertex_kinds)) ws f)
+fit_vertices_fail (v ∷ vs) ws r h f =
+    let e : suc (length vs) + suc r ≡ suc (length vs + suc r) = omega arith in
+    ap (λ n. fit (flat_map (λ k. k) (replicate n vertex_kinds)) (flat_map vertex_words (v ∷ vs) ++ ws)) e
+    ∙ ap (fit (vertex_kinds ++ flat_map (λ k. k) (replicate (length vs + suc r) vertex_kinds))) (append_assoc (vertex_words v) (flat_map vertex_words vs) ws)
+    ∙ fit-append vertex_kinds (flat_map (λ k. k) (replicate (length vs + suc r) vertex_kinds)) (vertex_words v) (flat_map vertex_words vs ++ ws) (sym (length-vertex_words v h.0)) (vertex_fits v h.0)
+    ∙ fit_vertices_fail vs ws r h.1 f
+
+-- a vertex that is none, behind others
+pub vertices_refuse : (old ws : List (List ℕ)) (vs : List Vertex) (r : ℕ) → old ≡ flat_map vertex_words vs ++ ws → AllByRecursion IsVertex vs → length ws ≡ 7 * suc r → fit vertex_kinds ws ≡ false → (rows : Option Fault) → arguments_fault (shape words.Vb) old rows ≡ Some faults.Argument
+vertices_refuse old ws vs r e h l f rows =
+    let n : length old ≡ 7 * (length vs + suc r) = omega (arith, ap length e, length-append (flat_map vertex_words vs) ws, length-vertices vs h) in
+    let found = groups_of (length old) (length vs + suc r) n in
+    let fails : fit (flat_map (λ k. k) (replicate (length vs + suc r) vertex_kinds)) old ≡ false = ap (fit (flat_map (λ k. k) (replicate (length vs + suc r) vertex_kinds))) e ∙ fit_vertices_fail vs ws r h f in
+    ap (λ o. or_fault o faults.ArgumentCount (λ ks. unless (fit ks old) faults.Argument rows)) found ∙ ap (λ b. unless b faults.Argument rows) fails
+
+pub vertices_read : (old ws : List (List ℕ)) (vs : List Vertex) → old ≡ flat_map vertex_words vs ++ ws → AllByRecursion IsVertex vs → length ws ≡ 0 → Reads words.Vb old (Call (gfx.SetVertices vs))
+vertices_read old [] vs e h l = record { words_are = ap (λ ws. name words.Vb ∷ ws) (sym (e ∙ nil (flat_map vertex_words vs))); verb = h; taken = λ im. refl }
+  where
+    nil : (xs : List (List ℕ)) → xs ++ [] ≡ xs
+    nil xs = append-nil xs
+vertices_read old (w ∷ ws) vs e h l = absurd (omega arith)
+
+-- ---- a later line
+
+lacks_list : (earlier : List TextLine) (finished : List ℕ) (a : Actor) (v : Verb) → Counts earlier finished → IsVerb v → LacksCounted finished v → has_list earlier (actor_word a ∷ verb_words v) ≡ false
+lacks_list earlier finished a (Execute k list restore) n i h =
+    let count : slice_index finished k ≡ count_by (finishes (context_word k)) earlier = n k i.0 in
+    rw (digits_value-decimal own list (omega (arith, i.1)), ← count) (grind (arith, nat_tests))
+lacks_list earlier finished a v n i h = absurd h
+
+-- an `exec` of a list that is not finished, behind its head
+pub list_missing : (finished line : List ℕ) (ws args : List (List ℕ)) (a : Actor) (c : CommandWord) (v : Verb) → ws ≡ words_of line → IsHead ws a c args → Reads c args v → LacksCounted finished v → RefusesLine finished line (errors.Fault faults.NoSuchList)
+list_missing finished line ws args a c v e i r h earlier n = by (verb_fits v r.verb)
+  where
+    by : Fits v → later_line_fault earlier (words_of line) ≡ Some faults.NoSuchList
+    by f =
+        let whole : words_of line ≡ actor_word a ∷ name f.command ∷ f.arguments = sym e ∙ i.words_are ∙ ap (λ x. actor_word a ∷ x) (sym r.words_are ∙ f.words_are) in
+        let taken : serves f.command (is_immediate_actor a) ≡ true = sym (f.taken (is_immediate_actor a)) ∙ r.taken (is_immediate_actor a) ∙ i.serves in
+        let lacks : has_list earlier (actor_word a ∷ name f.command ∷ f.arguments) ≡ false = ap (λ x. has_list earlier (actor_word a ∷ x)) (sym f.words_are) ∙ lacks_list earlier finished a v n r.verb h in
+        ap (later_line_fault earlier) whole
+        ∙ rw (actor_known a i.actor, immediate_is a, command_named-name f.command (is_immediate_actor a) taken, f.found, f.fits, lacks) refl
+
+-- arguments that the table refuses, behind their head
+pub arguments_refused : (finished line : List ℕ) (ws args : List (List ℕ)) (a : Actor) (c : CommandWord) (e : ReadError) → ws ≡ words_of line → IsHead ws a c args → Refuses c args e → RefusesLine finished line e
+arguments_refused finished line ws args a c errors.Memory e i h = tt
+arguments_refused finished line ws args a c (errors.Fault f) e i h = λ earlier n.
+    ap (later_line_fault earlier) (sym e ∙ i.words_are) ∙ rw (actor_known a i.actor, immediate_is a, command_named-name c (is_immediate_actor a) i.serves) (h _)

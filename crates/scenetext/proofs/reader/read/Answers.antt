@@ -1,0 +1,48 @@
+use Rattle.std.proofs.Common.{◌≡◌, ℕ, ◌<◌, cond, not, List, [], ◌∷◌, ◌++◌, length, map, replicate, sym, ap, subst, ◌∙◌, arith}
+use Rattle.std.proofs.lemmas.Bool.Decides.{nat_tests}
+use Rattle.std.proofs.lemmas.List.{length-map, map-append}
+use Rattle.scenetext.specs.declared.fault.ReadError.TheVariants as errors
+use Rattle.scenetext.specs.Scene.{Line}
+use Rattle.scenetext.specs.Seen.{line_value}
+use Rattle.scenetext.proofs.LoopLemmas.{SoFar, starts, goes_on, fails, first_fails, is_read}
+use Rattle.scenetext.proofs.reader.read.Goals as goal
+
+pub returns-in-Err-clause-refused : goal.returns-in-Err-clause-refused
+returns-in-Err-clause-refused g c =
+    let some : 0 < length c.args.text.now = grind (arith, nat_tests) in
+    rw c.number_of.ensures (first_fails c.args.text.now c.in-Err.error some c.in-Err.ensures.err)
+
+pub loop-rest-init : goal.loop-rest-init
+loop-rest-init g c =
+    let none : [] ≡ map line_value c.new-lines.result.items = sym (ap (map line_value) c.new-lines.ensures.items) in
+    let P : List Line → Type 0 = λ ls. SoFar c.args.text.now c.in-Ok.first.0 ls (replicate 8 0) c.in-Ok.first.1.now in
+    subst P none (starts c.args.text.now c.in-Ok.first.1.now c.in-Ok.first.0 c.in-Ok.ensures.ok)
+
+pub returns-in-Err-next_of-clause-refused : goal.returns-in-Err-next_of-clause-refused
+returns-in-Err-next_of-clause-refused g c =
+    let some : 0 < length c.loop-rest.rest.now = grind (arith, nat_tests) in
+    let ls = map line_value c.loop-rest.lines.items in
+    let count : c.len.result ≡ length ls = c.len.ensures ∙ c.loop-rest.lines.ok.0 ∙ sym (length-map c.loop-rest.lines.items line_value) in
+    rw (count, c.number_of-in-Err-next_of.ensures) (fails c.args.text.now c.in-Ok.first.0 ls c.loop-rest.finished c.loop-rest.rest.now c.in-Err-next_of.error c.loop-rest.invariant some c.in-Err-next_of.ensures.err)
+
+pub returns-then-is_err-clause-refused : goal.returns-then-is_err-clause-refused
+returns-then-is_err-clause-refused g c =
+    let some : 0 < length c.loop-rest.rest.now = grind (arith, nat_tests) in
+    let ls = map line_value c.loop-rest.lines.items in
+    let count : c.len.result ≡ length ls = c.len.ensures ∙ c.loop-rest.lines.ok.0 ∙ sym (length-map c.loop-rest.lines.items line_value) in
+    rw (count, c.number_of-then-is_err.ensures) (fails c.args.text.now c.in-Ok.first.0 ls c.loop-rest.finished c.loop-rest.rest.now errors.Memory c.loop-rest.invariant some tt)
+
+pub loop-rest-preserved : goal.loop-rest-preserved
+loop-rest-preserved g c =
+    let ls = map line_value c.loop-rest.lines.items in
+    let line = line_value c.in-Ok-next_of.next.0 in
+    let next = goes_on c.args.text.now c.in-Ok.first.0 ls c.loop-rest.finished c.in-Ok-next_of.next.1.now c.loop-rest.rest.now line c.loop-rest.invariant c.in-Ok-next_of.ensures.ok in
+    let pushed : c.push.new.self.items ≡ c.loop-rest.lines.items ++ c.in-Ok-next_of.next.0 ∷ [] = c.push.ensures.items ∙ ap (λ b. cond b (c.loop-rest.lines.items ++ c.in-Ok-next_of.next.0 ∷ []) c.loop-rest.lines.items) (c.is_err.ensures.negation ∙ ap not c.if-is_err.false) in
+    let seen : ls ++ line ∷ [] ≡ map line_value c.push.new.self.items = sym (ap (map line_value) pushed ∙ map-append line_value c.loop-rest.lines.items (c.in-Ok-next_of.next.0 ∷ [])) in
+    let P : List Line → List ℕ → Type 0 = λ xs finished. SoFar c.args.text.now c.in-Ok.first.0 xs finished c.in-Ok-next_of.next.1.now in
+    subst (λ xs. P xs c.count_finish.new.finished) seen (subst (P (ls ++ line ∷ [])) (sym c.count_finish.ensures) next)
+
+pub returns-clause-scene : goal.returns-clause-scene
+returns-clause-scene g c =
+    let none : length c.loop-rest.rest.now ≡ 0 = grind (arith, nat_tests) in
+    rw c.from_vec.ensures (is_read c.args.text.now c.in-Ok.first.0 (map line_value c.loop-rest.lines.items) c.loop-rest.finished c.loop-rest.rest.now c.loop-rest.invariant none)

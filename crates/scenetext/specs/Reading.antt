@@ -1,0 +1,133 @@
+-- What the parts of the reader promise.
+use Rattle.std.specs.Option.{option_map_or}
+use Rattle.std.specs.List.{join_with_byte}
+use Rattle.std.specs.Prelude.{ℕ, Bool, ◌≡◌, ◌⊎◌, ◌+◌, slice_set, if◌then◌else◌, ◌<◌, ◌≤◌, ◌^◌, length, true, false, Option, Some, List, ◌∷◌, slice_index, count_by}
+use Rattle.scenetext.specs.declared.fault.Fault.{Fault}
+use Rattle.scenetext.specs.declared.fault.ReadError.{ReadError}
+use Rattle.scenetext.specs.declared.fault.ReadError.TheVariants as errors
+use Rattle.scenetext.specs.declared.command.CommandWord.{CommandWord}
+use Rattle.gfxspec.specs.declared.geometry.Size.{Size}
+use Rattle.scenetext.specs.Scene.{Actor, Immediate, Deferred, Verb, Execute, Line}
+use Rattle.scenetext.specs.Text.{TextLine, lines_of, words_of, has_form}
+use Rattle.scenetext.specs.Numbers.{context_word}
+use Rattle.scenetext.specs.Commands.{Shape, name, shape, serves}
+use Rattle.scenetext.specs.Spelling.{actor_word, is_immediate_actor, verb_words, line_words, size_words, may_take, is_finish, IsActor, IsVerb}
+use Rattle.scenetext.specs.Faults.{number_of_fault, arguments_fault, finishes, first_line_fault, later_line_fault, first_fault, fault_of, HasFault}
+
+-- these words are the arguments of this verb
+pub record Reads (command : CommandWord) (words : List (List ℕ)) (v : Verb) : Type 0 where
+  pub words_are : verb_words v ≡ name command ∷ words
+  pub verb : IsVerb v
+  pub taken : (immediate : Bool) → may_take v immediate ≡ serves command immediate
+
+-- the first row that applies to these arguments, whatever rows come after them; want of memory says nothing
+abbrev pub RefusesShape : Shape → List (List ℕ) → ReadError → Type 0
+RefusesShape s words errors.Memory = Unit {0}
+RefusesShape s words (errors.Fault f) = (rows : Option Fault) → arguments_fault s words rows ≡ Some f
+
+abbrev pub Refuses : CommandWord → List (List ℕ) → ReadError → Type 0
+Refuses command words e = RefusesShape (shape command) words e
+
+-- how many lists each context has finished, as earlier lines say
+abbrev pub Counts : List TextLine → List ℕ → Type 0
+Counts earlier finished = (k : ℕ) → k < 8 → slice_index finished k ≡ count_by (finishes (context_word k)) earlier
+
+abbrev pub HasCounted : List ℕ → Verb → Type 0
+HasCounted finished (Execute context list restore) = list < slice_index finished context
+HasCounted finished v = Unit {0}
+
+-- this line of a script is a line of a scene
+pub record ReadsLine (finished bytes : List ℕ) (l : Line) : Type 0 where
+  pub words_are : line_words l ≡ words_of bytes
+  pub actor : IsActor l.actor
+  pub verb : IsVerb l.verb
+  pub taken : may_take l.verb (is_immediate_actor l.actor) ≡ true
+  pub has_list : HasCounted finished l.verb
+
+-- the first row that applies to a later line
+abbrev pub RefusesLine : List ℕ → List ℕ → ReadError → Type 0
+RefusesLine finished bytes errors.Memory = Unit {0}
+RefusesLine finished bytes (errors.Fault f) = (earlier : List TextLine) → Counts earlier finished → later_line_fault earlier (words_of bytes) ≡ Some f
+
+abbrev pub LacksCounted : List ℕ → Verb → Type 0
+LacksCounted finished (Execute context list restore) = slice_index finished context ≤ list
+LacksCounted finished v = ⊥
+
+-- the first two words of a later line
+pub record IsHead (old : List (List ℕ)) (a : Actor) (command : CommandWord) (rest : List (List ℕ)) : Type 0 where
+  pub words_are : old ≡ actor_word a ∷ name command ∷ rest
+  pub actor : IsActor a
+  pub serves : serves command (is_immediate_actor a) ≡ true
+
+abbrev pub RefusesHead : List (List ℕ) → ReadError → Type 0
+RefusesHead words errors.Memory = Unit {0}
+RefusesHead words (errors.Fault f) = (earlier : List TextLine) → later_line_fault earlier words ≡ Some f
+
+abbrev pub line_record : List ℕ → TextLine
+line_record bs = record { bytes = bs; ended = true }
+
+-- the first line of a text has its form, and this is the text behind it
+pub record CutsLine (text line rest : List ℕ) : Type 0 where
+  pub lines : lines_of text ≡ line_record line ∷ lines_of rest
+  pub form : has_form (line_record line) ≡ true
+  pub shorter : length rest < length text
+
+-- the first line of a text has not
+pub record BadForm (text : List ℕ) : Type 0 where
+  pub line : TextLine
+  pub rest : List TextLine
+  pub lines : lines_of text ≡ line ∷ rest
+  pub form : has_form line ≡ false
+
+pub record ReadsSize (line : List ℕ) (s : Size) : Type 0 where
+  pub words_are : size_words s ≡ words_of line
+  pub width : s.width < 2 ^ 32
+  pub height : s.height < 2 ^ 32
+
+abbrev pub RefusesFirst : List ℕ → ReadError → Type 0
+RefusesFirst line errors.Memory = Unit {0}
+RefusesFirst line (errors.Fault f) = first_line_fault (words_of line) ≡ Some f
+
+abbrev pub number_of_error : ReadError → ℕ
+number_of_error errors.Memory = 1
+number_of_error (errors.Fault f) = number_of_fault f
+
+-- the counts of finished lists behind one more line
+abbrev pub counted_for : List ℕ → Actor → Bool → List ℕ
+counted_for finished Immediate ends = finished
+counted_for finished (Deferred k) ends = if ends then slice_set finished k (slice_index finished k + 1) else finished
+
+abbrev pub counted_by : List ℕ → Line → List ℕ
+counted_by finished l = counted_for finished l.actor (is_finish l.verb)
+
+abbrev pub HasRoom : List ℕ → Type 0
+HasRoom finished = (k : ℕ) → k < 8 → slice_index finished k < 2 ^ 63
+
+-- a text whose first line gives this size
+pub record ReadsFirst (text : List ℕ) (s : Size) (rest : List ℕ) : Type 0 where
+  pub lines : lines_of text ≡ line_record (join_with_byte 32 (size_words s)) ∷ lines_of rest
+  pub width : s.width < 2 ^ 32
+  pub height : s.height < 2 ^ 32
+  pub shorter : length rest < length text
+
+abbrev pub RefusesText : List ℕ → ReadError → Type 0
+RefusesText text errors.Memory = Unit {0}
+RefusesText text (errors.Fault f) = fault_of text ≡ Some (1, f)
+
+-- a text whose first line is this one, behind others
+pub record ReadsNext (finished text : List ℕ) (l : Line) (rest : List ℕ) : Type 0 where
+  pub lines : lines_of text ≡ line_record (join_with_byte 32 (line_words l)) ∷ lines_of rest
+  pub line : ReadsLine finished (join_with_byte 32 (line_words l)) l
+  pub shorter : length rest < length text
+
+abbrev pub RefusesNext : List ℕ → List ℕ → ReadError → Type 0
+RefusesNext finished text errors.Memory = Unit {0}
+RefusesNext finished text (errors.Fault f) = (e : TextLine) (es : List TextLine) → Counts (e ∷ es) finished → first_fault (e ∷ es) (lines_of text) ≡ Some (length (e ∷ es) + 1, f)
+
+-- the line at which reading ends: that of the fault, or the last
+abbrev pub last_read : List ℕ → ℕ
+last_read text = option_map_or (λ f. f.0) (fault_of text) (length (lines_of text))
+
+-- why a text could not be read: its fault, or want of memory in a line that was reached
+abbrev pub Refused : List ℕ → ℕ × ℕ → Type 0
+Refused text e = HasFault text e.0 e.1 ⊎ ((e.1 ≡ 1) × (1 ≤ e.0) × (e.0 ≤ last_read text))

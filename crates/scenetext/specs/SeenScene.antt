@@ -1,0 +1,6 @@
+-- A scene of the code as a plain one.
+use Rattle.scenetext.specs.declared.scene.Scene as code
+use Rattle.scenetext.specs.Scene.{Scene}
+
+abbrev pub scene_value : {A : Type 0} → code.Scene A → Scene
+scene_value s = record { size = s.size; lines = s.lines }

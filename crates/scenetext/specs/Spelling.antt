@@ -1,0 +1,113 @@
+-- The spelling of a scene: what stands in its text, word by word.
+use Rattle.std.specs.Prelude.{ℕ, ◌≡◌, ◌<◌, ◌^◌, Bool, true, false, not, ◌&&◌, ◌==◌, List, [], ◌∷◌, ◌++◌, length, map, decimal, codes, count_by, FitsSigned}
+use Rattle.std.specs.List.{flat_map, AllByRecursion}
+use Rattle.std.specs.Int.{w32}
+use Rattle.std.specs.Fmt.{signed_decimal}
+use Rattle.gfxspec.specs.declared.geometry.Size.{Size}
+use Rattle.gfxspec.specs.declared.geometry.Vertex.{Vertex}
+use Rattle.gfxspec.specs.Commands as gfx
+use Rattle.scenetext.specs.Scene.{Actor, Immediate, Deferred, Verb, Call, Finish, Flush, Execute, Query, Pixel, Line, Scene}
+use Rattle.scenetext.specs.Text.{line_text}
+use Rattle.scenetext.specs.Numbers.{context_word}
+
+abbrev pub actor_word : Actor → List ℕ
+actor_word Immediate = codes "i"
+actor_word (Deferred k) = context_word k
+
+abbrev pub is_immediate_actor : Actor → Bool
+is_immediate_actor Immediate = true
+is_immediate_actor (Deferred k) = false
+
+-- a flag is a number, 0 or 1
+abbrev pub flag_number : Bool → ℕ
+flag_number false = 0
+flag_number true = 1
+
+abbrev pub vertex_words : Vertex → List (List ℕ)
+vertex_words v = signed_decimal v.x ∷ signed_decimal v.y ∷ decimal v.z ∷ map decimal v.rgba
+
+-- the command word of a verb, and its arguments in order; a verb that has no word yet has none
+abbrev pub verb_words : Verb → List (List ℕ)
+verb_words (Call (gfx.SetVertices vertices)) = codes "vb" ∷ flat_map vertex_words vertices
+verb_words (Call (gfx.ClearColor rgba)) = codes "clearc" ∷ map decimal rgba
+verb_words (Call (gfx.ClearDepthStencil depth stencil)) = codes "cleards" ∷ decimal depth ∷ decimal stencil ∷ []
+verb_words (Finish restore) = codes "finish" ∷ decimal (flag_number restore) ∷ []
+verb_words (Execute context list restore) = codes "exec" ∷ context_word context ∷ decimal list ∷ decimal (flag_number restore) ∷ []
+verb_words v = []
+
+abbrev pub line_words : Line → List (List ℕ)
+line_words l = actor_word l.actor ∷ verb_words l.verb
+
+abbrev pub size_words : Size → List (List ℕ)
+size_words s = codes "target" ∷ decimal s.width ∷ decimal s.height ∷ []
+
+abbrev pub text_of : Scene → List ℕ
+text_of scene = line_text (size_words scene.size) ++ flat_map (λ l. line_text (line_words l)) scene.lines
+
+-- who may take a verb: the immediate context (true) or a deferred one (false)
+abbrev pub may_take : Verb → Bool → Bool
+may_take (Call c) immediate = true
+may_take (Finish restore) immediate = not immediate
+may_take Flush immediate = immediate
+may_take (Execute context list restore) immediate = immediate
+may_take (Query query) immediate = immediate
+may_take (Pixel x y) immediate = immediate
+
+-- four channels of a byte each
+abbrev pub IsColor : List ℕ → Type 0
+IsColor rgba = (length rgba ≡ 4) × AllByRecursion (λ b. b < 256) rgba
+
+pub record IsVertex (v : Vertex) : Type 0 where
+  pub x : FitsSigned w32 v.x
+  pub y : FitsSigned w32 v.y
+  pub z : v.z < 2 ^ 32
+  pub rgba : IsColor v.rgba
+
+-- the values that the arguments may have; a verb that has no word yet has no spelling
+abbrev pub IsVerb : Verb → Type 0
+IsVerb (Call (gfx.SetVertices vertices)) = AllByRecursion IsVertex vertices
+IsVerb (Call (gfx.ClearColor rgba)) = IsColor rgba
+IsVerb (Call (gfx.ClearDepthStencil depth stencil)) = (depth < 2 ^ 32) × (stencil < 256)
+IsVerb (Finish restore) = Unit {0}
+IsVerb (Execute context list restore) = (context < 8) × (list < 2 ^ 32)
+IsVerb v = ⊥
+
+abbrev pub IsActor : Actor → Type 0
+IsActor Immediate = Unit {0}
+IsActor (Deferred k) = k < 8
+
+-- does this line finish a list of the context?
+abbrev pub is_finish : Verb → Bool
+is_finish (Finish restore) = true
+is_finish v = false
+
+abbrev pub is_deferred : ℕ → Actor → Bool
+is_deferred k Immediate = false
+is_deferred k (Deferred j) = j == k
+
+abbrev pub finishes_list : ℕ → Line → Bool
+finishes_list k l = is_deferred k l.actor && is_finish l.verb
+
+-- an `exec` names a list that an earlier line finished; the lists of a context are numbered from 0
+abbrev pub HasList : List Line → Verb → Type 0
+HasList earlier (Execute context list restore) = list < count_by (finishes_list context) earlier
+HasList earlier v = Unit {0}
+
+pub record IsLine (earlier : List Line) (l : Line) : Type 0 where
+  pub actor : IsActor l.actor
+  pub verb : IsVerb l.verb
+  pub taken : may_take l.verb (is_immediate_actor l.actor) ≡ true
+  pub has_list : HasList earlier l.verb
+
+-- each line may stand behind the earlier ones
+abbrev pub AreLines : List Line → List Line → Type 0
+AreLines earlier [] = Unit {0}
+AreLines earlier (l ∷ ls) = IsLine earlier l × AreLines (earlier ++ l ∷ []) ls
+
+abbrev pub IsScene : Scene → Type 0
+IsScene scene = (scene.size.width < 2 ^ 32) × (scene.size.height < 2 ^ 32) × AreLines [] scene.lines
+
+-- this text spells this scene
+pub record Spells (text : List ℕ) (scene : Scene) : Type 0 where
+  pub scene_is : IsScene scene
+  pub text_is : text ≡ text_of scene

@@ -1,0 +1,105 @@
+//! Lines of a script.
+
+ghost use Rattle.std.specs.Prelude.{◌≡◌, ◌≢◌, ◌<◌, ◌||◌, ℕ, List, length, false, IfSome, IfNone, IfOk, IfErr, IsTrue, Err, Some, None};
+ghost use Rattle.scenetext.specs.Numbers.{is_context};
+ghost use Rattle.scenetext.specs.Commands.{command_named};
+ghost use Rattle.scenetext.specs.Seen.{actor_value, verb_value, line_value};
+ghost use Rattle.scenetext.specs.Spelling.{actor_word, is_immediate_actor, IsActor, IsVerb};
+ghost use Rattle.scenetext.specs.Faults.{is_immediate};
+ghost use Rattle.scenetext.specs.Reading.{ReadsLine, RefusesLine, HasCounted, LacksCounted, IsHead, RefusesHead, ReadsSize, RefusesFirst};
+
+use crate::command::CommandWord;
+use crate::fault::{Fault, ReadError};
+use crate::numbers::naturals;
+use crate::range::U32;
+use crate::scene::{Actor, Line, Verb};
+use crate::verbs::verb_of;
+use crate::words::{Words, context};
+use gfxspec::Size;
+use std::alloc::Allocator;
+
+/// The actor that a word names.
+fn actor_of(word: &[u8]) -> Option<Actor>
+    ensures some { IfSome result (λ a. (word.now ≡ actor_word (actor_value a)) × IsActor (actor_value a)) }
+    ensures none { IfNone result ((is_immediate word.now || is_context word.now) ≡ false) }
+{
+    if word == b"i".as_slice() {
+        return Some(Actor::Immediate);
+    }
+    match context(word) {
+        Some(number) => Some(Actor::Deferred(number)),
+        None => None,
+    }
+}
+
+fn is_immediate_context(actor: Actor) -> bool
+    ensures { result ≡ is_immediate_actor (actor_value actor) }
+{
+    matches!(actor, Actor::Immediate)
+}
+
+/// Tests that the list that a verb executes is finished.
+fn has_list<A: Allocator>(finished: &[u64; 8], verb: &Verb<A>) -> bool
+    requires { IsVerb (verb_value verb.now) }
+    ensures yes { IsTrue result → HasCounted finished.now (verb_value verb.now) }
+    ensures no { result ≡ false → LacksCounted finished.now (verb_value verb.now) }
+{
+    match verb {
+        Verb::Execute(context, list, _) => (*list as u64) < finished[*context as usize],
+        _ => true,
+    }
+}
+
+/// The actor and the command of a later line.
+fn head_of(words: &mut Words) -> Result<(Actor, CommandWord), ReadError>
+    ensures ok { IfOk result (λ head. IsHead words.old (actor_value head.0) head.1 words.new) }
+    ensures err { IfErr result (RefusesHead words.old) }
+{
+    let Some(word) = words.next() else {
+        return Err(ReadError::Fault(Fault::Actor));
+    };
+    let Some(actor) = actor_of(word) else {
+        return Err(ReadError::Fault(Fault::Actor));
+    };
+    let Some(word) = words.next() else {
+        return Err(ReadError::Fault(Fault::Command));
+    };
+    let Some(command) = CommandWord::named(word, is_immediate_context(actor)) else {
+        return Err(ReadError::Fault(Fault::Command));
+    };
+    Ok((actor, command))
+}
+
+/// A later line, where the contexts have finished so many lists.
+pub fn line_of<A: Allocator>(
+    alloc: A,
+    finished: &[u64; 8],
+    line: &[u8],
+) -> Result<Line<A>, ReadError>
+    ensures ok { IfOk result (λ l. ReadsLine finished.now line.now (line_value l)) }
+    ensures err { IfErr result (RefusesLine finished.now line.now) }
+{
+    let mut words = Words::new(line);
+    let (actor, command) = head_of(&mut words)?;
+    let verb = verb_of(alloc, command, &mut words)?;
+    if !has_list(finished, &verb) {
+        return Err(ReadError::Fault(Fault::NoSuchList));
+    }
+    Ok(Line { actor, verb })
+}
+
+/// The size that the first line gives.
+pub fn size_of(line: &[u8]) -> Result<Size, ReadError>
+    ensures ok { IfOk result (ReadsSize line.now) }
+    ensures err { IfErr result (RefusesFirst line.now) }
+{
+    let mut words = Words::new(line);
+    let Some(word) = words.next() else {
+        return Err(ReadError::Fault(Fault::FirstLine));
+    };
+    if word != b"target".as_slice() {
+        return Err(ReadError::Fault(Fault::FirstLine));
+    }
+    let [width, height] = naturals(&mut words, [U32, U32])?;
+    Ok(Size { width, height })
+}

@@ -1,0 +1,116 @@
+//! Arguments that are numbers.
+
+ghost use Rattle.std.specs.Prelude.{◌≡◌, ◌≢◌, ◌<◌, ◌≤◌, ◌++◌, ◌∷◌, ℕ, ℤ, length, map, decimal, IfOk, IfErr, IfSome, IfNone, OnOk, Err, [], true, false};
+ghost use Rattle.std.specs.Fmt.{signed_decimal};
+ghost use Rattle.scenetext.specs.Numbers.{fits_kind, fit, i32s, is_context, context_word};
+ghost use Rattle.scenetext.specs.Commands.{OneOf, vertex_kinds};
+ghost use Rattle.scenetext.specs.Spelling.{vertex_words, IsVertex};
+ghost use Rattle.scenetext.specs.Faults.{word};
+ghost use Rattle.scenetext.specs.Reading.{RefusesShape};
+ghost use Rattle.scenetext.specs.Ranges.{kind_of, kinds, IsIn, AreIn};
+
+use crate::fault::{Fault, ReadError};
+use crate::range::{BYTE, Range, U32};
+use crate::words::{Words, context, integer, natural};
+use gfxspec::Vertex;
+
+/// The number of the range that a word spells.
+pub fn natural_in(word: &[u8], range: Range) -> Option<u32>
+    ensures spelled { IfSome result (λ n. (word.now ≡ decimal n) × IsIn range n) }
+    ensures none { IfNone result (fits_kind (kind_of range) word.now ≡ false) }
+{
+    let number = natural(word)?;
+    if number < range.low || range.high < number {
+        return None;
+    }
+    Some(number)
+}
+
+/// The number that the next word spells.
+pub fn next_natural(words: &mut Words, range: Range) -> Result<u32, ReadError>
+    requires { 0 < length words.old }
+    ensures ok { IfOk result (λ n. (words.old ≡ decimal n ∷ words.new) × IsIn range n) }
+    ensures err { IfErr result (λ e. (e ≡ ReadError.Fault Fault.Argument) × (fits_kind (kind_of range) (word words.old 0) ≡ false)) }
+{
+    match words.next().and_then(|word| natural_in(word, range)) {
+        Some(number) => Ok(number),
+        None => Err(ReadError::Fault(Fault::Argument)),
+    }
+}
+
+/// The number, which may be negative, that the next word spells.
+pub fn next_integer(words: &mut Words) -> Result<i32, ReadError>
+    requires { 0 < length words.old }
+    ensures ok { IfOk result (λ z. words.old ≡ signed_decimal z ∷ words.new) }
+    ensures err { IfErr result (λ e. (e ≡ ReadError.Fault Fault.Argument) × (fits_kind i32s (word words.old 0) ≡ false)) }
+{
+    match words.next().and_then(integer) {
+        Some(number) => Ok(number),
+        None => Err(ReadError::Fault(Fault::Argument)),
+    }
+}
+
+/// The numbers that the next words spell, one for each range.
+pub fn next_naturals<const N: usize>(
+    words: &mut Words,
+    ranges: [Range; N],
+) -> Result<[u32; N], ReadError>
+    requires { N ≤ length words.old }
+    ensures ok { IfOk result (λ values. (words.old ≡ map decimal values ++ words.new) × AreIn ranges.entry values) }
+    ensures err { IfErr result (λ e. (e ≡ ReadError.Fault Fault.Argument) × (fit (kinds ranges.entry) words.old ≡ false)) }
+{
+    let mut values = [0; N];
+    for i in 0..N {
+        values[i] = next_natural(words, ranges[i])?;
+    }
+    Ok(values)
+}
+
+/// Tests how many arguments there are.
+pub fn expect(words: &Words, count: usize) -> Result<(), ReadError>
+    ensures ok { OnOk result (length words.now ≡ count) }
+    ensures err { IfErr result (λ e. (e ≡ ReadError.Fault Fault.ArgumentCount) × (length words.now ≢ count)) }
+{
+    if words.count() == count {
+        Ok(())
+    } else {
+        Err(ReadError::Fault(Fault::ArgumentCount))
+    }
+}
+
+/// The numbers that all words spell, one for each range.
+pub fn naturals<const N: usize>(
+    words: &mut Words,
+    ranges: [Range; N],
+) -> Result<[u32; N], ReadError>
+    ensures ok { IfOk result (λ values. (words.old ≡ map decimal values) × AreIn ranges.entry values) }
+    ensures err { IfErr result (RefusesShape (OneOf (kinds ranges.entry ∷ [])) words.old) }
+{
+    expect(words, N)?;
+    next_naturals(words, ranges)
+}
+
+/// The context that the next word names.
+pub fn next_context(words: &mut Words) -> Result<u32, ReadError>
+    requires { 0 < length words.old }
+    ensures ok { IfOk result (λ k. (words.old ≡ context_word k ∷ words.new) × (k < 8)) }
+    ensures err { IfErr result (λ e. (e ≡ ReadError.Fault Fault.Argument) × (is_context (word words.old 0) ≡ false)) }
+{
+    match words.next().and_then(context) {
+        Some(number) => Ok(number),
+        None => Err(ReadError::Fault(Fault::Argument)),
+    }
+}
+
+/// The vertex that the next seven words spell.
+pub fn next_vertex(words: &mut Words) -> Result<Vertex, ReadError>
+    requires { 7 ≤ length words.old }
+    ensures ok { IfOk result (λ v. (words.old ≡ vertex_words v ++ words.new) × IsVertex v) }
+    ensures err { IfErr result (λ e. (e ≡ ReadError.Fault Fault.Argument) × (fit vertex_kinds words.old ≡ false)) }
+{
+    let x = next_integer(words)?;
+    let y = next_integer(words)?;
+    let [z, red, green, blue, alpha] = next_naturals(words, [U32, BYTE, BYTE, BYTE, BYTE])?;
+    let rgba = [red as u8, green as u8, blue as u8, alpha as u8];
+    Ok(Vertex { x, y, z, rgba })
+}

@@ -1,0 +1,119 @@
+//! A scene: the size of the target, and lines of commands.
+
+use gfxspec::{Size, Vertex};
+use std::alloc::{Allocator, Global};
+use std::marker::Model;
+
+/// Who takes a line: the immediate context, or a deferred one by its number, 0 to 7.
+#[derive(Clone, Copy, Debug, PartialEq, Eq)]
+pub enum Actor {
+    Immediate,
+    Deferred(u32),
+}
+
+/// Vertices in order.
+#[derive(Debug, Drop)]
+pub struct Vertices<A: Allocator> {
+    items: Vec<Vertex, A>,
+}
+
+impl<A: Allocator> Model for Vertices<A> {
+    ghost use Rattle.std.specs.Prelude.{List};
+    ghost use Rattle.gfxspec.specs.declared.geometry.Vertex.{Vertex};
+
+    ghost Value = { List Vertex };
+
+    ghost view = { λ v. v.items.items };
+}
+
+impl<A: Allocator> Vertices<A> {
+    ghost use Rattle.std.specs.Prelude.{◌≡◌};
+
+    pub fn from_vec(items: Vec<Vertex, A>) -> Self
+        ensures { result ≡ items.items }
+    {
+        Vertices { items }
+    }
+
+    pub fn as_slice(&self) -> &[Vertex]
+        ensures { result.now ≡ self.now }
+    {
+        self.items.as_slice()
+    }
+
+    pub fn into_vec(self) -> Vec<Vertex, A>
+        ensures { result.items ≡ self }
+    {
+        self.items
+    }
+}
+
+/// A command word with its arguments in order.
+#[derive(Debug, Drop)]
+pub enum Verb<A: Allocator> {
+    SetVertices(Vertices<A>),
+    /// Red, green, blue, alpha.
+    ClearColor([u8; 4]),
+    /// Depth and stencil.
+    ClearDepthStencil(u32, u8),
+    /// Whether the context keeps its state for the next list.
+    Finish(bool),
+    /// The deferred context, the number of its list, and whether the immediate context keeps its state.
+    Execute(u32, u32, bool),
+}
+
+#[derive(Debug, Drop)]
+pub struct Line<A: Allocator> {
+    pub actor: Actor,
+    pub verb: Verb<A>,
+}
+
+// A script of 60 MB has millions of lines.
+const _: () = prove!(size_of::<Line<Global>>() <= 40);
+
+/// Lines in order.
+#[derive(Debug, Drop)]
+pub struct Lines<A: Allocator> {
+    items: Vec<Line<A>, A>,
+}
+
+impl<A: Allocator> Model for Lines<A> {
+    ghost use Rattle.std.specs.Prelude.{List, map};
+    ghost use Rattle.scenetext.specs.Scene.{Line};
+
+    ghost Value = { List Line };
+
+    ghost use Rattle.scenetext.specs.Seen.{line_value};
+
+    ghost view = { λ l. map line_value l.items.items };
+}
+
+impl<A: Allocator> Lines<A> {
+    ghost use Rattle.std.specs.Prelude.{◌≡◌, map};
+    ghost use Rattle.scenetext.specs.Seen.{line_value};
+
+    pub fn from_vec(items: Vec<Line<A>, A>) -> Self
+        ensures { result ≡ map line_value items.items }
+    {
+        Lines { items }
+    }
+
+    pub fn as_slice(&self) -> &[Line<A>]
+        ensures { map line_value result.now ≡ self.now }
+    {
+        self.items.as_slice()
+    }
+
+    pub fn into_vec(self) -> Vec<Line<A>, A>
+        ensures { map line_value result.items ≡ self }
+    {
+        self.items
+    }
+}
+
+/// The size that the first line gives, and the lines behind it.
+#[derive(Debug, Drop)]
+pub struct Scene<A: Allocator> {
+    pub size: Size,
+    pub lines: Lines<A>,
+}
