@@ -1,0 +1,4 @@
+pub mod EdgeLaws
+pub mod FunctionLaws
+pub mod PartitionLaws
+pub mod ExtremeLaws

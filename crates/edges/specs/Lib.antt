@@ -1,0 +1,4 @@
+pub mod Value
+pub mod Function
+pub mod Partition
+pub mod Extremes

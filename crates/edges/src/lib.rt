@@ -1,2 +1,248 @@
-//! To come.
+//! The three edges of a snapped triangle, as numbers that tell at which pixels each one holds.
+//!
+//! Corners are in 1/256 pixel, values in 1/65,536 of a pixel. The trick: each edge's side is turned so that the inside
+//! lies above 0, and 1 is taken off where the edge is neither top nor left, so that one comparison with 0 decides the
+//! cover rule, ties included, and a step from pixel to pixel is one addition.
 #![tactic(auto)]
+
+mod reach;
+
+ghost use Rattle.std.specs.Prelude.{◌≡◌, ◌≢◌, ◌↔◌, ℕ, ◌≤◌, ◌<◌, ◌^◌, ◌+◌, pos, ◌≤ℤ◌, ◌+ℤ◌, unsigned_abs, IsNone, IfSome, IsTrue};
+ghost use Rattle.gfxspec.specs.Raster.{Point, area, centre, covers, edge, edge_holds};
+ghost use Rattle.gfxspec.specs.Tiles.{IsIn};
+ghost use Rattle.snap.specs.Corners.{triangle_of};
+ghost use Rattle.snap.specs.Wide.{point_of, IsNear};
+ghost use Rattle.edges.specs.Extremes.{IsWithinExtremes};
+ghost use Rattle.edges.specs.Function.{IsFunctionOf, IsSmall, IsTurned, linear};
+ghost use Rattle.edges.specs.Partition.{SharedEdgeCoversOnce, SharedEdgeCoversAll};
+ghost use Rattle.edges.specs.Value.{edge_value, bias, goes_up_or_right};
+
+use crate::reach::centres_between;
+use gfxspec::PixelRect;
+use snap::SnapTri;
+use snap::corner::{Corner, between, corner_at, cross, negated_if, whole_pixel};
+use std::marker::Model;
+
+/// An edge's value at the centre of pixel (0, 0), and what a pixel to the right or down adds to it.
+#[derive(Clone, Copy, Debug)]
+struct EdgeFunction {
+    origin: i64,
+    step_x: i64,
+    step_y: i64,
+}
+
+/// The edges of a triangle whose area is not zero. Edge i lies opposite vertex i. Contracts see it as its triangle.
+#[derive(Debug, Drop)]
+pub struct EdgeSet {
+    functions: [EdgeFunction; 3],
+    triangle: SnapTri,
+}
+
+impl Model for EdgeSet {
+    ghost use Rattle.gfxspec.specs.Raster.{Triangle};
+
+    ghost Value = { Triangle };
+
+    ghost use Rattle.snap.specs.Corners.{triangle_of};
+    ghost use Rattle.edges.specs.Function.{IsSetOf};
+
+    ghost view = { λ s. triangle_of s.triangle };
+
+    ghost invariant = { IsSetOf };
+}
+
+/// What is taken off so that an edge that is neither top nor left doesn't hold on its own line.
+fn bias_of(dx: i64, dy: i64) -> i64
+    ensures value { result ≡ bias (goes_up_or_right dx dy) }
+    ensures bound { unsigned_abs result ≤ 1 }
+{
+    if dy < 0 || (dy == 0 && dx > 0) { 0 } else { 1 }
+}
+
+impl EdgeFunction {
+    /// The value at the centre of pixel (x, y).
+    fn at(self, x: u32, y: u32) -> i64
+        requires small { IsSmall self }
+        requires x { x < 4096 }
+        requires y { y < 4096 }
+        ensures { result ≡ linear self x y }
+    {
+        self.origin + x as i64 * self.step_x + y as i64 * self.step_y
+    }
+}
+
+/// The function of the edge from `start` to `end`, turned where the opposite vertex would lie below 0.
+fn edge_function(start: Corner, end: Corner, turn: bool) -> EdgeFunction
+    requires first { IsNear start }
+    requires second { IsNear end }
+    ensures { (opposite : Point) → IsTurned turn (point_of start) (point_of end) opposite → IsFunctionOf result (record { start = point_of start; end = point_of end; opposite = opposite }) }
+{
+    let dx = negated_if(turn, between(start.x, end.x));
+    let dy = negated_if(turn, between(start.y, end.y));
+    let side = cross(dx, dy, between(start.x, 128), between(start.y, 128));
+    EdgeFunction {
+        origin: side - bias_of(dx, dy),
+        step_x: whole_pixel(negated_if(true, dy)),
+        step_y: whole_pixel(dx),
+    }
+}
+
+impl EdgeSet {
+    /// The edges of a triangle, if it has an area
+    /// (Direct3D 11.3 Functional Specification, "Rasterization Rules": top-left rule).
+    pub fn of(triangle: &SnapTri) -> Option<EdgeSet>
+        ensures none { IsNone result ↔ (area (triangle_of triangle.now) ≡ pos 0) }
+        ensures set { IfSome result (λ edges. edges ≡ triangle_of triangle.now) }
+    {
+        let area = triangle.double_area();
+        if area == 0 {
+            return None;
+        }
+        let turn = area < 0;
+        let a = corner_at(triangle, 0);
+        let b = corner_at(triangle, 1);
+        let c = corner_at(triangle, 2);
+        Some(EdgeSet {
+            functions: [
+                edge_function(b, c, turn),
+                edge_function(c, a, turn),
+                edge_function(a, b, turn),
+            ],
+            triangle: *triangle,
+        })
+    }
+
+    /// The value of edge i at the centre of pixel (x, y): at least 0 exactly where the edge holds there.
+    pub fn at(&self, i: usize, x: u32, y: u32) -> i64
+        requires edge { i < 3 }
+        requires x { x < 4096 }
+        requires y { y < 4096 }
+        ensures holds { (pos 0 ≤ℤ result) ↔ IsTrue (edge_holds (edge self.now i) (centre x y)) }
+        ensures value { result ≡ edge_value (edge self.now i) x y }
+        ensures bound { unsigned_abs result ≤ 2 ^ 45 }
+
+        // the same of the value at any other pixel, which stays small as far as twice the greatest target
+        ensures anywhere { (u v : ℕ) → (pos 0 ≤ℤ edge_value (edge self.now i) u v) ↔ IsTrue (edge_holds (edge self.now i) (centre u v)) }
+        ensures small { (u v : ℕ) → u < 8192 → v < 8192 → unsigned_abs (edge_value (edge self.now i) u v) ≤ 2 ^ 45 }
+    {
+        self.functions[i].at(x, y)
+    }
+
+    /// What one pixel to the right adds to the value of edge i.
+    pub fn step_x(&self, i: usize) -> i64
+        requires { i < 3 }
+        ensures adds { (x y : ℕ) → edge_value (edge self.now i) (x + 1) y ≡ edge_value (edge self.now i) x y +ℤ result }
+        ensures small { unsigned_abs result ≤ 2 ^ 29 }
+    {
+        self.functions[i].step_x
+    }
+
+    /// What one pixel down adds to the value of edge i.
+    pub fn step_y(&self, i: usize) -> i64
+        requires { i < 3 }
+        ensures adds { (x y : ℕ) → edge_value (edge self.now i) x (y + 1) ≡ edge_value (edge self.now i) x y +ℤ result }
+        ensures small { unsigned_abs result ≤ 2 ^ 29 }
+    {
+        self.functions[i].step_y
+    }
+
+    /// The pixels among the first 4,096 each way whose centres lie between the corners' least and greatest places in
+    /// both directions. No other of them has a covered centre.
+    pub fn bounds(&self) -> PixelRect
+        ensures exact { (x y : ℕ) → x < 4096 → y < 4096 → IsIn result x y ↔ IsWithinExtremes self.now (centre x y) }
+        ensures covered { (x y : ℕ) → x < 4096 → y < 4096 → IsTrue (covers self.now (centre x y)) → IsIn result x y }
+        ensures right { result.right ≤ 4096 }
+        ensures bottom { result.bottom ≤ 4096 }
+    {
+        let across = centres_between(&self.triangle.x);
+        let down = centres_between(&self.triangle.y);
+        PixelRect {
+            left: across.first,
+            top: down.first,
+            right: across.past,
+            bottom: down.past,
+        }
+    }
+}
+
+/// Two triangles on the two sides of a shared edge leave no gap along it and cover none of its points twice.
+pub fn partition_law()
+    ensures once { SharedEdgeCoversOnce }
+    ensures all { SharedEdgeCoversAll }
+{}
+
+#[cfg(test)]
+mod tests {
+    use super::*;
+    use gfxspec::Vertex;
+    use std::test::Fail;
+
+    fn at(x: i32, y: i32) -> Vertex
+        ensures x { result.x ≡ x }
+        ensures y { result.y ≡ y }
+    {
+        Vertex {
+            x,
+            y,
+            z: 0,
+            rgba: [0; 4],
+        }
+    }
+
+    fn covers(edges: &EdgeSet, x: u32, y: u32) -> bool
+        requires x { x < 4096 }
+        requires y { y < 4096 }
+    {
+        (0..3).all(|i| edges.at(i, x, y) >= 0)
+    }
+
+    /// Two triangles of a square of four pixels, of which the diagonal's centres belong to the second.
+    #[test]
+    fn halves_of_a_square(rt: HostRuntime) -> Result<(), Fail> {
+        let upper = SnapTri::of(&at(0, 0), &at(262144, 0), &at(0, 262144));
+        let lower = SnapTri::of(&at(262144, 0), &at(262144, 262144), &at(0, 262144));
+        let upper = EdgeSet::of(&upper).ok_or("no area")?;
+        let lower = EdgeSet::of(&lower).ok_or("no area")?;
+        for y in 0..4 {
+            for x in 0..4 {
+                assert_eq!(rt; covers(&upper, x, y), x + y <= 2, "at {x} {y}");
+                assert_eq!(rt; covers(&lower, x, y), x + y > 2, "at {x} {y}");
+            }
+        }
+        let whole = PixelRect {
+            left: 0,
+            top: 0,
+            right: 4,
+            bottom: 4,
+        };
+        assert_eq!(rt; upper.bounds(), whole);
+        assert_eq!(rt; lower.bounds(), whole);
+        Ok(())
+    }
+
+    #[test]
+    fn steps_go_from_pixel_to_pixel(rt: HostRuntime) -> Result<(), Fail> {
+        let triangle = SnapTri::of(&at(0, 0), &at(262144, 65536), &at(131072, 262144));
+        let edges = EdgeSet::of(&triangle).ok_or("no area")?;
+        for i in 0..3 {
+            assert_eq!(rt;
+                edges.at(i, 3, 2) - edges.at(i, 2, 2),
+                edges.step_x(i),
+                "edge {i}"
+            );
+            assert_eq!(rt;
+                edges.at(i, 2, 3) - edges.at(i, 2, 2),
+                edges.step_y(i),
+                "edge {i}"
+            );
+        }
+        Ok(())
+    }
+
+    #[test]
+    fn a_line_has_no_edges(rt: HostRuntime) {
+        let line = SnapTri::of(&at(0, 0), &at(65536, 65536), &at(131072, 131072));
+        assert!(rt; EdgeSet::of(&line).is_none());
+        partition_law();
+    }
+}
