@@ -4,7 +4,8 @@ use Rattle.std.proofs.lemmas.Nat.{div-mul-add, mod-mul-add}
 use Rattle.gfxspec.specs.declared.geometry.PixelRect.{PixelRect}
 use Rattle.gfxspec.specs.Tiles.{tiles_along, tile_of}
 use Rattle.tileblock.specs.Block.{Block, pixel_at}
-use Rattle.tileblock.specs.Surface.{Surface, IsSurface, block_of, pixel_in, pixel_of}
+use Rattle.tileblock.specs.Surface.{Surface, IsSurface, block_of, pixel_of}
+use Rattle.tileblock.proofs.Slots.{pixel_of-block}
 
 column_of : (at j x : ℕ) → j < 8 → x ≡ 8 * at + j → x / 32 ≡ at / 4
 column_of at j x h e = omega arith
@@ -23,7 +24,7 @@ span_pixel s along at j x y b is e less h f found =
     let rect = is.rects tile b found in
     let left : b.rect.left ≡ 32 * (at / 4) = ap (λ (r : PixelRect). r.left) rect ∙ ap (λ n. 32 * (tile % n)) (sym e) ∙ ap (λ n. 32 * n) (mod-mul-add (y / 32) along (at / 4) less) in
     let top : b.rect.top ≡ 32 * (y / 32) = ap (λ (r : PixelRect). r.top) rect ∙ ap (λ n. 32 * (tile / n)) (sym e) ∙ ap (λ n. 32 * n) (div-mul-add (y / 32) along (at / 4) less) in
-    ap (λ t. pixel_in (block_of s t) x y) here ∙ ap (λ slot. pixel_in slot x y) found
+    pixel_of-block s tile x y b here found
     ∙ ap (λ n. pixel_at b n y) (f ∙ place_in_row at j ∙ ap (λ n. n + 8 * (at % 4) + j) (sym left))
     ∙ ap (pixel_at b (b.rect.left + 8 * (at % 4) + j)) (place_in_column y ∙ ap (λ n. n + y % 32) (sym top))
 

@@ -69,7 +69,7 @@ fn one_pixel_target(rt: HostRuntime) {
 }
 
 #[test]
-fn failing_writer(rt: HostRuntime) {
+fn failing_writer(rt: HostRuntime) -> Result<(), Fail> {
     let Ok(target) = Target::split(rt.alloc(), 1, 1) else {
         panic!(rt; "there is memory")
     };
@@ -81,8 +81,12 @@ fn failing_writer(rt: HostRuntime) {
         0x00, 0x20, 0x28, 0x00, 0x00,
     ];
     assert_eq!(rt; out.bytes.as_slice(), wanted.as_slice());
-    let text = format!(in rt.alloc(); "{fault}");
-    assert!(rt; text.is_ok());
+    let text = format!(in rt.alloc(); "{fault}")?;
+    assert_eq!(rt;
+        text.as_str(),
+        "the image could not be written past byte 20"
+    );
+    Ok(())
 }
 
 // Gives a tile a colour with its number as red.
