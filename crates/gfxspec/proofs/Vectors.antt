@@ -2,38 +2,34 @@
 use Rattle.std.proofs.Common.{◌≡◌, refl, ℕ, ◌*◌, List, [], ◌∷◌, true, false}
 use Rattle.std.specs.Prelude.{pos, negsuc}
 use Rattle.gfxspec.specs.declared.geometry.Vertex.{Vertex}
-use Rattle.gfxspec.specs.declared.geometry.PixelRect.{PixelRect}
-use Rattle.gfxspec.specs.declared.pixel.Pixel.{Pixel}
-use Rattle.gfxspec.specs.declared.state.Cull.TheVariants as C
-use Rattle.gfxspec.specs.declared.state.Compare.TheVariants.{Less, Always}
-use Rattle.gfxspec.specs.declared.state.StencilOp.TheVariants.{Keep, IncrSat, Incr, DecrSat, Decr, Invert}
+use Rattle.gfxspec.specs.declared.state.StencilOp.TheVariants.{IncrSat, Incr, DecrSat, Decr, Invert}
 use Rattle.gfxspec.specs.declared.state.LogicOp.TheVariants as L
 use Rattle.gfxspec.specs.Snapping.{snapped}
 use Rattle.gfxspec.specs.Raster.{centre, covers}
 use Rattle.gfxspec.specs.Depth.{depth_at}
-use Rattle.gfxspec.specs.DepthStencil.{FaceSetting, DepthStencilSetting, stencil_result, masked}
+use Rattle.gfxspec.specs.DepthStencil.{stencil_result, masked}
 use Rattle.gfxspec.specs.Color.{logic_byte, written_color}
-use Rattle.gfxspec.specs.State.{RasterSetting, Settings, defaults, default_raster, default_depth_stencil, default_face}
+use Rattle.gfxspec.specs.State.{Settings, defaults, default_raster, default_depth_stencil, default_face}
 use Rattle.gfxspec.specs.Assembly.{Primitive}
 use Rattle.gfxspec.specs.Items.{Item, Drawn, ColorCleared, DepthStencilCleared, opening, snapped_triangle, after_items, issue_count}
 
 -- a vertex at whole pixels
-abbrev at : ℕ → ℕ → ℕ → List ℕ → Vertex
+abbrev pub at : ℕ → ℕ → ℕ → List ℕ → Vertex
 at x y z rgba = record { x = pos (65536 * x); y = pos (65536 * y); z = z; rgba = rgba }
 
-abbrev grey : ℕ → List ℕ
+abbrev pub grey : ℕ → List ℕ
 grey n = n ∷ n ∷ n ∷ n ∷ []
 
-abbrev upper_left : Primitive
+abbrev pub upper_left : Primitive
 upper_left = record { first = at 0 0 0 (grey 1); second = at 4 0 10 (grey 2); third = at 0 4 0 (grey 3) }
 
-abbrev lower_right : Primitive
+abbrev pub lower_right : Primitive
 lower_right = record { first = at 4 0 0 (grey 2); second = at 4 4 0 (grey 4); third = at 0 4 0 (grey 3) }
 
-abbrev other_way : Primitive
+abbrev pub other_way : Primitive
 other_way = record { first = at 0 0 0 (grey 1); second = at 0 4 0 (grey 2); third = at 4 0 0 (grey 3) }
 
-abbrev count_of : List Item → ℕ
+abbrev pub count_of : List Item → ℕ
 count_of items = issue_count 0 items 4 4 (λ x y. opening)
 
 abbrev draw : Primitive → Item

@@ -11,8 +11,8 @@ use Rattle.gfxspec.specs.Raster.{Point, Triangle, centre, covers}
 use Rattle.gfxspec.specs.Facing.{facing_of, is_culled}
 use Rattle.gfxspec.specs.Depth.{depth_at, biased}
 use Rattle.gfxspec.specs.DepthStencil.{DepthStencilSetting, FaceSetting, TestOutcome, tested}
-use Rattle.gfxspec.specs.Color.{BlendSetting, written_color}
-use Rattle.gfxspec.specs.State.{RasterSetting, Settings}
+use Rattle.gfxspec.specs.Color.{written_color}
+use Rattle.gfxspec.specs.State.{Settings}
 use Rattle.gfxspec.specs.Assembly.{Primitive}
 
 -- a triangle with its settings and the open issues, or a clear of one kind

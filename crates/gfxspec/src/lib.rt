@@ -7,18 +7,22 @@
 
 mod device;
 mod error;
+mod from_read;
 mod geometry;
 mod pixel;
-mod standard;
 mod state;
+#[cfg(test)]
+mod tests;
+mod to_write;
 mod transfer;
 
 pub use device::{Broken, Sink, Source};
 pub use error::GfxError;
+pub use from_read::FromRead;
 pub use geometry::{Facing, PixelRect, Size, Vertex};
 pub use pixel::{DepthStencil, Pixel};
-pub use standard::{FromRead, ToWrite};
 pub use state::{Compare, Cull, LogicOp, StencilOp, Topology};
+pub use to_write::ToWrite;
 pub use transfer::{GatherError, gather, put_all};
 
 /// The greatest coordinate of a vertex either way, in 1/65,536 pixel.

@@ -1,5 +1,5 @@
 use Rattle.std.proofs.Common.{IsSome, ◌≡◌}
-use Rattle.gfxspec.proofs.standard.FromReadSource.get.Given as goal
+use Rattle.gfxspec.proofs.from_read.FromReadSource.get.Given as goal
 
 -- an interrupted read took nothing
 abbrev pub invariant-loop : goal.invariant-loop

@@ -1,5 +1,5 @@
 use Rattle.std.proofs.Common.{IsSome, ◌≡◌}
-use Rattle.gfxspec.proofs.standard.ToWriteSink.put.Given as goal
+use Rattle.gfxspec.proofs.to_write.ToWriteSink.put.Given as goal
 
 -- an interrupted write took nothing
 abbrev pub invariant-loop : goal.invariant-loop
