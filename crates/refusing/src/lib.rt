@@ -31,8 +31,14 @@ pub struct Refusing<A: Allocator = Global> {
 }
 
 impl<A: Allocator> Refusing<A> {
+    ghost use Rattle.std.specs.Prelude.{◌≡◌, false};
+    ghost use Rattle.refusing.specs.Passing.{inner_of, number_of};
+
     /// Refuses the n-th growth, counted from 1, or with 0 none.
-    pub fn new(inner: A, n: u64) -> Refusing<A> {
+    pub fn new(inner: A, n: u64) -> Refusing<A>
+        ensures inner { inner_of result ≡ inner }
+        ensures number { number_of result ≡ n }
+    {
         Refusing {
             inner,
             gate: Gate {
@@ -48,7 +54,9 @@ impl<A: Allocator> Refusing<A> {
     }
 
     /// Whether a growth was refused.
-    pub fn refused(&self) -> bool {
+    pub fn refused(&self) -> bool
+        ensures { number_of self.now ≡ 0 → result ≡ false }
+    {
         0 < self.gate.refused && self.gate.refused <= self.count()
     }
 }
@@ -64,7 +72,9 @@ impl<A: Allocator> Drop for Refusing<A> {
 }
 
 unsafe impl<A: Allocator> Allocator for Refusing<A> {
-    ghost dealloc_token = { λ heap ty ptr. A.dealloc_token heap.inner ty ptr };
+    ghost use Rattle.refusing.specs.Passing.{inner_of};
+
+    ghost dealloc_token = { λ heap ty ptr. A.dealloc_token (inner_of heap) ty ptr };
 
     fn allocate(&self, size: usize, align: usize) -> Result<*mut u8, AllocError> {
         if self.gate.refuses() {
