@@ -56,7 +56,6 @@ accepted_behind-push earlier (d ∷ cs) c h k = (h.0, accepted_behind-push (earl
 pub accepted-push : (cs : List Command) (c : Command) → AreAccepted cs → IsAccepted cs c → AreAccepted (cs ++ c ∷ [])
 accepted-push cs c h k = accepted_behind-push [] cs c h k
 
-
 begun-push : (cs : List Command) (q : ℕ) → queries_open (cs ++ Begin q ∷ []) ≡ queries_open cs ++ q ∷ []
 begun-push [] q = refl
 begun-push (Begin p ∷ cs) q =

@@ -41,4 +41,3 @@ abbrev pub pending_with : List Command → List Step → Step → List Command
 pending_with list steps (Records c) = list ++ c ∷ []
 pending_with list steps (Executes commands restore) = after_finish restore (all_seen steps)
 pending_with list steps Flushes = after_finish true (all_seen steps)
-

@@ -17,18 +17,15 @@ pub fn flush_changes_nothing()
     ensures items { (before after : List Step) → items_of_session (before ++ Flushes ∷ after) ≡ items_of_session (before ++ after) }
     ensures settings { (before after : List Step) → settings_now (before ++ Flushes ∷ after) ≡ settings_now (before ++ after) }
     ensures queries { (before after : List Step) → open_now (before ++ Flushes ∷ after) ≡ open_now (before ++ after) }
-{
-}
+{}
 
 /// The settings of the immediate context are those behind its pending list, which begins with the kept ones.
 pub fn pending_list_has_the_settings()
     ensures { (steps : List Step) → settings_after (pending steps) ≡ settings_now steps }
-{
-}
+{}
 
 /// What a pixel holds after two lists of items is what the second makes of what the first left.
 pub fn items_fold_in_parts()
     ensures { (front back : List Item) (x y : ℕ) (old : Pixel) →
         after_items (front ++ back) x y old ≡ after_items back x y (after_items front x y old) }
-{
-}
+{}
