@@ -106,46 +106,4 @@ pub fn classify(edges: &EdgeSet, rect: PixelRect) -> Class
 }
 
 #[cfg(test)]
-mod tests {
-    use super::*;
-    use gfxspec::Vertex;
-    use snap::SnapTri;
-    use std::test::Fail;
-
-    fn at(x: i32, y: i32) -> Vertex
-        ensures x { result.x ≡ x }
-        ensures y { result.y ≡ y }
-    {
-        Vertex {
-            x,
-            y,
-            z: 0,
-            rgba: [0; 4],
-        }
-    }
-
-    /// The two halves of a target of 33 by 33 pixels, over its four tiles.
-    #[test]
-    fn tiles_of_two_halves(rt: HostRuntime) -> Result<(), Fail> {
-        let side = 33 * 65536;
-        let first = SnapTri::of(&at(0, 0), &at(side, 0), &at(0, side));
-        let second = SnapTri::of(&at(side, 0), &at(side, side), &at(0, side));
-        let first = EdgeSet::of(&first).ok_or("no area")?;
-        let second = EdgeSet::of(&second).ok_or("no area")?;
-        let tile = |left: u32, top: u32, right: u32, bottom: u32| PixelRect {
-            left,
-            top,
-            right,
-            bottom,
-        };
-        assert_eq!(rt; classify(&first, tile(0, 0, 32, 32)), Class::Cut(1));
-        assert_eq!(rt; classify(&second, tile(0, 0, 32, 32)), Class::Cut(2));
-        assert_eq!(rt; classify(&first, tile(32, 0, 33, 32)), Class::Outside);
-        assert_eq!(rt; classify(&first, tile(0, 32, 32, 33)), Class::Outside);
-        assert_eq!(rt; classify(&first, tile(32, 32, 33, 33)), Class::Outside);
-        assert_eq!(rt; classify(&second, tile(32, 0, 33, 32)), Class::Cut(0));
-        assert_eq!(rt; classify(&second, tile(0, 32, 32, 33)), Class::Cut(0));
-        assert_eq!(rt; classify(&second, tile(32, 32, 33, 33)), Class::Cut(0));
-        Ok(())
-    }
-}
+mod tests;

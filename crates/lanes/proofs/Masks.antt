@@ -1,0 +1,138 @@
+-- Bits of masks of eight lanes, and lists that are stored lane by lane.
+use Rattle.std.proofs.Common.{◌≡◌, ◌∙◌, ap, sym, refl, arith, ℕ, zero, suc, ◌+◌, ◌-◌, ◌*◌, ◌/◌, ◌%◌, ◌^◌, ◌<◌, ◌≤◌, ◌⊎◌, inl, inr, Bool, true, false, cond, lit<, List, [], ◌∷◌, length, get_or, map, Fits, w8, w32, min}
+use Rattle.std.specs.Prelude.{◌==◌, ◌&&◌, nat_lt, if◌then◌else◌, bit_and}
+use Rattle.std.proofs.Math.Nat.{pow-le-pow_right}
+use Rattle.std.proofs.lemmas.Bool.Decides.{nat_tests}
+use Rattle.std.proofs.lemmas.Nat.Bits.{bit_at-lt, bit_at_and, bit_at_ones, bit_at_ones_above, shr_and_one}
+use Rattle.std.specs.Int.{bit_at}
+use Rattle.std.specs.Simd.Lanes.{zip2, mask_l, top}
+use Rattle.std.proofs.Math.ListN.{set}
+use Rattle.std.proofs.lemmas.List.{get_or-set_same, get_or-set_other}
+use Rattle.std.proofs.lemmas.Simd.{tops_compared, length-zip2, mask_l-mod, mask_l-lt, bit_mask_l, get_or-zip2}
+
+one_is : (b : Bool) → (cond b 1 0 == 1) ≡ b
+one_is true = refl
+one_is false = refl
+
+-- bit j of a comparison of eight lanes
+pub bit_at-compared : (test : ℕ → ℕ → Bool) (xs ys : List ℕ) (j : ℕ) → length xs ≡ 8 → length ys ≡ 8 → j < 8 →
+    (bit_at (mask_l (map (top 31) (zip2 (λ a b. cond (test a b) (2 ^ 32 - 1) 0) xs ys)) % 2 ^ 64) j == 1) ≡ test (get_or xs j 0) (get_or ys j 0)
+bit_at-compared test xs ys j lx ly h =
+    let tests = zip2 test xs ys in
+    let long = length-zip2 test xs ys (lx ∙ sym ly) in
+    ap (λ n. bit_at n j == 1) (ap (λ ms. mask_l ms % 2 ^ 64) (tops_compared w32 test xs ys) ∙ mask_l-mod tests 64 (omega arith))
+    ∙ ap (λ n. n == 1) (bit_mask_l tests j ∙ ap (λ b. cond b 1 0) (get_or-zip2 test xs ys j 0 0 false (omega arith) (omega arith)))
+    ∙ one_is (test (get_or xs j 0) (get_or ys j 0))
+
+pub compared_fits : (test : ℕ → ℕ → Bool) (xs ys : List ℕ) → length xs ≡ 8 → length ys ≡ 8 → Fits w8 (mask_l (map (top 31) (zip2 (λ a b. cond (test a b) (2 ^ 32 - 1) 0) xs ys)) % 2 ^ 64)
+compared_fits test xs ys lx ly =
+    let tests = zip2 test xs ys in
+    let long = length-zip2 test xs ys (lx ∙ sym ly) ∙ lx in
+    let small = mask_l-lt tests in
+    let is = ap (λ ms. mask_l ms % 2 ^ 64) (tops_compared w32 test xs ys) ∙ mask_l-mod tests 64 (omega arith) in
+    let power = ap (λ n. 2 ^ n) long in
+    record { fits = omega arith }
+
+marked : (b : Bool) → top 63 (cond b (2 ^ 64 - 1) 0) ≡ b
+marked true = refl
+marked false = refl
+
+eighth : (b : ℕ → Bool) (j : ℕ) → j < 8 → get_or (b 0 ∷ b 1 ∷ b 2 ∷ b 3 ∷ b 4 ∷ b 5 ∷ b 6 ∷ b 7 ∷ []) j false ≡ b j
+eighth b zero h = refl
+eighth b (suc zero) h = refl
+eighth b (suc (suc zero)) h = refl
+eighth b (suc (suc (suc zero))) h = refl
+eighth b (suc (suc (suc (suc zero)))) h = refl
+eighth b (suc (suc (suc (suc (suc zero))))) h = refl
+eighth b (suc (suc (suc (suc (suc (suc zero)))))) h = refl
+eighth b (suc (suc (suc (suc (suc (suc (suc zero))))))) h = refl
+eighth b (suc (suc (suc (suc (suc (suc (suc (suc j)))))))) h = absurd (omega arith)
+
+-- eight tests as the lanes of a comparison
+abbrev pub marks : (ℕ → Bool) → List Bool
+marks b =
+    let mark : ℕ → Bool = λ j. top 63 (cond (b j) (2 ^ 64 - 1) 0) in
+    mark 0 ∷ mark 1 ∷ mark 2 ∷ mark 3 ∷ mark 4 ∷ mark 5 ∷ mark 6 ∷ mark 7 ∷ []
+
+marks_are : (b : ℕ → Bool) → marks b ≡ (b 0 ∷ b 1 ∷ b 2 ∷ b 3 ∷ b 4 ∷ b 5 ∷ b 6 ∷ b 7 ∷ [])
+marks_are b =
+    λ i. marked (b 0) i ∷ marked (b 1) i ∷ marked (b 2) i ∷ marked (b 3) i ∷ marked (b 4) i ∷ marked (b 5) i ∷ marked (b 6) i ∷ marked (b 7) i ∷ []
+
+-- the mask of eight tests
+pub mask_l-marks : (b : ℕ → Bool) (j : ℕ) → j < 8 → (bit_at (mask_l (marks b) % 2 ^ 64) j == 1) ≡ b j
+mask_l-marks b j h =
+    let tests = b 0 ∷ b 1 ∷ b 2 ∷ b 3 ∷ b 4 ∷ b 5 ∷ b 6 ∷ b 7 ∷ [] in
+    ap (λ n. bit_at n j == 1) (ap (λ ms. mask_l ms % 2 ^ 64) (marks_are b) ∙ mask_l-mod tests 64 (omega arith))
+    ∙ ap (λ n. n == 1) (bit_mask_l tests j ∙ ap (λ t. cond t 1 0) (eighth b j h))
+    ∙ one_is (b j)
+
+pub mask_l-marks_lt : (b : ℕ → Bool) → mask_l (marks b) % 2 ^ 64 < 256
+mask_l-marks_lt b =
+    let small = mask_l-lt (marks b) in
+    omega arith
+
+-- two masks' bits in one
+pub both_bits : (x y : ℕ) (p q : Bool) → x < 2 → y < 2 → (x == 1) ≡ p → (y == 1) ≡ q → (min x y == 1) ≡ (p && q)
+both_bits zero zero p q hx hy ep eq = λ i. ep i && q
+both_bits zero (suc zero) p q hx hy ep eq = λ i. ep i && q
+both_bits (suc zero) zero p q hx hy ep eq = λ i. ep i && eq i
+both_bits (suc zero) (suc zero) p q hx hy ep eq = λ i. ep i && eq i
+both_bits (suc (suc x)) y p q hx hy ep eq = absurd (omega arith)
+both_bits zero (suc (suc y)) p q hx hy ep eq = absurd (omega arith)
+both_bits (suc zero) (suc (suc y)) p q hx hy ep eq = absurd (omega arith)
+
+-- a bit that isn't 1
+pub not_one : (n : ℕ) → n < 2 → (n ≡ 1 → ⊥) → (n == 1) ≡ false
+not_one zero h isnt = refl
+not_one (suc zero) h isnt = absurd (isnt refl)
+not_one (suc (suc n)) h isnt = absurd (omega arith)
+
+-- the lowest n bits, as the code makes them
+span_is : (n : ℕ) → n ≤ 8 → 1 * 2 ^ n % 2 ^ 32 - 1 ≡ 2 ^ n - 1
+span_is n few =
+    let small : 2 ^ n ≤ 2 ^ 8 = pow-le-pow_right {n = 2} (lit< tt) few in
+    omega arith
+
+below_or_above : (j n : ℕ) → (j < n) ⊎ (n ≤ j)
+below_or_above j n = grind arith
+
+-- bit j of a span under three masks
+pub bit_at-span : (n x y z j : ℕ) (p q r : Bool) → n ≤ 8 → (j < n → (bit_at x j == 1) ≡ p) → (j < n → (bit_at y j == 1) ≡ q) → (j < n → (bit_at z j == 1) ≡ r) →
+    (bit_at (bit_and (bit_and (bit_and (1 * 2 ^ n % 2 ^ 32 - 1) x) y) z) j == 1) ≡ (nat_lt j n && p && q && r)
+bit_at-span n x y z j p q r few hx hy hz =
+    let span = 1 * 2 ^ n % 2 ^ 32 - 1 in
+    let is = ap (λ m. bit_at m j) (span_is n few) in
+    let bits = bit_at_and (bit_and (bit_and span x) y) z j ∙ (λ i. min ((bit_at_and (bit_and span x) y j ∙ (λ k. min (bit_at_and span x j k) (bit_at y j))) i) (bit_at z j)) in
+    ap (λ m. m == 1) bits
+    ∙ elim (below_or_above j n) [
+      | inl below ↦
+          let lt : true ≡ nat_lt j n = grind (arith, nat_tests) in
+          let one = is ∙ bit_at_ones n j below in
+          let first = both_bits (bit_at span j) (bit_at x j) (nat_lt j n) p (bit_at-lt span j) (bit_at-lt x j) (ap (λ m. m == 1) one ∙ lt) (hx below) in
+          let second = both_bits (min (bit_at span j) (bit_at x j)) (bit_at y j) (nat_lt j n && p) q (omega (arith, bit_at-lt span j)) (bit_at-lt y j) first (hy below) in
+          both_bits (min (min (bit_at span j) (bit_at x j)) (bit_at y j)) (bit_at z j) (nat_lt j n && p && q) r (omega (arith, bit_at-lt span j)) (bit_at-lt z j) second (hz below)
+      | inr above ↦
+          let lt : false ≡ nat_lt j n = grind (arith, nat_tests) in
+          let none = is ∙ bit_at_ones_above n j above in
+          let zero_bit : min (min (min (bit_at span j) (bit_at x j)) (bit_at y j)) (bit_at z j) ≡ 0 = omega arith in
+          ap (λ m. m == 1) zero_bit ∙ ap (λ b. b && p && q && r) lt
+    ]
+
+-- what the code picks by a bit
+pub picked_set : (bits j x y v : ℕ) → bit_and (bits / 2 ^ j) 1 ≡ 1 → v ≡ x → v ≡ (if bit_at bits j == 1 then x else y)
+picked_set bits j x y v set is = is ∙ ap (λ n. if n == 1 then x else y) (sym set ∙ shr_and_one bits j)
+
+pub picked_clear : (bits j x y v : ℕ) → (bit_and (bits / 2 ^ j) 1 ≡ 1 → ⊥) → v ≡ y → v ≡ (if bit_at bits j == 1 then x else y)
+picked_clear bits j x y v clear is =
+    is ∙ ap (λ b. if b then x else y) (sym (not_one (bit_at bits j) (bit_at-lt bits j) (λ e. clear (shr_and_one bits j ∙ e))))
+
+below_or_last : (j k : ℕ) → k < j + 1 → (k < j) ⊎ (k ≡ j)
+below_or_last j k h = grind arith
+
+-- the step of a loop that stores f of each lane
+pub stored_next : (f : ℕ → ℕ) (xs : List ℕ) (j v : ℕ) → j < length xs → v ≡ f j → ((k : ℕ) → k < j → get_or xs k 0 ≡ f k) → (k : ℕ) → k < j + 1 → get_or (set xs j v) k 0 ≡ f k
+stored_next f xs j v inside is before k h =
+    elim (below_or_last j k h) [
+      | inl below ↦ get_or-set_other xs j k v 0 (omega arith) ∙ before k below
+      | inr last ↦ ap (λ i. get_or (set xs j v) i 0) last ∙ get_or-set_same xs j v 0 inside ∙ is ∙ ap f (sym last)
+    ]
