@@ -1,0 +1,4 @@
+pub mod DivisionLaws
+pub mod HeightLaws
+pub mod DepthLaws
+pub mod WalkLaws
