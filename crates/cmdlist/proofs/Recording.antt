@@ -52,7 +52,7 @@ recorded c d k triangles r only fits commands settings drawn begun opened =
     let counts : triangle_count (commands_of d) ≡ triangle_count cs + triangles = ap triangle_count commands ∙ triangle_count-push cs k ∙ ap (λ n. triangle_count cs + n) (sym only.counted) in
     let longer : length (commands_of d) ≡ length cs + 1 = ap length commands ∙ length_push cs k in
     let more : length (issues (commands_of d)) ≡ length (issues cs) + cond (is_begin k) 1 0 =
-            ap (λ x. length (issues x)) commands ∙ ap length (issues-push cs k) ∙ length-append (issues cs) (issues (k ∷ [])) ∙ ap (λ n. length (issues cs) + n) (begun_is k) in
+    ap (λ x. length (issues x)) commands ∙ ap length (issues-push cs k) ∙ length-append (issues cs) (issues (k ∷ [])) ∙ ap (λ n. length (issues cs) + n) (begun_is k) in
     let few = few_begun cs k (omega (arith, r.issues, r.few_issues)) none in
     record {
       accepted = subst (λ x. AreAccepted x) (sym commands) (accepted-push cs k r.accepted (accepted cs k only.call none));

@@ -1,6 +1,6 @@
 //! Recording.
 
-ghost use Rattle.std.specs.Prelude.{◌≡◌, ◌<◌, ◌≤◌, ◌+◌, ◌++◌, ◌∷◌, [], ℕ, ℤ, List, length, map, IfOk, OnOk, OnErr, IsTrue, not, true,  ◌==◌, Option, is_none, nat_le, IfErr};
+ghost use Rattle.std.specs.Prelude.{◌≡◌, ◌<◌, ◌≤◌, ◌+◌, ◌++◌, ◌∷◌, [], ℕ, ℤ, List, length, map, IfOk, OnOk, OnErr, IsTrue, not, true, ◌==◌, Option, is_none, nat_le, IfErr};
 ghost use Rattle.std.specs.List.{list_all, list_any};
 ghost use Rattle.arrayvec.specs.ArrayVec.{array_vec_len};
 ghost use Rattle.gfxspec.specs.declared.geometry.Vertex.{Vertex};
@@ -232,7 +232,11 @@ impl<A: Allocator + Copy> DeferredContext<A> {
     }
 
     /// Sets the depth-stencil state with its reference. Refused with ListTooLong, OutOfMemory.
-    pub fn om_set_depth_stencil(&mut self, depth_stencil: DepthStencilState, reference: u8) -> Result<(), GfxError>
+    pub fn om_set_depth_stencil(
+        &mut self,
+        depth_stencil: DepthStencilState,
+        reference: u8,
+    ) -> Result<(), GfxError>
         ensures answer { AnswersBy (list_rows self.old (SetDepthStencil depth_stencil reference)) result }
         ensures ok { OnOk result (self.new ≡ self.old ++ SetDepthStencil depth_stencil reference ∷ []) }
         ensures err { OnErr result (self.new ≡ self.old) }

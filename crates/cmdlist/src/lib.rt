@@ -19,3 +19,6 @@ pub use command::Command;
 pub use context::DeferredContext;
 pub use list::CommandList;
 pub use settings::{Settings, State};
+
+#[cfg(test)]
+mod tests;
