@@ -93,22 +93,8 @@ form_at begun text i l =
     let e : drop i text ≡ get_or text i 0 ∷ drop (i + 1) text = rw add-one (drop-cons text i 0 l) in
     ap (form begun) e
 
--- one byte more
-pub form_space : (text : List ℕ) (i : ℕ) → i < length text → get_or text i 0 ≡ 32 → form true (drop i text) ≡ form false (drop (i + 1) text)
-form_space text i l e = form_at true text i l ∙ rw e refl
-
 pub form_no_space : (text : List ℕ) (i : ℕ) → i < length text → get_or text i 0 ≡ 32 → form false (drop i text) ≡ false
 form_no_space text i l e = form_at false text i l ∙ rw e refl
-
-pub form_letter : (begun : Bool) (text : List ℕ) (i : ℕ) → i < length text → 32 < get_or text i 0 → get_or text i 0 ≤ 126 → form begun (drop i text) ≡ form true (drop (i + 1) text)
-form_letter begun text i l a b = form_at begun text i l ∙ letter (get_or text i 0) a b
-  where
-    letter : (c : ℕ) → 32 < c → c ≤ 126 → form begun (c ∷ drop (i + 1) text) ≡ form true (drop (i + 1) text)
-    letter c a b =
-        let lf : eqb c 10 ≡ false = grind (arith, nat_tests) in
-        let space : eqb c 32 ≡ false = grind (arith, nat_tests) in
-        let printed : is_printable c ≡ true = grind (arith, nat_tests) in
-        rw (lf, space, printed) refl
 
 -- a byte that no line holds, and no LF
 pub form_other : (begun : Bool) (text : List ℕ) (i : ℕ) → i < length text → (get_or text i 0 < 32) ⊎ ((32 ≤ get_or text i 0) × (126 < get_or text i 0)) → get_or text i 0 ≢ 10 → form begun (drop i text) ≡ false

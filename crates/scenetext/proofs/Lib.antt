@@ -1,6 +1,8 @@
 pub mod TextLemmas
 pub mod NumberLemmas
 pub mod RangeLemmas
+pub mod MadeLemmas
+pub mod GroupLemmas
 pub mod VerbLemmas
 pub mod SceneLemmas
 pub mod ReadingLaw

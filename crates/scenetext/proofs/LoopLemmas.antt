@@ -1,5 +1,5 @@
 -- Reading line by line.
-use Rattle.std.proofs.Common.{◌≡◌, ℕ, ◌+◌, ◌<◌, ◌≤◌, Bool, true, false, cond, ◌&&◌, eqb, eq-eqb, List, [], ◌∷◌, ◌++◌, length, get_or, set, map, Option, Some, None, replicate, refl, sym, ap, subst, ◌∙◌, append_assoc, arith, inl, inr}
+use Rattle.std.proofs.Common.{◌≡◌, ◌≢◌, ℕ, ◌+◌, ◌<◌, ◌≤◌, Bool, true, false, cond, not, ◌&&◌, eqb, eq-eqb, List, [], ◌∷◌, ◌++◌, length, get_or, set, map, Option, Some, None, replicate, refl, sym, ap, subst, ◌∙◌, append_assoc, arith, inl, inr}
 use Rattle.std.specs.Prelude.{count_by, slice_index}
 use Rattle.std.specs.Option.{option_map_or}
 use Rattle.std.specs.List.{flat_map, join_with_byte}
@@ -12,6 +12,8 @@ use Rattle.scenetext.specs.declared.fault.ReadError.{ReadError}
 use Rattle.scenetext.specs.declared.fault.ReadError.TheVariants as errors
 use Rattle.gfxspec.specs.declared.geometry.Size.{Size}
 use Rattle.scenetext.specs.Scene.{Actor, Immediate, Deferred, Verb, Execute, Line}
+use Rattle.scenetext.specs.declared.scene.Line as code_line
+use Rattle.scenetext.specs.Seen.{line_value}
 use Rattle.scenetext.specs.Text.{TextLine, before_lines, lines_of, words_of, line_text}
 use Rattle.scenetext.specs.Spelling.{is_finish, is_deferred, finishes_list, line_words, size_words, IsVerb, HasList, IsLine, AreLines, Spells}
 use Rattle.scenetext.specs.Faults.{number_of_fault, unless, found_in, line_fault, first_line_fault, later_line_fault, first_fault, fault_of_lines, fault_of}
@@ -25,26 +27,10 @@ use Rattle.scenetext.proofs.ReadingLaw.{bytes_of}
 pub first_read : (text line rest : List ℕ) (s : Size) → CutsLine text line rest → ReadsSize line s → ReadsFirst text s rest
 first_read text line rest s c r = record { lines = c.lines ∙ ap (λ x. line_record x ∷ lines_of rest) (sym (join-words_of line) ∙ ap (join_with_byte 32) (sym r.words_are)); width = r.width; height = r.height; shorter = c.shorter }
 
-pub first_bad : (text : List ℕ) → BadForm text → fault_of text ≡ Some (1, faults.LineForm)
-first_bad text b = ap fault_of_lines b.lines ∙ ap (λ t. found_in 1 (unless t faults.LineForm (first_line_fault (words_of b.line.bytes))) (first_fault (b.line ∷ []) b.rest)) b.form
-
-pub first_refused : (text line rest : List ℕ) (f : Fault) → CutsLine text line rest → first_line_fault (words_of line) ≡ Some f → fault_of text ≡ Some (1, f)
-first_refused text line rest f c r =
-    ap fault_of_lines c.lines ∙ ap (λ t. found_in 1 (unless t faults.LineForm (first_line_fault (words_of line))) (first_fault (line_record line ∷ []) (lines_of rest))) c.form
-    ∙ ap (λ o. found_in 1 o (first_fault (line_record line ∷ []) (lines_of rest))) r
-
 pub next_read : (finished text line rest : List ℕ) (l : Line) → CutsLine text line rest → ReadsLine finished line l → ReadsNext finished text l rest
 next_read finished text line rest l c r =
     let same : line ≡ join_with_byte 32 (line_words l) = sym (join-words_of line) ∙ ap (join_with_byte 32) (sym r.words_are) in
     record { lines = c.lines ∙ ap (λ x. line_record x ∷ lines_of rest) same; line = subst (λ x. ReadsLine finished x l) same r; shorter = c.shorter }
-
-pub next_bad : (text : List ℕ) (e : TextLine) (es : List TextLine) → BadForm text → first_fault (e ∷ es) (lines_of text) ≡ Some (length (e ∷ es) + 1, faults.LineForm)
-next_bad text e es b = ap (first_fault (e ∷ es)) b.lines ∙ ap (λ t. found_in (length (e ∷ es) + 1) (unless t faults.LineForm (later_line_fault (e ∷ es) (words_of b.line.bytes))) (first_fault ((e ∷ es) ++ b.line ∷ []) b.rest)) b.form
-
-pub next_refused : (text line rest : List ℕ) (f : Fault) (e : TextLine) (es : List TextLine) → CutsLine text line rest → later_line_fault (e ∷ es) (words_of line) ≡ Some f → first_fault (e ∷ es) (lines_of text) ≡ Some (length (e ∷ es) + 1, f)
-next_refused text line rest f e es c r =
-    ap (first_fault (e ∷ es)) c.lines ∙ ap (λ t. found_in (length (e ∷ es) + 1) (unless t faults.LineForm (later_line_fault (e ∷ es) (words_of line))) (first_fault ((e ∷ es) ++ line_record line ∷ []) (lines_of rest))) c.form
-    ∙ ap (λ o. found_in (length (e ∷ es) + 1) o (first_fault ((e ∷ es) ++ line_record line ∷ []) (lines_of rest))) r
 
 -- ---- a text of which some lines are read
 
@@ -114,6 +100,10 @@ goes_on text size ls finished more rest l s r =
     stays_wide finished (Deferred k) true e = length-set finished k (slice_index finished k + 1) ∙ e
     stays_wide finished (Deferred k) false e = e
 
+-- the lines with one more, as they are seen
+pub seen_more : {A : Type 0} (old new : List (code_line.Line A)) (x : code_line.Line A) (ok failed : Bool) → new ≡ cond ok (old ++ x ∷ []) old → ok ≡ not failed → failed ≡ false → map line_value old ++ line_value x ∷ [] ≡ map line_value new
+seen_more old new x ok failed e n f = sym (ap (map line_value) (e ∙ ap (λ b. cond b (old ++ x ∷ []) old) (n ∙ ap not f)) ∙ map-append line_value old (x ∷ []))
+
 counts_of : (text : List ℕ) (size : Size) (ls : List Line) (finished rest : List ℕ) → SoFar text size ls finished rest → Counts (earlier_of size ls) finished
 counts_of text size ls finished rest s = λ k h. s.counts k h ∙ sym (count-earlier k size ls s.size_is (texts_of [] ls s.lines_are))
 
@@ -151,24 +141,22 @@ fails text size ls finished rest (errors.Fault f) s h r =
     let n : length (earlier_of size ls) + 1 ≡ length ls + 2 = omega (arith, length-map ls raw_line) in
     inl (record { fault = f; first = s.fault ∙ r (raw (size_words size)) (map raw_line ls) (counts_of text size ls finished rest s) ∙ ap (λ m. Some (m, f)) n; numbered = refl })
 
-pub first_fails : (text : List ℕ) (e : ReadError) → 0 < length text → RefusesText text e → Refused text (1, number_of_error e)
-first_fails text errors.Memory h r = inr (refl, omega arith, by (fault_of text) refl)
-  where
-    by : (o : Option (ℕ × Fault)) → fault_of text ≡ o → 1 ≤ option_map_or (λ f. f.0) o (length (lines_of text))
-    by None e = omega (arith, some_line text h)
-    by (Some f) e = some_fault (lines_of text) f e
-      where
-        some_fault : (ls : List TextLine) (f : ℕ × Fault) → fault_of_lines ls ≡ Some f → 1 ≤ f.0
-        some_fault [] f e =
-            let here : ℕ × Fault = (1, faults.FirstLine) in
-            let same : here ≡ f = cc in
-            omega (arith, ap (λ (p : ℕ × Fault). p.0) same)
-        some_fault (l ∷ ls) f e = omega (arith, found_after [] (l ∷ ls) f.0 f.1 e)
-first_fails text (errors.Fault f) h r = inl (record { fault = f; first = r; numbered = refl })
+pub first_fails : (text : List ℕ) (e : ReadError) → RefusesText text e → Refused text (1, number_of_error e)
+first_fails text errors.Memory r = absurd r
+first_fails text (errors.Fault f) r = inl (record { fault = f; first = r; numbered = refl })
 
-pub empty_fails : (text : List ℕ) → length text ≡ 0 → Refused text (1, number_of_fault faults.FirstLine)
-empty_fails [] h = inl (record { fault = faults.FirstLine; first = refl; numbered = refl })
-empty_fails (b ∷ bs) h = absurd (omega arith)
+pub first_known : (text : List ℕ) (e : ReadError) → RefusesText text e → number_of_error e ≢ 1
+first_known text errors.Memory r = absurd r
+first_known text (errors.Fault f) r = named f
+  where
+    named : (f : Fault) → number_of_fault f ≢ 1
+    named faults.LineForm = λ e. absurd (omega arith)
+    named faults.FirstLine = λ e. absurd (omega arith)
+    named faults.Actor = λ e. absurd (omega arith)
+    named faults.Command = λ e. absurd (omega arith)
+    named faults.ArgumentCount = λ e. absurd (omega arith)
+    named faults.Argument = λ e. absurd (omega arith)
+    named faults.NoSuchList = λ e. absurd (omega arith)
 
 pub is_read : (text : List ℕ) (size : Size) (ls : List Line) (finished rest : List ℕ) → SoFar text size ls finished rest → length rest ≡ 0 → Spells text (record { size = size; lines = ls })
 is_read text size ls finished [] s h =

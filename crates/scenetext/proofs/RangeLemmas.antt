@@ -65,9 +65,6 @@ naturals_back (r ∷ rs) (w ∷ ws) s e h =
 
 -- ---- words that are no numbers of their ranges
 
-pub no_number : (r : Range) (w : List ℕ) → r.high < 2 ^ 32 → ((n : ℕ) → n < 2 ^ 32 → w ≢ decimal n) → fits_kind (kind_of r) w ≡ false
-no_number r w small h = false_from _ (λ t. (let n = natural_between r.low r.high w (omega arith) t in h (value w) (omega (arith, n.2)) n.0))
-
 pub out_of_range : (r : Range) (w : List ℕ) (n : ℕ) → w ≡ decimal n → n < 2 ^ 32 → r.high < 2 ^ 32 → (n < r.low) ⊎ (r.high < n) → fits_kind (kind_of r) w ≡ false
 out_of_range r w n e h small out = false_from _ (λ t. (
     let v = natural_between r.low r.high w (omega arith) t in

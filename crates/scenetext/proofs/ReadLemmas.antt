@@ -1,5 +1,5 @@
 -- What the parts of the reader owe.
-use Rattle.std.proofs.Common.{◌≡◌, ◌≢◌, ℕ, ℤ, suc, ◌+◌, ◌*◌, ◌<◌, Bool, true, false, cond, ◌&&◌, eqb, List, [], ◌∷◌, ◌++◌, length, get_or, map, replicate, Option, Some, None, refl, sym, ap, ◌∙◌, append_assoc, arith}
+use Rattle.std.proofs.Common.{◌≡◌, ◌≢◌, ℕ, ℤ, zero, suc, ◌+◌, ◌-◌, ◌*◌, ◌^◌, ◌<◌, Bool, true, false, cond, ◌&&◌, eqb, List, [], ◌∷◌, ◌++◌, length, get_or, map, replicate, Option, Some, None, refl, sym, ap, ◌∙◌, append_assoc, arith}
 use Rattle.std.specs.Prelude.{decimal, slice_index, count_by}
 use Rattle.std.specs.List.{AllByRecursion, flat_map}
 use Rattle.std.specs.Fmt.{signed_decimal}
@@ -17,60 +17,20 @@ use Rattle.scenetext.specs.declared.command.CommandWord.{CommandWord}
 use Rattle.scenetext.specs.declared.command.CommandWord.TheVariants as words
 use Rattle.scenetext.specs.Scene.{Actor, Verb, Call, Execute}
 use Rattle.scenetext.specs.Text.{TextLine, words_of}
-use Rattle.scenetext.specs.Numbers.{Kind, context_word, fits_kind, fit, i32s}
-use Rattle.scenetext.specs.Commands.{OneOf, vertex_kinds, shape, name, serves}
+use Rattle.scenetext.specs.Numbers.{Kind, context_word, fits_kind, fit, i32s, u16s}
+use Rattle.scenetext.specs.Commands.{OneOf, vertex_kinds, shape, name, serves, kinds_of}
 use Rattle.scenetext.specs.Spelling.{vertex_words, verb_words, IsVertex, IsVerb, actor_word, is_immediate_actor}
 use Rattle.scenetext.specs.Faults.{word, or_fault, unless, arguments_fault, finishes, has_list, later_line_fault}
-use Rattle.scenetext.specs.Ranges.{AreIn}
+use Rattle.scenetext.specs.Ranges.{kinds, AreIn}
 use Rattle.scenetext.specs.Reading.{Reads, Refuses, Counts, LacksCounted, IsHead, RefusesLine}
 use Rattle.scenetext.proofs.NumberLemmas.{own}
-use Rattle.scenetext.proofs.RangeLemmas.{and_false, length-AreIn}
-use Rattle.scenetext.proofs.VerbLemmas.{u32_range, flag_range, flag_back, IsMade, fit-append, vertex_fits, length-vertex_words, length-vertices, groups_of, Fits, verb_fits, command_named-name}
+use Rattle.scenetext.proofs.RangeLemmas.{and_false, fit_fails, length-AreIn}
+use Rattle.scenetext.proofs.MadeLemmas.{u32_range, index_range, flag_range, flag_back, IsMade}
+use Rattle.scenetext.proofs.GroupLemmas.{fit-append, vertex_fits, length-vertex_words, length-vertices, groups_of, index_ranges, indices_in, singles_of}
+use Rattle.scenetext.proofs.VerbLemmas.{Fits, verb_fits, command_named-name}
 use Rattle.scenetext.proofs.SceneLemmas.{actor_known, immediate_is}
 
 -- ---- arguments that are numbers
-
--- as many words as numbers
-pub all_taken : (rs : List Range) (ns : List ℕ) (old rest : List (List ℕ)) → old ≡ map decimal ns ++ rest → AreIn rs ns → length old ≡ length rs → old ≡ map decimal ns
-all_taken rs ns old [] e h l = e ∙ nil (map decimal ns)
-  where
-    nil : (xs : List (List ℕ)) → xs ++ [] ≡ xs
-    nil xs = append-nil xs
-all_taken rs ns old (w ∷ rest) e h l = absurd (omega (arith, ap length e, length-append (map decimal ns) (w ∷ rest), length-map ns decimal, length-AreIn rs ns h))
-
--- another number of arguments
-pub count_refused : (ks : List Kind) (old : List (List ℕ)) (rows : Option Fault) → length old ≢ length ks → arguments_fault (OneOf (ks ∷ [])) old rows ≡ Some faults.ArgumentCount
-count_refused ks old rows h =
-    let t : eqb (length ks) (length old) ≡ false = grind (arith, nat_tests) in
-    ap (λ b. or_fault (cond b (Some ks) None) faults.ArgumentCount (λ kinds. unless (fit kinds old) faults.Argument rows)) t
-
--- as many, of which one does not fit
-pub form_refused : (ks : List Kind) (old : List (List ℕ)) (rows : Option Fault) → length old ≡ length ks → fit ks old ≡ false → arguments_fault (OneOf (ks ∷ [])) old rows ≡ Some faults.Argument
-form_refused ks old rows l f =
-    let t : eqb (length ks) (length old) ≡ true = grind (arith, nat_tests) in
-    ap (λ b. or_fault (cond b (Some ks) None) faults.ArgumentCount (λ kinds. unless (fit kinds old) faults.Argument rows)) t ∙ ap (λ b. unless b faults.Argument rows) f
-
-pub made_reads : (c : CommandWord) (old : List (List ℕ)) (ns : List ℕ) (v : Verb) → old ≡ map decimal ns → IsMade c ns v → Reads c old v
-made_reads c old ns v e m = record { words_are = m.words ∙ ap (λ ws. name c ∷ ws) (sym e); verb = m.verb; taken = m.taken }
-
-pub four_parts : (a b c d : Range) (ns : List ℕ) → AreIn (a ∷ b ∷ c ∷ d ∷ []) ns → ns ≡ get_or ns 0 0 ∷ get_or ns 1 0 ∷ get_or ns 2 0 ∷ get_or ns 3 0 ∷ []
-four_parts a b c d [] h = absurd h
-four_parts a b c d (r ∷ []) h = absurd h.1
-four_parts a b c d (r ∷ g ∷ []) h = absurd h.1.1
-four_parts a b c d (r ∷ g ∷ x ∷ []) h = absurd h.1.1.1
-four_parts a b c d (r ∷ g ∷ x ∷ y ∷ []) h = refl
-four_parts a b c d (r ∷ g ∷ x ∷ y ∷ z ∷ ns) h = absurd h.1.1.1.1
-
-pub exec_reads : (old ws rest : List (List ℕ)) (values : List ℕ) (k : ℕ) → old ≡ context_word k ∷ ws → k < 8 → ws ≡ map decimal values ++ rest → length old ≡ 3 → AreIn (u32_range ∷ flag_range ∷ []) values → Reads words.Exec old (Execute k (get_or values 0 0) (eqb (get_or values 1 0) 1))
-exec_reads old ws rest [] k e b f l h = absurd h
-exec_reads old ws rest (n ∷ []) k e b f l h = absurd h.1
-exec_reads old ws [] (n ∷ m ∷ []) k e b f l h = record {
-  words_are = ap (λ i. name words.Exec ∷ context_word k ∷ decimal n ∷ decimal i ∷ []) (flag_back m h.1.0.high) ∙ ap (λ x. name words.Exec ∷ context_word k ∷ x) (sym f) ∙ ap (λ x. name words.Exec ∷ x) (sym e);
-  verb = (b, omega (arith, h.0.high));
-  taken = λ im. refl;
-}
-exec_reads old ws (w ∷ rest) (n ∷ m ∷ []) k e b f l h = absurd (omega (arith, ap length e, ap length f))
-exec_reads old ws rest (n ∷ m ∷ p ∷ values) k e b f l h = absurd h.1.1
 
 -- ---- vertices
 
@@ -113,12 +73,27 @@ vertices_refuse old ws vs r e h l f rows =
     let fails : fit (flat_map (λ k. k) (replicate (length vs + suc r) vertex_kinds)) old ≡ false = ap (fit (flat_map (λ k. k) (replicate (length vs + suc r) vertex_kinds))) e ∙ fit_vertices_fail vs ws r h f in
     ap (λ o. or_fault o faults.ArgumentCount (λ ks. unless (fit ks old) faults.Argument rows)) found ∙ ap (λ b. unless b faults.Argument rows) fails
 
-pub vertices_read : (old ws : List (List ℕ)) (vs : List Vertex) → old ≡ flat_map vertex_words vs ++ ws → AllByRecursion IsVertex vs → length ws ≡ 0 → Reads words.Vb old (Call (gfx.SetVertices vs))
-vertices_read old [] vs e h l = record { words_are = ap (λ ws. name words.Vb ∷ ws) (sym (e ∙ nil (flat_map vertex_words vs))); verb = h; taken = λ im. refl }
-  where
-    nil : (xs : List (List ℕ)) → xs ++ [] ≡ xs
-    nil xs = append-nil xs
-vertices_read old (w ∷ ws) vs e h l = absurd (omega arith)
+-- ---- indices
+
+replicate-middle : {X : Type 0} (x : X) (a b : ℕ) → replicate (a + suc b) x ≡ replicate a x ++ x ∷ replicate b x
+replicate-middle x zero b =
+    let e : 0 + suc b ≡ suc b = omega arith in
+    rw e refl
+replicate-middle x (suc a) b =
+    let e : suc a + suc b ≡ suc (a + suc b) = omega arith in
+    rw e (ap (λ xs. x ∷ xs) (replicate-middle x a b))
+
+-- a word that is no index, behind others
+pub indices_refuse : (old ws : List (List ℕ)) (is : List ℕ) → old ≡ map decimal is ++ ws → AllByRecursion (λ i. i < 2 ^ 16) is → 0 < length ws → fits_kind u16s (word ws 0) ≡ false → (rows : Option Fault) → arguments_fault (shape words.Ib) old rows ≡ Some faults.Argument
+indices_refuse old ws is e h l f rows =
+    let more = length ws - 1 in
+    let n : length old ≡ length is + suc more = omega (arith, ap length e, length-append (map decimal is) ws, length-map is decimal) in
+    let found : kinds_of (shape words.Ib) (length old) ≡ Some (kinds (index_ranges (length is + suc more))) = ap (kinds_of (shape words.Ib)) n ∙ singles_of (length is + suc more) in
+    let fails : fit (kinds (index_ranges (length is + suc more))) old ≡ false =
+    ap (fit (kinds (index_ranges (length is + suc more)))) e
+    ∙ ap (λ rs. fit (kinds rs) (map decimal is ++ ws)) (replicate-middle index_range (length is) more)
+    ∙ fit_fails (index_ranges (length is)) is index_range (index_ranges more) ws (indices_in is h) l f in
+    ap (λ o. or_fault o faults.ArgumentCount (λ ks. unless (fit ks old) faults.Argument rows)) found ∙ ap (λ b. unless b faults.Argument rows) fails
 
 -- ---- a later line
 

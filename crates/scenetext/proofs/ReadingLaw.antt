@@ -21,7 +21,9 @@ use Rattle.scenetext.specs.Ranges.{AreIn}
 use Rattle.scenetext.proofs.TextLemmas.{IsWordText, and_left, and_right, line_bytes, text_from-lines_of, join-words_of, joined_words}
 use Rattle.scenetext.proofs.NumberLemmas.{own, value, context, context_is, value-decimal}
 use Rattle.scenetext.proofs.RangeLemmas.{naturals_back}
-use Rattle.scenetext.proofs.VerbLemmas.{u32_range, All-join, IsWordText-name, command_named-name, verb_from, one_of, verb_fits, backs}
+use Rattle.scenetext.proofs.MadeLemmas.{u32_range}
+use Rattle.scenetext.proofs.GroupLemmas.{All-join}
+use Rattle.scenetext.proofs.VerbLemmas.{IsWordText-name, command_named-name, verb_from, one_of, verb_fits, backs}
 use Rattle.scenetext.proofs.SceneLemmas.{raw, raw_line, earlier_of, IsSize, AreTexts, line_texts, size_texts, immediate_is, count-earlier, lines_of-text_of, spelled_faultless}
 
 pub unless_none : (test : Bool) (f : Fault) (rows : Option Fault) → unless test f rows ≡ None → (test ≡ true) × (rows ≡ None)

@@ -17,7 +17,8 @@ use Rattle.scenetext.specs.declared.fault.Fault.TheVariants as faults
 use Rattle.scenetext.specs.Faults.{word, unless, found_in, fault_of_lines, is_immediate, finishes, has_list, first_line_fault, later_line_fault, line_fault, first_fault, fault_of}
 use Rattle.scenetext.proofs.TextLemmas.{IsWordText, joined_words, has_form-joined, lines_of-line}
 use Rattle.scenetext.proofs.NumberLemmas.{own, IsWordText-decimal, IsWordText-context, natural_fits, context_fits}
-use Rattle.scenetext.proofs.VerbLemmas.{Fits, command_named-name, IsWordText-known, IsWordText-name, verb_fits, All-join}
+use Rattle.scenetext.proofs.VerbLemmas.{Fits, command_named-name, IsWordText-known, IsWordText-name, verb_fits}
+use Rattle.scenetext.proofs.GroupLemmas.{All-join}
 
 -- words as a line of a text, and the lines of a scene so far
 abbrev pub raw : List (List ℕ) → TextLine

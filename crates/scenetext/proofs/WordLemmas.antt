@@ -1,27 +1,22 @@
 -- Words that spell numbers, and names of commands.
 use Rattle.std.proofs.Common.{◌≡◌, ◌≢◌, ℕ, ℤ, pos, negsuc, neg_ℤ, ◌-ℤ◌, zero, suc, ◌+◌, ◌-◌, ◌*◌, ◌^◌, ◌<◌, ◌≤◌, Bool, true, false, eqb, List, [], ◌∷◌, ◌++◌, length, get_or, take, drop, take_all, length-take-le, Option, Some, None, Result, Ok, Err, refl, sym, ap, subst, ◌∙◌, arith}
-use Rattle.std.specs.Prelude.{decimal, IsUtf8, IfSome, IfNone, FitsSigned}
+use Rattle.std.specs.Prelude.{decimal, IfSome, IfNone, FitsSigned}
 use Rattle.std.specs.Int.{w32, w64}
 use Rattle.std.specs.Result.{OkIff, result_ok}
-use Rattle.std.specs.List.{list_all}
 use Rattle.std.specs.Fmt.{digits, signed_decimal}
 use Rattle.std.specs.Char.{digit_value, is_ascii_digit}
 use Rattle.std.specs.Str.Parse.{AllDigits, digits_value, digits_value_after}
 use Rattle.std.proofs.lemmas.Bool.Decides.{nat_tests}
 use Rattle.std.proofs.lemmas.List.{take_more}
-use Rattle.std.proofs.lemmas.Str.{IsUtf8-from_ascii}
 use Rattle.std.proofs.lemmas.Str.Parse.{digits_value_short, digit_at}
 use Rattle.std.proofs.lemmas.Fmt.{digits_decimal, decimal-digits_value, decimal_nonempty, first_decimal, length-decimal-le, decimal_injective}
 use Rattle.std.proofs.lemmas.Int.{ints, to_z-of_z}
 use mir.Val.{to_z, of_z}
-use Rattle.std.proofs.lemmas.Slice.Eq.{bytes_eq-Decides}
-use Rattle.scenetext.specs.Text.{is_printable}
+use Rattle.std.proofs.lemmas.Slice.Eq.{HasBytesAt, text_from_reads}
 use Rattle.scenetext.specs.declared.command.CommandWord.{CommandWord}
-use Rattle.scenetext.specs.Commands.{name, serves, is_named, commands, command_named}
-use Rattle.scenetext.proofs.TextLemmas.{and_left, and_right}
+use Rattle.scenetext.specs.Commands.{name, serves, command_named}
 use Rattle.scenetext.proofs.NumberLemmas.{own, no_minus, value, value-decimal}
-use Rattle.scenetext.proofs.VerbLemmas.{IsWordText-name}
-use Rattle.scenetext.proofs.ReadingLaw.{find_passes}
+use Rattle.scenetext.proofs.VerbLemmas.{command_named-name}
 
 -- ---- one digit more
 
@@ -80,21 +75,11 @@ spelled bs l f a h = sym (decimal-digits_value own bs a l f (omega arith))
 
 -- ---- the name of a command
 
-ascii_at : (bs : List ℕ) (i : ℕ) → list_all is_printable bs ≡ true → get_or bs i 0 < 128
-ascii_at [] i h = omega arith
-ascii_at (b ∷ bs) zero h = let p = and_left (is_printable b) (list_all is_printable bs) h in grind (arith, nat_tests)
-ascii_at (b ∷ bs) (suc i) h = ascii_at bs i (and_right (is_printable b) (list_all is_printable bs) h)
-
--- bytes that are no text name no command
-pub no_text : (bs : List ℕ) (im : Bool) → (IsUtf8 bs → ⊥) → None ≡ command_named bs im
-no_text bs im h = by (command_named bs im) refl
-  where
-    by : (o : Option CommandWord) → command_named bs im ≡ o → None ≡ o
-    by None e = refl
-    by (Some c) e =
-        let n : bs ≡ name c = (bytes_eq-Decides bs (name c)).0 (and_left _ (serves c im) (find_passes (is_named bs im) commands c e)) in
-        let p = (IsWordText-name c).printable in
-        absurd (h (subst IsUtf8 (sym n) (IsUtf8-from_ascii (name c) (λ i. ascii_at (name c) i p))))
+-- a word with the bytes of a name
+pub named_as : (w : List ℕ) (im : Bool) (c : CommandWord) → length w ≡ length (name c) → HasBytesAt w 0 (name c) → serves c im ≡ true → (Some c ≡ command_named w im) × (w ≡ name c) × (serves c im ≡ true)
+named_as w im c l h s =
+    let e = text_from_reads w (name c) l h in
+    (sym (ap (λ x. command_named x im) e ∙ command_named-name c im s), e, s)
 
 -- ---- what the parts of `natural` come to
 
@@ -156,10 +141,6 @@ minus_word (b ∷ bs) ds m l e =
 pub no_negative : (bs ds : List ℕ) → bs ≡ 45 ∷ ds → ((n : ℕ) → n < 2 ^ 32 → ds ≢ decimal n) → (z : ℤ) → FitsSigned w32 z → bs ≢ signed_decimal z
 no_negative bs ds e h (pos n) f d = no_sign bs n (omega (arith, ints)) d (ap (λ xs. get_or xs 0 0) e)
 no_negative bs ds e h (negsuc n) f d = h (suc n) (omega (arith, ints)) (ap (drop 1) (sym e ∙ d))
-
-pub no_natural : (bs : List ℕ) → get_or bs 0 0 ≢ 45 → ((n : ℕ) → n < 2 ^ 32 → bs ≢ decimal n) → (z : ℤ) → FitsSigned w32 z → bs ≢ signed_decimal z
-no_natural bs m h (pos n) f d = h n (omega (arith, ints)) d
-no_natural bs m h (negsuc n) f d = m (ap (λ xs. get_or xs 0 0) d)
 
 pub natural_too_big : {E : Type 0} (bs : List ℕ) (n : ℕ) (r : Result ℤ E) → n < 2 ^ 32 → bs ≡ decimal n → OkIff r (FitsSigned w32 (pos n)) (pos n) → IfNone (result_ok r) ((z : ℤ) → FitsSigned w32 z → bs ≢ signed_decimal z)
 natural_too_big bs n (Ok z) h e p = tt

@@ -25,6 +25,11 @@ abbrev pub RefusesShape : Shape → List (List ℕ) → ReadError → Type 0
 RefusesShape s words errors.Memory = Unit {0}
 RefusesShape s words (errors.Fault f) = (rows : Option Fault) → arguments_fault s words rows ≡ Some f
 
+-- what takes no memory wants none
+abbrev pub IsFault : ReadError → Type 0
+IsFault errors.Memory = ⊥
+IsFault (errors.Fault f) = Unit {0}
+
 abbrev pub Refuses : CommandWord → List (List ℕ) → ReadError → Type 0
 Refuses command words e = RefusesShape (shape command) words e
 
@@ -84,8 +89,9 @@ pub record ReadsSize (line : List ℕ) (s : Size) : Type 0 where
   pub width : s.width < 2 ^ 32
   pub height : s.height < 2 ^ 32
 
+-- the first line takes no memory
 abbrev pub RefusesFirst : List ℕ → ReadError → Type 0
-RefusesFirst line errors.Memory = Unit {0}
+RefusesFirst line errors.Memory = ⊥
 RefusesFirst line (errors.Fault f) = first_line_fault (words_of line) ≡ Some f
 
 abbrev pub number_of_error : ReadError → ℕ
@@ -111,7 +117,7 @@ pub record ReadsFirst (text : List ℕ) (s : Size) (rest : List ℕ) : Type 0 wh
   pub shorter : length rest < length text
 
 abbrev pub RefusesText : List ℕ → ReadError → Type 0
-RefusesText text errors.Memory = Unit {0}
+RefusesText text errors.Memory = ⊥
 RefusesText text (errors.Fault f) = fault_of text ≡ Some (1, f)
 
 -- a text whose first line is this one, behind others

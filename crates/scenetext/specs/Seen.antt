@@ -1,11 +1,12 @@
 -- A line of the code as a plain one.
+use Rattle.std.specs.Prelude.{pos}
 use Rattle.gfxspec.specs.Commands as gfx
 use Rattle.scenetext.specs.declared.scene.Actor as code_actor
 use Rattle.scenetext.specs.declared.scene.Actor.TheVariants as actors
 use Rattle.scenetext.specs.declared.scene.Verb as code_verb
 use Rattle.scenetext.specs.declared.scene.Verb.TheVariants as verbs
 use Rattle.scenetext.specs.declared.scene.Line as code_line
-use Rattle.scenetext.specs.Scene.{Actor, Immediate, Deferred, Verb, Call, Finish, Execute, Line}
+use Rattle.scenetext.specs.Scene.{Actor, Immediate, Deferred, Verb, Call, Finish, Flush, Execute, Pixel, Line}
 
 abbrev pub actor_value : code_actor.Actor → Actor
 actor_value actors.Immediate = Immediate
@@ -13,10 +14,18 @@ actor_value (actors.Deferred k) = Deferred k
 
 abbrev pub verb_value : {A : Type 0} → code_verb.Verb A → Verb
 verb_value (verbs.SetVertices vertices) = Call (gfx.SetVertices vertices)
+verb_value (verbs.SetIndices indices) = Call (gfx.SetIndices indices)
+verb_value (verbs.SetTopology topology) = Call (gfx.SetTopology topology)
+verb_value (verbs.SetRaster cull front_ccw scissor) = Call (gfx.SetRaster (record { cull = cull; front_ccw = front_ccw; scissor = scissor; depth_bias = pos 0 }))
+verb_value (verbs.SetScissor rectangle) = Call (gfx.SetScissor rectangle)
+verb_value (verbs.Draw count start) = Call (gfx.Draw count start)
+verb_value (verbs.DrawIndexed count start base) = Call (gfx.DrawIndexed count start base)
 verb_value (verbs.ClearColor rgba) = Call (gfx.ClearColor rgba)
 verb_value (verbs.ClearDepthStencil depth stencil) = Call (gfx.ClearDepthStencil depth stencil)
 verb_value (verbs.Finish restore) = Finish restore
+verb_value verbs.Flush = Flush
 verb_value (verbs.Execute context list restore) = Execute context list restore
+verb_value (verbs.Pixel x y) = Pixel x y
 
 abbrev pub line_value : {A : Type 0} → code_line.Line A → Line
 line_value l = record { actor = actor_value l.actor; verb = verb_value l.verb }

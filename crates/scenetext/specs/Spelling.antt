@@ -1,10 +1,11 @@
 -- The spelling of a scene: what stands in its text, word by word.
-use Rattle.std.specs.Prelude.{ℕ, ◌≡◌, ◌<◌, ◌^◌, Bool, true, false, not, ◌&&◌, ◌==◌, List, [], ◌∷◌, ◌++◌, length, map, decimal, codes, count_by, FitsSigned}
+use Rattle.std.specs.Prelude.{ℕ, pos, ◌≡◌, ◌<◌, ◌^◌, Bool, true, false, not, ◌&&◌, ◌==◌, List, [], ◌∷◌, ◌++◌, length, map, decimal, codes, count_by, FitsSigned}
 use Rattle.std.specs.List.{flat_map, AllByRecursion}
 use Rattle.std.specs.Int.{w32}
 use Rattle.std.specs.Fmt.{signed_decimal}
 use Rattle.gfxspec.specs.declared.geometry.Size.{Size}
 use Rattle.gfxspec.specs.declared.geometry.Vertex.{Vertex}
+use Rattle.gfxspec.specs.Numbers.{cull_number, topology_number}
 use Rattle.gfxspec.specs.Commands as gfx
 use Rattle.scenetext.specs.Scene.{Actor, Immediate, Deferred, Verb, Call, Finish, Flush, Execute, Query, Pixel, Line, Scene}
 use Rattle.scenetext.specs.Text.{line_text}
@@ -29,10 +30,18 @@ vertex_words v = signed_decimal v.x ∷ signed_decimal v.y ∷ decimal v.z ∷ m
 -- the command word of a verb, and its arguments in order; a verb that has no word yet has none
 abbrev pub verb_words : Verb → List (List ℕ)
 verb_words (Call (gfx.SetVertices vertices)) = codes "vb" ∷ flat_map vertex_words vertices
+verb_words (Call (gfx.SetIndices indices)) = codes "ib" ∷ map decimal indices
+verb_words (Call (gfx.SetTopology topology)) = codes "topology" ∷ decimal (topology_number topology) ∷ []
+verb_words (Call (gfx.SetRaster r)) = codes "raster" ∷ decimal (cull_number r.cull) ∷ decimal (flag_number r.front_ccw) ∷ decimal (flag_number r.scissor) ∷ []
+verb_words (Call (gfx.SetScissor r)) = codes "scissor" ∷ decimal r.left ∷ decimal r.top ∷ decimal r.right ∷ decimal r.bottom ∷ []
+verb_words (Call (gfx.Draw count start)) = codes "draw" ∷ decimal count ∷ decimal start ∷ []
+verb_words (Call (gfx.DrawIndexed count start base)) = codes "drawi" ∷ decimal count ∷ decimal start ∷ signed_decimal base ∷ []
 verb_words (Call (gfx.ClearColor rgba)) = codes "clearc" ∷ map decimal rgba
 verb_words (Call (gfx.ClearDepthStencil depth stencil)) = codes "cleards" ∷ decimal depth ∷ decimal stencil ∷ []
 verb_words (Finish restore) = codes "finish" ∷ decimal (flag_number restore) ∷ []
+verb_words Flush = codes "flush" ∷ []
 verb_words (Execute context list restore) = codes "exec" ∷ context_word context ∷ decimal list ∷ decimal (flag_number restore) ∷ []
+verb_words (Pixel x y) = codes "pixel" ∷ decimal x ∷ decimal y ∷ []
 verb_words v = []
 
 abbrev pub line_words : Line → List (List ℕ)
@@ -63,13 +72,21 @@ pub record IsVertex (v : Vertex) : Type 0 where
   pub z : v.z < 2 ^ 32
   pub rgba : IsColor v.rgba
 
--- the values that the arguments may have; a verb that has no word yet has no spelling
+-- the values that the arguments may have; a verb that has no word yet has no spelling, nor has a depth bias
 abbrev pub IsVerb : Verb → Type 0
 IsVerb (Call (gfx.SetVertices vertices)) = AllByRecursion IsVertex vertices
+IsVerb (Call (gfx.SetIndices indices)) = AllByRecursion (λ i. i < 2 ^ 16) indices
+IsVerb (Call (gfx.SetTopology topology)) = Unit {0}
+IsVerb (Call (gfx.SetRaster r)) = r.depth_bias ≡ pos 0
+IsVerb (Call (gfx.SetScissor r)) = (r.left < 2 ^ 32) × (r.top < 2 ^ 32) × (r.right < 2 ^ 32) × (r.bottom < 2 ^ 32)
+IsVerb (Call (gfx.Draw count start)) = (count < 2 ^ 32) × (start < 2 ^ 32)
+IsVerb (Call (gfx.DrawIndexed count start base)) = (count < 2 ^ 32) × (start < 2 ^ 32) × FitsSigned w32 base
 IsVerb (Call (gfx.ClearColor rgba)) = IsColor rgba
 IsVerb (Call (gfx.ClearDepthStencil depth stencil)) = (depth < 2 ^ 32) × (stencil < 256)
 IsVerb (Finish restore) = Unit {0}
+IsVerb Flush = Unit {0}
 IsVerb (Execute context list restore) = (context < 8) × (list < 2 ^ 32)
+IsVerb (Pixel x y) = (x < 2 ^ 32) × (y < 2 ^ 32)
 IsVerb v = ⊥
 
 abbrev pub IsActor : Actor → Type 0

@@ -6,10 +6,18 @@ ghost use Rattle.std.specs.Prelude.{◌≡◌, true, IfSome};
 #[derive(Clone, Copy, Debug, PartialEq, Eq)]
 pub enum CommandWord {
     Vb,
+    Ib,
+    Topology,
+    Raster,
+    Scissor,
+    Draw,
+    Drawi,
     Clearc,
     Cleards,
     Finish,
+    Flush,
     Exec,
+    Pixel,
 }
 
 impl CommandWord {
@@ -20,15 +28,20 @@ impl CommandWord {
         ensures value { result ≡ command_named word.now immediate }
         ensures some { IfSome result (λ c. (word.now ≡ name c) × (serves c immediate ≡ true)) }
     {
-        let Ok(word) = str::from_utf8(word) else {
-            return None;
-        };
         match word {
-            "vb" => Some(CommandWord::Vb),
-            "clearc" => Some(CommandWord::Clearc),
-            "cleards" => Some(CommandWord::Cleards),
-            "finish" if !immediate => Some(CommandWord::Finish),
-            "exec" if immediate => Some(CommandWord::Exec),
+            b"vb" => Some(CommandWord::Vb),
+            b"ib" => Some(CommandWord::Ib),
+            b"topology" => Some(CommandWord::Topology),
+            b"raster" => Some(CommandWord::Raster),
+            b"scissor" => Some(CommandWord::Scissor),
+            b"draw" => Some(CommandWord::Draw),
+            b"drawi" => Some(CommandWord::Drawi),
+            b"clearc" => Some(CommandWord::Clearc),
+            b"cleards" => Some(CommandWord::Cleards),
+            b"finish" if !immediate => Some(CommandWord::Finish),
+            b"flush" if immediate => Some(CommandWord::Flush),
+            b"exec" if immediate => Some(CommandWord::Exec),
+            b"pixel" if immediate => Some(CommandWord::Pixel),
             _ => None,
         }
     }

@@ -20,7 +20,7 @@ mod words;
 
 pub use law::one_reading;
 pub use reader::read;
-pub use scene::{Actor, Line, Lines, Scene, Verb, Vertices};
+pub use scene::{Actor, Indices, Line, Lines, Scene, Verb, Vertices};
 
 #[cfg(test)]
 mod tests;

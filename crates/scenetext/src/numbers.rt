@@ -6,7 +6,7 @@ ghost use Rattle.scenetext.specs.Numbers.{fits_kind, fit, i32s, is_context, cont
 ghost use Rattle.scenetext.specs.Commands.{OneOf, vertex_kinds};
 ghost use Rattle.scenetext.specs.Spelling.{vertex_words, IsVertex};
 ghost use Rattle.scenetext.specs.Faults.{word};
-ghost use Rattle.scenetext.specs.Reading.{RefusesShape};
+ghost use Rattle.scenetext.specs.Reading.{RefusesShape, IsFault};
 ghost use Rattle.scenetext.specs.Ranges.{kind_of, kinds, IsIn, AreIn};
 
 use crate::fault::{Fault, ReadError};
@@ -85,6 +85,7 @@ pub fn naturals<const N: usize>(
 ) -> Result<[u32; N], ReadError>
     ensures ok { IfOk result (λ values. (words.old ≡ map decimal values) × AreIn ranges.entry values) }
     ensures err { IfErr result (RefusesShape (OneOf (kinds ranges.entry ∷ [])) words.old) }
+    ensures fault { IfErr result IsFault }
 {
     expect(words, N)?;
     next_naturals(words, ranges)

@@ -1,6 +1,6 @@
 //! The scene that a text spells.
 
-ghost use Rattle.std.specs.Prelude.{◌≡◌, ◌<◌, ℕ, length, IfOk, IfErr};
+ghost use Rattle.std.specs.Prelude.{◌≡◌, ◌≢◌, ◌<◌, ℕ, length, IfOk, IfErr};
 ghost use Rattle.scenetext.specs.Seen.{actor_value, line_value};
 ghost use Rattle.scenetext.specs.SeenScene.{scene_value};
 ghost use Rattle.scenetext.specs.Spelling.{Spells, IsActor};
@@ -61,10 +61,12 @@ fn next_of<'a, A: Allocator>(
     Ok((line, rest))
 }
 
-/// The scene that a text spells, or a line and the number of its fault. Number 1 is want of memory.
+/// The scene that a text spells, or a line and the number of its fault. Number 1 is want of memory; the first line takes
+/// none.
 pub fn read<A: Allocator + Copy>(alloc: A, text: &[u8]) -> Result<Scene<A>, (u64, u32)>
     ensures scene { IfOk result (λ scene. Spells text.now (scene_value scene)) }
     ensures refused { IfErr result (Refused text.now) }
+    ensures first_line { IfErr result (λ e. e.0 ≡ 1 → e.1 ≢ 1) }
 {
     if text.is_empty() {
         return Err((1, Fault::FirstLine.number()));

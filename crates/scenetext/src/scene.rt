@@ -1,6 +1,6 @@
 //! A scene: the size of the target, and lines of commands.
 
-use gfxspec::{Size, Vertex};
+use gfxspec::{Cull, PixelRect, Size, Topology, Vertex};
 use std::alloc::{Allocator, Global};
 use std::marker::Model;
 
@@ -48,18 +48,66 @@ impl<A: Allocator> Vertices<A> {
     }
 }
 
+/// Indices in order.
+#[derive(Debug, Drop)]
+pub struct Indices<A: Allocator> {
+    items: Vec<u16, A>,
+}
+
+impl<A: Allocator> Model for Indices<A> {
+    ghost use Rattle.std.specs.Prelude.{ℕ, List};
+
+    ghost Value = { List ℕ };
+
+    ghost view = { λ i. i.items.items };
+}
+
+impl<A: Allocator> Indices<A> {
+    ghost use Rattle.std.specs.Prelude.{◌≡◌};
+
+    pub fn from_vec(items: Vec<u16, A>) -> Self
+        ensures { result ≡ items.items }
+    {
+        Indices { items }
+    }
+
+    pub fn as_slice(&self) -> &[u16]
+        ensures { result.now ≡ self.now }
+    {
+        self.items.as_slice()
+    }
+
+    pub fn into_vec(self) -> Vec<u16, A>
+        ensures { result.items ≡ self }
+    {
+        self.items
+    }
+}
+
 /// A command word with its arguments in order.
 #[derive(Debug, Drop)]
 pub enum Verb<A: Allocator> {
     SetVertices(Vertices<A>),
+    SetIndices(Indices<A>),
+    SetTopology(Topology),
+    /// The cull mode, whether a counter-clockwise triangle faces the front, and whether the scissor rectangle acts.
+    SetRaster(Cull, bool, bool),
+    SetScissor(PixelRect),
+    /// How many vertices, and the first.
+    Draw(u32, u32),
+    /// How many indices, the first, and what is added to each.
+    DrawIndexed(u32, u32, i32),
     /// Red, green, blue, alpha.
     ClearColor([u8; 4]),
     /// Depth and stencil.
     ClearDepthStencil(u32, u8),
     /// Whether the context keeps its state for the next list.
     Finish(bool),
+    Flush,
     /// The deferred context, the number of its list, and whether the immediate context keeps its state.
     Execute(u32, u32, bool),
+    /// Its place, counted from the left and from the top.
+    Pixel(u32, u32),
 }
 
 #[derive(Debug, Drop)]

@@ -1,40 +1,465 @@
-use super::*;
-use std::test::*;
+//! Worked scripts, the faults of the table, what memory is asked for, and sources that trickle or fail.
 
-const ROW: &str =
-    "target 4 4\nd3 vb 0 0 0 10 20 30 40 262144 0 0 10 20 30 40 0 -262144 0 10 20 30 40\nd3 clearc 1 2 3 4\nd3 cleards 16777215 0\nd3 finish 0\ni exec d3 0 0\n";
+mod trickle;
+mod writer;
+
+use crate::{Actor, Indices, Line, Lines, Scene, Verb, Vertices, one_reading, read};
+use gfxspec::{Cull, GatherError, PixelRect, Topology, Vertex, gather};
+use refusing::Refusing;
+use std::alloc::Global;
+use std::process::Abort;
+use std::test::Fail;
+use trickle::Trickle;
+use writer::script;
+
+fn scene(rt: &HostRuntime, text: &str) -> Result<Scene<Global>, Fail> {
+    Ok(
+        read(rt.alloc(), text.as_bytes())
+            .ok()
+            .ok_or("the text is a scene")?,
+    )
+}
+
+fn assert_actors(rt: &impl Abort, lines: &[Line<Global>], wanted: &[Actor]) {
+    assert_eq!(rt; lines.len(), wanted.len());
+    for (line, actor) in lines.iter().zip(wanted) {
+        assert_eq!(rt; line.actor, *actor);
+    }
+}
+
+/// Four vertices or three, at the corners of a square of 33 or 4 pixels.
+fn assert_corners(rt: &impl Abort, verb: &Verb<Global>, wanted: &[(i32, i32, u8)]) {
+    let Verb::SetVertices(vertices) = verb else {
+        panic!(rt; "a line of vertices")
+    };
+    assert_eq!(rt; vertices.as_slice().len(), wanted.len());
+    for (vertex, (x, y, c)) in vertices.as_slice().iter().zip(wanted) {
+        let corner = Vertex {
+            x: *x,
+            y: *y,
+            z: 0,
+            rgba: [*c, *c, *c, *c],
+        };
+        assert_eq!(rt; *vertex, corner);
+    }
+}
+
+const FOUR_TILES: &str = "target 33 33
+i vb 0 0 0 1 1 1 1 2162688 0 0 2 2 2 2 0 2162688 0 3 3 3 3 2162688 2162688 0 4 4 4 4
+i ib 1 3 2
+i topology 4
+i draw 3 0
+i drawi 3 0 0
+";
 
 #[test]
-fn a_scene(rt: HostRuntime) -> Result<(), Fail> {
-    let scene = read(rt.alloc(), ROW.as_bytes())
-        .ok()
-        .ok_or("the text is a scene")?;
-    assert_eq!(rt; scene.size.width, 4);
+fn four_tiles(rt: HostRuntime) -> Result<(), Fail> {
+    let scene = scene(&rt, FOUR_TILES)?;
+    assert_eq!(rt; (scene.size.width, scene.size.height), (33, 33));
     let lines = scene.lines.as_slice();
-    assert_eq!(rt; lines.len(), 5);
-    assert_eq!(rt; lines[0].actor, Actor::Deferred(3));
-    assert!(rt; matches!(&lines[4].verb, Verb::Execute(3, 0, false)));
-    match &lines[0].verb {
-        Verb::SetVertices(vertices) => {
-            assert_eq!(rt; vertices.as_slice().len(), 3);
-            assert_eq!(rt; vertices.as_slice()[2].y, -262144);
-        }
-        _ => assert!(rt; false),
+    assert_actors(&rt, lines, &[Actor::Immediate; 5]);
+    if let [vb, ib, topology, draw, drawi] = lines {
+        let side = 2162688;
+        assert_corners(
+            &rt,
+            &vb.verb,
+            &[(0, 0, 1), (side, 0, 2), (0, side, 3), (side, side, 4)],
+        );
+        assert!(rt;
+            matches!(&ib.verb, Verb::SetIndices(indices) if indices.as_slice() == [1, 3, 2].as_slice())
+        );
+        assert!(rt; matches!(topology.verb, Verb::SetTopology(Topology::TriangleList)));
+        assert!(rt; matches!(draw.verb, Verb::Draw(3, 0)));
+        assert!(rt; matches!(drawi.verb, Verb::DrawIndexed(3, 0, 0)));
+    }
+    Ok(())
+}
+
+const LIST_INHERITS_NOTHING: &str = "target 4 4
+d0 vb 0 0 0 9 9 9 9 0 262144 0 9 9 9 9 262144 0 0 9 9 9 9
+d0 topology 4
+d0 draw 3 0
+d0 finish 0
+i vb 0 0 0 9 9 9 9 0 262144 0 9 9 9 9 262144 0 0 9 9 9 9
+i topology 4
+i raster 1 0 0
+i exec d0 0 1
+i draw 3 0
+";
+
+#[test]
+fn list_inherits_nothing(rt: HostRuntime) -> Result<(), Fail> {
+    let scene = scene(&rt, LIST_INHERITS_NOTHING)?;
+    let lines = scene.lines.as_slice();
+    let d0 = Actor::Deferred(0);
+    let i = Actor::Immediate;
+    assert_actors(&rt, lines, &[d0, d0, d0, d0, i, i, i, i, i]);
+    let corners = [(0, 0, 9), (0, 262144, 9), (262144, 0, 9)];
+    if let [vb, topology, draw, finish, again, _, raster, exec, _] = lines {
+        assert_corners(&rt, &vb.verb, &corners);
+        assert!(rt; matches!(topology.verb, Verb::SetTopology(Topology::TriangleList)));
+        assert!(rt; matches!(draw.verb, Verb::Draw(3, 0)));
+        assert!(rt; matches!(finish.verb, Verb::Finish(false)));
+        assert_corners(&rt, &again.verb, &corners);
+        assert!(rt; matches!(raster.verb, Verb::SetRaster(Cull::None, false, false)));
+        assert!(rt; matches!(exec.verb, Verb::Execute(0, 0, true)));
+    }
+    Ok(())
+}
+
+const DEFAULTS: &str = "target 1 1
+d7 raster 3 0 0
+d7 scissor 0 0 0 0
+i topology 5
+i flush
+i pixel 0 4294967295
+i clearc 1 2 3 4
+i cleards 16777215 255
+i ib
+i vb
+i drawi 1 2 -2147483648
+";
+
+#[test]
+fn defaults_and_the_other_words(rt: HostRuntime) -> Result<(), Fail> {
+    let scene = scene(&rt, DEFAULTS)?;
+    let lines = scene.lines.into_vec();
+    if let [
+        raster,
+        scissor,
+        strip,
+        flush,
+        pixel,
+        clearc,
+        cleards,
+        ib,
+        vb,
+        drawi,
+    ] = lines.as_slice()
+    {
+        let nowhere = PixelRect {
+            left: 0,
+            top: 0,
+            right: 0,
+            bottom: 0,
+        };
+        assert_eq!(rt; raster.actor, Actor::Deferred(7));
+        assert!(rt; matches!(raster.verb, Verb::SetRaster(Cull::Back, false, false)));
+        assert!(rt; matches!(scissor.verb, Verb::SetScissor(rect) if rect == nowhere));
+        assert!(rt; matches!(strip.verb, Verb::SetTopology(Topology::TriangleStrip)));
+        assert!(rt; matches!(flush.verb, Verb::Flush));
+        assert!(rt; matches!(pixel.verb, Verb::Pixel(0, 4294967295)));
+        assert!(rt; matches!(clearc.verb, Verb::ClearColor(rgba) if rgba == [1, 2, 3, 4]));
+        assert!(rt; matches!(cleards.verb, Verb::ClearDepthStencil(16777215, 255)));
+        assert!(rt; matches!(&ib.verb, Verb::SetIndices(indices) if indices.as_slice().is_empty()));
+        assert!(rt;
+            matches!(&vb.verb, Verb::SetVertices(vertices) if vertices.as_slice().is_empty())
+        );
+        assert!(rt; matches!(drawi.verb, Verb::DrawIndexed(1, 2, -2147483648)));
+    } else {
+        panic!(rt; "ten lines")
+    }
+    Ok(())
+}
+
+const TWO_TRIANGLES: &str = "target 4 4
+i vb 0 0 0 10 20 30 40 262144 0 0 10 20 30 40 0 262144 0 10 20 30 40
+i topology 4
+i draw 3 0
+i vb 262144 0 0 50 60 70 80 262144 262144 0 50 60 70 80 0 262144 0 50 60 70 80
+i draw 3 0
+";
+
+const SLOPED_DEPTH: &str = "target 4 4
+i vb 0 0 0 10 20 30 40 262144 0 10 10 20 30 40 0 262144 0 10 20 30 40
+i topology 4
+i draw 3 0
+i pixel 1 0
+i pixel 3 0
+";
+
+const BACK_FACE: &str = "target 4 4
+i vb 0 0 0 10 20 30 40 0 262144 0 10 20 30 40 262144 0 0 10 20 30 40
+i topology 4
+i draw 3 0
+i raster 3 1 0
+i draw 3 0
+";
+
+const STRIP: &str = "target 4 4
+i vb 0 0 0 1 1 1 1 262144 0 0 2 2 2 2 0 262144 0 3 3 3 3 262144 262144 0 4 4 4 4
+i topology 5
+i draw 4 0
+i pixel 2 0
+i ib 0 1 2 65535 1 3 2
+i drawi 7 0 0
+i pixel 3 0
+";
+
+const SCISSOR: &str = "target 4 4
+i raster 3 0 1
+i vb 0 0 0 10 20 30 40 262144 0 0 10 20 30 40 0 262144 0 10 20 30 40
+i topology 4
+i draw 3 0
+i scissor 1 0 3 4
+i draw 3 0
+";
+
+const LARGEST_TARGET: &str = "target 2048 2048
+i vb 0 0 0 1 1 1 1 268435456 0 0 1 1 1 1 0 268435456 0 1 1 1 1
+i topology 4
+i draw 3 0
+";
+
+const CLEARED: &str = "target 4 4
+d3 vb 0 0 0 10 20 30 40 262144 0 0 10 20 30 40 0 262144 0 10 20 30 40
+d3 topology 4
+d3 draw 3 0
+d3 clearc 1 2 3 4
+d3 cleards 16777215 0
+d3 finish 0
+i exec d3 0 0
+i pixel 0 0
+";
+
+// Lists are numbered by their context's own lines; the greatest numbers that may stand.
+const MANY_LISTS: &str = "target 4294967295 4294967295
+d0 finish 1
+d7 finish 0
+d0 finish 0
+i exec d0 1 1
+i exec d7 0 0
+i exec d0 0 1
+i vb -2147483648 2147483647 4294967295 255 0 255 0
+i drawi 4294967295 4294967295 2147483647
+i scissor 4294967295 4294967294 4294967293 4294967292
+i flush
+";
+
+#[test]
+fn rows_read_and_written_again(rt: HostRuntime) -> Result<(), Fail> {
+    for text in [
+        "target 1 1\n",
+        "target 0 1\n",
+        TWO_TRIANGLES,
+        SLOPED_DEPTH,
+        BACK_FACE,
+        STRIP,
+        FOUR_TILES,
+        LARGEST_TARGET,
+        SCISSOR,
+        CLEARED,
+        LIST_INHERITS_NOTHING,
+        DEFAULTS,
+        MANY_LISTS,
+    ] {
+        let scene = scene(&rt, text)?;
+        assert_eq!(rt; script(rt.alloc(), &scene)?.as_str(), text);
+    }
+    Ok(())
+}
+
+// A cut inside a line, or one that drops only its line feed, is a fault of form in that line.
+#[test]
+fn cut_short(rt: HostRuntime) {
+    let text = FOUR_TILES.as_bytes();
+    for i in 0..text.len() {
+        let front = &text[..i];
+        let ended = front.iter().filter(|byte| **byte == b'\n').count() as u64;
+        let fault = if front.is_empty() {
+            Some((1, 102))
+        } else if front.ends_with(b"\n") {
+            None
+        } else {
+            Some((ended.saturating_add(1), 101))
+        };
+        assert_eq!(rt; read(rt.alloc(), front).err(), fault, "{i} bytes");
+    }
+}
+
+#[test]
+fn script_faults(rt: HostRuntime) {
+    for (text, line, number) in [
+        ("", 1, 102),
+        ("\n", 1, 101),
+        ("target 1 1", 1, 101),
+        ("target 01 1\n", 1, 106),
+        ("target 1 1\ni exec d0 0 1\n", 2, 107),
+        ("target 1 1\ni draw 3\n", 2, 105),
+        ("target 1 1\nd0 finish 0\ni exec d1 0 1\n", 3, 107),
+        ("target 1 1\nd0 finish 0\ni exec d0 1 1\n", 3, 107),
+        ("target 1 1\ni exec d0 0 1\nd0 finish 0\n", 2, 107),
+        ("target 1 1\ni flush\ni draw\ni x\n", 3, 105),
+    ] {
+        let refused = read(rt.alloc(), text.as_bytes()).err();
+        assert_eq!(rt; refused, Some((line, number)), "at {text}");
+    }
+}
+
+// Each line is the number of a fault and a first line that has it.
+const FIRST_LINES: &str = "101  target 1 1
+101 target 1 1\x20
+101 target  1 1
+101 target 1 1\r
+101 target 1\t1
+101 target 1 1\x7f
+101 target 1 \u{e9}
+102 Target 1 1
+102 i flush
+102 targets
+105 target
+105 target 1
+105 target 01 1 1
+106 target 1 01
+106 target 00 1
+106 target -1 1
+106 target +1 1
+106 target 1 0x1
+106 target 1 4294967296
+106 target 99999999999 1";
+
+// And a later line; a word that no device takes yet is no command.
+const LATER_LINES: &str = "101\x20
+101  i flush
+101 i flush\x20
+101 i  flush
+101 i flush\r
+103 target 1 1
+103 I flush
+103 d8 flush
+103 d finish 0
+103 d00 finish 0
+104 i
+104 d0
+104 i Flush
+104 i finish 0
+104 d0 exec d0 0 1
+104 d0 flush
+104 d0 pixel 0 0
+104 i begin 0
+104 i end 0
+104 i query 0
+104 i ds 1 1 2 0 255 255 1 1 1 8 1 1 1 8 0
+104 i blend 0 4 15
+104 i predicate
+105 i vb a b
+105 i vb 1 2 3 4 5 6 7 8
+105 i topology
+105 i topology x x
+105 i raster 3 0
+105 i raster 3 0 0 0
+105 i scissor 0 0 0
+105 i draw 3 0 0
+105 i drawi 3 0
+105 i clearc 1 2 3
+105 i cleards 1
+105 d0 finish
+105 i flush 0
+105 i exec d9 0
+105 i pixel 0 0 0
+106 i vb -0 0 0 0 0 0 0
+106 i vb 2147483648 0 0 0 0 0 0
+106 i vb 0 -2147483649 0 0 0 0 0
+106 i vb 0 0 -1 0 0 0 0
+106 i vb 0 0 0 256 0 0 0
+106 i vb 0 0 0 0 0 0 0 0 0 0 0 0 0 x
+106 i ib 0 65536
+106 i topology 3
+106 i topology 6
+106 i raster 0 0 0
+106 i raster 4 0 0
+106 i raster 3 2 0
+106 i raster 3 0 2
+106 i scissor 0 0 0 4294967296
+106 i draw 4294967296 0
+106 i drawi 0 0 2147483648
+106 i drawi 0 0 -
+106 i clearc 0 0 0 256
+106 i cleards 0 256
+106 d0 finish 2
+106 i exec d9 0 1
+106 i exec 0 0 1
+106 i exec d0 0 2
+106 i pixel 0 0.5";
+
+fn assert_faults(
+    rt: &impl Abort,
+    alloc: Global,
+    before: &str,
+    table: &str,
+    at: u64,
+) -> Result<(), Fail> {
+    for row in table.split('\n') {
+        let (number, line) = row.split_once(' ').ok_or("a number and a line")?;
+        let text = format!(in alloc; "{before}{line}\n")?;
+        let refused = read(alloc, text.as_str().as_bytes()).err();
+        assert_eq!(rt; refused, Some((at, number.parse::<u32>()?)), "at {row}");
     }
     Ok(())
 }
 
 #[test]
-fn faults(rt: HostRuntime) {
-    for (text, line, number) in [
-        ("", 1u64, 102u32),
-        ("target 1 1", 1, 101),
-        ("target 01 1\n", 1, 106),
-        ("target 1 1\ni exec d0 0 1\n", 2, 107),
-    ] {
-        let refused = read(rt.alloc(), text.as_bytes())
-            .err()
-            .is_some_and(|e| e.0 == line && e.1 == number);
-        assert!(rt; refused, "at {text}");
+fn faults_of_one_line(rt: HostRuntime) -> Result<(), Fail> {
+    assert_faults(&rt, rt.alloc(), "", FIRST_LINES, 1)?;
+    assert_faults(&rt, rt.alloc(), "target 1 1\n", LATER_LINES, 2)
+}
+
+// A growth is of the lines read so far, or of the buffer in a line.
+#[test]
+fn each_growth_refused(rt: HostRuntime) -> Result<(), Fail> {
+    for (n, line) in [(1, 2), (2, 2), (3, 3), (4, 6)] {
+        let alloc = Refusing::new(rt.alloc(), n);
+        let refused = read(&alloc, FOUR_TILES.as_bytes()).err();
+        assert_eq!(rt; refused, Some((line, 1)), "growth {n}");
+        assert!(rt; alloc.refused() && alloc.count() == n);
     }
+    let alloc = Refusing::new(rt.alloc(), 5);
+    assert!(rt; read(&alloc, FOUR_TILES.as_bytes()).is_ok());
+    assert_eq!(rt; alloc.count(), 4);
+    let scene = scene(&rt, FOUR_TILES)?;
+    assert_eq!(rt; script(rt.alloc(), &scene)?.as_str(), FOUR_TILES);
+    Ok(())
+}
+
+// A source gives a script in small pieces, or fails in the middle: then there is no text to read.
+#[test]
+fn from_a_source(rt: HostRuntime) -> Result<(), Fail> {
+    for piece in [1, 3, 64, 4096] {
+        let mut source = Trickle::new(FOUR_TILES.as_bytes(), piece, 0);
+        let text = gather(rt.alloc(), &mut source)?;
+        let scene = read(rt.alloc(), text.as_slice())
+            .ok()
+            .ok_or("the text is a scene")?;
+        assert_eq!(rt; script(rt.alloc(), &scene)?.as_str(), FOUR_TILES);
+    }
+    for failing in 1..7u64 {
+        let mut source = Trickle::new(FOUR_TILES.as_bytes(), 30, failing);
+        let failed = gather(rt.alloc(), &mut source).err();
+        assert_eq!(rt; failed, Some(GatherError::Read), "call {failing}");
+    }
+    Ok(())
+}
+
+#[test]
+fn lists_by_value(rt: HostRuntime) -> Result<(), Fail> {
+    one_reading();
+    let indices = Indices::from_vec(vec![in rt.alloc(); 1, 65535]?);
+    assert_eq!(rt; indices.into_vec().as_slice(), [1, 65535].as_slice());
+    let vertex = Vertex {
+        x: -1,
+        y: 2,
+        z: 3,
+        rgba: [4, 5, 6, 7],
+    };
+    let vertices = Vertices::from_vec(vec![in rt.alloc(); vertex]?);
+    assert_eq!(rt; vertices.into_vec().as_slice(), [vertex].as_slice());
+    let line = Line {
+        actor: Actor::Deferred(2),
+        verb: Verb::Finish(true),
+    };
+    let lines = Lines::from_vec(vec![in rt.alloc(); line]?);
+    for line in lines.into_vec() {
+        assert!(rt; line.actor == Actor::Deferred(2) && matches!(line.verb, Verb::Finish(true)));
+    }
+    Ok(())
 }

@@ -4,13 +4,14 @@ use Rattle.std.proofs.lemmas.List.{length-map, map-append}
 use Rattle.scenetext.specs.declared.fault.ReadError.TheVariants as errors
 use Rattle.scenetext.specs.Scene.{Line}
 use Rattle.scenetext.specs.Seen.{line_value}
-use Rattle.scenetext.proofs.LoopLemmas.{SoFar, starts, goes_on, fails, first_fails, is_read}
+use Rattle.scenetext.proofs.LoopLemmas.{SoFar, starts, goes_on, seen_more, fails, first_fails, first_known, is_read}
 use Rattle.scenetext.proofs.reader.read.Goals as goal
 
 pub returns-in-Err-clause-refused : goal.returns-in-Err-clause-refused
-returns-in-Err-clause-refused g c =
-    let some : 0 < length c.args.text.now = grind (arith, nat_tests) in
-    rw c.number_of.ensures (first_fails c.args.text.now c.in-Err.error some c.in-Err.ensures.err)
+returns-in-Err-clause-refused g c = rw c.number_of.ensures (first_fails c.args.text.now c.in-Err.error c.in-Err.ensures.err)
+
+pub returns-in-Err-clause-first_line : goal.returns-in-Err-clause-first_line
+returns-in-Err-clause-first_line g c = λ one. rw c.number_of.ensures (first_known c.args.text.now c.in-Err.error c.in-Err.ensures.err)
 
 pub loop-rest-init : goal.loop-rest-init
 loop-rest-init g c =
@@ -37,8 +38,7 @@ loop-rest-preserved g c =
     let ls = map line_value c.loop-rest.lines.items in
     let line = line_value c.in-Ok-next_of.next.0 in
     let next = goes_on c.args.text.now c.in-Ok.first.0 ls c.loop-rest.finished c.in-Ok-next_of.next.1.now c.loop-rest.rest.now line c.loop-rest.invariant c.in-Ok-next_of.ensures.ok in
-    let pushed : c.push.new.self.items ≡ c.loop-rest.lines.items ++ c.in-Ok-next_of.next.0 ∷ [] = c.push.ensures.items ∙ ap (λ b. cond b (c.loop-rest.lines.items ++ c.in-Ok-next_of.next.0 ∷ []) c.loop-rest.lines.items) (c.is_err.ensures.negation ∙ ap not c.if-is_err.false) in
-    let seen : ls ++ line ∷ [] ≡ map line_value c.push.new.self.items = sym (ap (map line_value) pushed ∙ map-append line_value c.loop-rest.lines.items (c.in-Ok-next_of.next.0 ∷ [])) in
+    let seen = seen_more c.loop-rest.lines.items c.push.new.self.items c.in-Ok-next_of.next.0 _ _ c.push.ensures.items c.is_err.ensures.negation c.if-is_err.false in
     let P : List Line → List ℕ → Type 0 = λ xs finished. SoFar c.args.text.now c.in-Ok.first.0 xs finished c.in-Ok-next_of.next.1.now in
     subst (λ xs. P xs c.count_finish.new.finished) seen (subst (P (ls ++ line ∷ [])) (sym c.count_finish.ensures) next)
 
