@@ -1,2 +1,4 @@
 pub mod Works
 pub mod Pending
+pub mod Ready
+pub mod FewTiles

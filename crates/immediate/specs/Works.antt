@@ -1,11 +1,11 @@
 -- What prepared work does to a pixel.
-use Rattle.std.specs.Prelude.{ℕ, Bool, ◌&&◌, ◌≡◌, ◌<◌, List, [], ◌∷◌, if◌then◌else◌}
+use Rattle.std.specs.Prelude.{ℕ, Bool, ◌&&◌, List, [], ◌∷◌, Option, Some, None, if◌then◌else◌}
 use Rattle.gfxspec.specs.declared.pixel.Pixel.{Pixel}
 use Rattle.gfxspec.specs.Raster.{centre, covers}
 use Rattle.gfxspec.specs.Depth.{depth_at, biased}
 use Rattle.gfxspec.specs.DepthStencil.{TestOutcome, tested}
 use Rattle.gfxspec.specs.Color.{written_color}
-use Rattle.gfxspec.specs.Items.{Item, is_in_rect, after_items}
+use Rattle.gfxspec.specs.Items.{is_in_rect}
 use Rattle.immediate.specs.declared.work.Prepared.{Prepared}
 use Rattle.immediate.specs.declared.work.Work.{Work}
 use Rattle.immediate.specs.declared.work.Work.TheVariants.{Triangle, ClearColor, ClearDepthStencil}
@@ -39,6 +39,7 @@ abbrev pub after_works : List Work → ℕ → ℕ → Pixel → Pixel
 after_works [] x y old = old
 after_works (w ∷ ws) x y old = after_works ws x y (after_work w x y old)
 
--- the work does at each pixel of any target what the items do
-abbrev pub Means : List Work → List Item → Type 0
-Means works items = (x y : ℕ) (old : Pixel) → x < 4096 → y < 4096 → after_works works x y old ≡ after_items items x y old
+-- a triangle that may have been dropped
+abbrev pub after_optional : Option Prepared → ℕ → ℕ → Pixel → Pixel
+after_optional None x y old = old
+after_optional (Some p) x y old = after_prepared p x y old
