@@ -1,0 +1,14 @@
+//! Sessions.
+#![tactic(auto)]
+
+mod answer_text;
+mod calls;
+mod outcome;
+mod perform;
+mod play;
+mod players;
+mod recorder;
+mod session;
+
+pub use outcome::{Ended, SessionFault};
+pub use session::session_alone;
