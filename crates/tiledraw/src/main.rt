@@ -1,0 +1,80 @@
+//! The program `tiledraw SCRIPT OUT.tga`: draws a script, prints its answers and writes its image.
+//!
+//! The exit status is 0 where the script was drawn, 1 where one of its lines was refused (the last answer line says
+//! which), 2 where the words are wrong or ask for help, and 3 where a file could not be read or written.
+#![tactic(auto)]
+
+mod command_line;
+mod report;
+mod settings;
+
+use gfxspec::{FromRead, ToWrite};
+use sessions::{Ended, SessionFault};
+use settings::{Settings, SettingsFault};
+use std::env::Env;
+use std::fs::File;
+use std::process::ExitCode;
+use std::rt::Files;
+use std::{env, io};
+
+fn main(rt: HostRuntime) -> ExitCode {
+    match asked(&rt) {
+        Ok(settings) => told(&rt, &drawn(&rt, &settings)),
+        Err(fault) => refused(&rt, &fault),
+    }
+}
+
+/// The settings that the program's words ask for.
+fn asked<R: Env + AllocGlobal>(rt: &R) -> Result<Settings, SettingsFault> {
+    let words = words(rt)?;
+    command_line::settings(rt.alloc(), words.as_slice())
+}
+
+/// The words after the program's name.
+fn words<R: Env + AllocGlobal>(rt: &R) -> Result<Vec<String>, SettingsFault> {
+    match env::args(rt) {
+        Ok(all) => Ok(all.skip(1).collect(rt.alloc())?),
+        Err(error) => {
+            if error.kind() == io::ErrorKind::InvalidData {
+                Err(SettingsFault::from(command_line::not_text(rt.alloc())?))
+            } else {
+                Err(SettingsFault::Memory)
+            }
+        }
+    }
+}
+
+/// Draws the script of one file into the image of another, and prints the answers.
+fn drawn<R: Files + Print + AllocGlobal>(
+    rt: &R,
+    settings: &Settings,
+) -> Result<Ended, SessionFault> {
+    let Ok(script) = File::open(rt, settings.script.as_str()) else {
+        return Err(SessionFault::Read);
+    };
+    let Ok(image) = File::create(rt, settings.image.as_str()) else {
+        return Err(SessionFault::Image { taken: 0 });
+    };
+    let mut script = FromRead::new(script);
+    let mut image = ToWrite::new(image);
+    let mut lines = ToWrite::new(io::writer(rt));
+    sessions::session_alone(rt.alloc(), &mut script, &mut image, &mut lines)
+}
+
+/// Says how the session ended, where there is something to say, and gives the exit status.
+fn told<R: Eprint>(rt: &R, outcome: &Result<Ended, SessionFault>) -> ExitCode {
+    let (status, text) = report::report(outcome);
+    if !text.is_empty() {
+        let _ = rt.eprintln(text);
+    }
+    ExitCode::from(status)
+}
+
+/// Says why the words are not taken, and gives the exit status.
+fn refused<R: Eprint>(rt: &R, fault: &SettingsFault) -> ExitCode {
+    let _ = match fault {
+        SettingsFault::Parse(error) => rt.eprint(error),
+        SettingsFault::Memory => rt.eprintln("tiledraw: out of memory"),
+    };
+    ExitCode::from(2)
+}
