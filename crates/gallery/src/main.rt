@@ -31,7 +31,7 @@ impl Sink for Digesting {
     }
 }
 
-const EXAMPLES: [&str; 8] = [
+const EXAMPLES: [&str; 17] = [
     "clear.txt",
     "slope.txt",
     "lists.txt",
@@ -40,6 +40,15 @@ const EXAMPLES: [&str; 8] = [
     "cut-strip.txt",
     "cut-in-a-list.txt",
     "faces.txt",
+    "fan.txt",
+    "shared-edges.txt",
+    "pile.txt",
+    "slivers.txt",
+    "far.txt",
+    "large.txt",
+    "ribbon.txt",
+    "mesh.txt",
+    "bowl.txt",
 ];
 
 fn main(rt: HostRuntime) -> ExitCode {
