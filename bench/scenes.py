@@ -1,10 +1,9 @@
 #!/usr/bin/env python3
-"""Writes the benchmark scenes: bench/scenes.py FOLDER.
+"""Prints a benchmark scene: bench/scenes.py SCENE. Each is a script of docs/SCRIPT.md.
 
-Each is a script of docs/SCRIPT.md. The numbers are drawn with a fixed seed, so the scripts are the same each time.
+The numbers are drawn with a fixed seed, so the scripts are the same each time.
 """
 
-import pathlib
 import random
 import sys
 
@@ -36,7 +35,7 @@ def draws(chance, count, side, smallest, largest):
 
 
 def large_triangles():
-    """300 triangles that cover about 100 million pixels."""
+    """300 triangles that cover some 125 million pixels."""
     return ["target 2048 2048"] + draws(random.Random(1), 300, 2048, 700, 1100)
 
 
@@ -83,15 +82,20 @@ def clear():
     return ["target 2048 2048", "i clearc 1 2 3 4"]
 
 
+def long_script():
+    """60 MB of vertices: the time to read and check a script."""
+    chance = random.Random(5)
+    line = "i vb " + " ".join(triangle(chance, 2048, 4.5, 10) for _ in range(21_845))
+    return ["target 1 1"] + [line] * (60_000_000 // len(line) + 1)
+
+
 SCENES = {
-    "clear": clear, "large-triangles": large_triangles, "small-triangles": small_triangles,
+    "clear": clear, "long-script": long_script, "large-triangles": large_triangles, "small-triangles": small_triangles,
     "executed-lists": executed_lists, "idle-pixels": idle_pixels, "indexed-strip": indexed_strip,
 }
 
 if __name__ == "__main__":
-    if len(sys.argv) != 2:
-        sys.exit(__doc__)
-    folder = pathlib.Path(sys.argv[1])
-    folder.mkdir(parents=True, exist_ok=True)
-    for name, make in SCENES.items():
-        (folder / f"{name}.txt").write_text("\n".join(make()) + "\n", encoding="ascii")
+    if len(sys.argv) != 2 or sys.argv[1] not in SCENES:
+        sys.exit(f"{__doc__}\nScenes: {', '.join(SCENES)}")
+    for it in SCENES[sys.argv[1]]():
+        print(it)

@@ -9,6 +9,8 @@ mod play;
 mod players;
 mod recorder;
 mod session;
+#[cfg(test)]
+mod tests;
 
 pub use outcome::{Ended, SessionFault};
 pub use session::session_alone;
