@@ -1,0 +1,2 @@
+mod OperandLemmas
+mod WordLemmas

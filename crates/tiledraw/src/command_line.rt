@@ -1,6 +1,9 @@
 //! The words after the program's name, read by clap.
 
-ghost use Rattle.std.specs.Prelude.{◌≡◌, IfOk};
+ghost use Rattle.std.specs.Prelude.{◌≡◌, [], true, IfOk, IfErr, OnOk, MatchResult, string_bytes};
+ghost use Rattle.clap.specs.Words.{app_of, fault_of, kind_of, takes};
+ghost use Rattle.tiledraw.specs.CommandLine.{AreOperandsOf, IsFaultAt, IsOperand, NeedsOperands, TakesTwo, texts_of, tiledraw};
+ghost use Rattle.tiledraw.specs.declared.settings.SettingsFault.TheVariants.{Memory};
 
 use crate::settings::{Settings, SettingsFault};
 use clap::error::ErrorKind;
@@ -13,12 +16,15 @@ const IMAGE: &str = "OUT.tga";
 
 /// The settings that the words after the program's name ask for.
 pub fn settings(alloc: Global, words: &[String]) -> Result<Settings, SettingsFault>
-    ensures { IfOk result (λ s. s.workers ≡ 0) }
+    ensures operands { IfOk result (AreOperandsOf (texts_of words.now)) }
+    ensures sound { OnOk result (fault_of tiledraw (texts_of words.now) ≡ []) }
+    ensures faults { IfErr result (IsFaultAt (texts_of words.now)) }
+    ensures taken { takes tiledraw (texts_of words.now) ≡ true → IfErr result (λ fault. fault ≡ Memory) }
+    ensures two { TakesTwo (texts_of words.now) result }
 {
     let matches = command(alloc)?.try_get_matches_from(words)?;
-    let (Some(script), Some(image)) = (matches.get_str(SCRIPT), matches.get_str(IMAGE)) else {
-        return Err(SettingsFault::Memory);
-    };
+    let script = matches.get_str(SCRIPT).unwrap();
+    let image = matches.get_str(IMAGE).unwrap();
     Ok(Settings {
         script: copied(alloc, script)?,
         image: copied(alloc, image)?,
@@ -27,7 +33,10 @@ pub fn settings(alloc: Global, words: &[String]) -> Result<Settings, SettingsFau
 }
 
 /// The command `tiledraw SCRIPT OUT.tga`.
-pub fn command<'a>(alloc: Global) -> Result<Command<'a>, AllocError> {
+pub fn command<'a>(alloc: Global) -> Result<Command<'a>, AllocError>
+    ensures app { IfOk result (λ c. app_of c ≡ tiledraw) }
+    ensures needs { IfOk result NeedsOperands }
+{
     let script = required(alloc, SCRIPT).help("The script to draw");
     let image = required(alloc, IMAGE).help("The Truevision TGA image to write");
     Command::new(alloc, "tiledraw")
@@ -38,7 +47,9 @@ pub fn command<'a>(alloc: Global) -> Result<Command<'a>, AllocError> {
 }
 
 /// The parser's error at a word that is not UTF-8.
-pub fn not_text(alloc: Global) -> Result<Error, AllocError> {
+pub fn not_text(alloc: Global) -> Result<Error, AllocError>
+    ensures { IfOk result (λ error. kind_of error ≡ ErrorKind.InvalidValue) }
+{
     let mut command = command(alloc)?;
     command.error(
         ErrorKind::InvalidValue,
@@ -47,11 +58,15 @@ pub fn not_text(alloc: Global) -> Result<Error, AllocError> {
 }
 
 /// A word that has to be there.
-fn required<'a>(alloc: Global, name: &'a str) -> Arg<'a> {
+fn required<'a>(alloc: Global, name: &'a str) -> Arg<'a>
+    ensures { IsOperand name.entry.now result }
+{
     Arg::new(alloc, name).required(true).action(ArgAction::Set)
 }
 
 /// An operand as text of its own.
-fn copied<A: Allocator>(alloc: A, operand: &str) -> Result<String<A>, SettingsFault> {
+pub fn copied<A: Allocator>(alloc: A, operand: &str) -> Result<String<A>, SettingsFault>
+    ensures { MatchResult result (λ text. string_bytes text ≡ operand.now) (λ fault. fault ≡ Memory) }
+{
     Ok(String::from_str(alloc, operand)?)
 }

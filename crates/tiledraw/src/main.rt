@@ -7,6 +7,8 @@
 mod command_line;
 mod report;
 mod settings;
+#[cfg(test)]
+mod tests;
 
 use gfxspec::{FromRead, ToWrite};
 use sessions::{Ended, SessionFault};

@@ -26,7 +26,9 @@ pub enum SettingsFault {
 }
 
 impl From<clap::Error> for SettingsFault {
-    ghost from_gives = { λ error fault. Unit {0} };
+    ghost use Rattle.tiledraw.specs.CommandLine.{IsFaultOf};
+
+    ghost from_gives = { IsFaultOf };
 
     fn from(error: clap::Error) -> SettingsFault {
         if error.kind() == ErrorKind::OutOfMemory {
