@@ -11,6 +11,8 @@
 mod context;
 mod plain_job;
 mod prepare;
+#[cfg(test)]
+mod tests;
 mod work;
 
 pub use context::ImmediateContext;
