@@ -16,7 +16,8 @@ import time
 HERE = pathlib.Path(__file__).resolve().parent
 SCENES = HERE / "scenes.py"
 ALL = [
-    "clear", "long-script", "large-triangles", "small-triangles", "executed-lists", "idle-pixels", "indexed-strip",
+    "clear", "largest-target", "long-script", "large-triangles", "small-triangles", "executed-lists", "idle-pixels",
+    "indexed-strip",
 ]
 PROGRAM = HERE.parent / "crates" / "tiledraw" / "out" / "tiledraw"
 

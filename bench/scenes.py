@@ -82,6 +82,12 @@ def clear():
     return ["target 2048 2048", "i clearc 1 2 3 4"]
 
 
+def largest_target():
+    """The greatest target under one triangle that covers each of its pixels: its third place is the farthest there is."""
+    corners = "0 0 0 1 2 3 4 268435456 0 0 1 2 3 4 0 268435456 0 1 2 3 4"
+    return ["target 2048 2048", f"i vb {corners}", "i topology 4", "i draw 3 0", "i pixel 0 0", "i pixel 2047 2047"]
+
+
 def long_script():
     """60 MB of vertices: the time to read and check a script."""
     chance = random.Random(5)
@@ -90,7 +96,7 @@ def long_script():
 
 
 SCENES = {
-    "clear": clear, "long-script": long_script, "large-triangles": large_triangles, "small-triangles": small_triangles,
+    "clear": clear, "largest-target": largest_target, "long-script": long_script, "large-triangles": large_triangles, "small-triangles": small_triangles,
     "executed-lists": executed_lists, "idle-pixels": idle_pixels, "indexed-strip": indexed_strip,
 }
 
