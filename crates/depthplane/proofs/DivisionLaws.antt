@@ -1,5 +1,5 @@
 -- Divisions of sums.
-use Rattle.std.proofs.Common.{◌≡◌, ◌∙◌, ap, sym, subst, refl, arith, ℕ, zero, suc, ◌+◌, ◌*◌, ◌/◌, ◌%◌, ◌<◌, ◌≤◌}
+use Rattle.std.proofs.Common.{◌≡◌, ◌∙◌, ap, sym, refl, arith, ℕ, zero, suc, ◌+◌, ◌/◌, ◌%◌, ◌≤◌}
 use Rattle.std.proofs.Common.{w64, FitsSigned, true, false, ◌^◌}
 use Rattle.std.specs.Prelude.{ℤ, unsigned_abs, int_lt, pos, negsuc, ◌+ℤ◌, ◌-ℤ◌, ◌*ℤ◌, ◌≤ℤ◌, ◌<ℤ◌}
 use Rattle.std.specs.Int.{int_div_euclid, int_rem_euclid}
@@ -7,7 +7,7 @@ use Rattle.std.proofs.lemmas.Nat.{div-add-mod', mod_below}
 use Rattle.std.proofs.lemmas.Int.{ints, by_lt_z}
 use Rattle.gfxspec.proofs.Integers.{spread}
 use Rattle.depthplane.specs.declared.division.Divided.{Divided}
-use Rattle.depthplane.specs.Division.{IsDivision, IsDivisor, IsRest}
+use Rattle.depthplane.specs.Division.{IsDivision, IsRest}
 
 -- a number is its quotient times the divisor and the rest
 pub record Splits (n d q r : ℤ) : Type 0 where

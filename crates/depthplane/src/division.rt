@@ -16,9 +16,10 @@ pub(crate) fn divide(number: i64, divisor: i64) -> Divided
     ensures exact { IsDivision number divisor result }
     ensures rest { IsRest divisor result.remainder }
 {
+    let quotient = number.div_euclid(divisor);
     Divided {
-        quotient: number.div_euclid(divisor).rem_euclid(4_294_967_296) as u32,
-        remainder: number.rem_euclid(divisor),
+        quotient: quotient.rem_euclid(4_294_967_296) as u32,
+        remainder: number.wrapping_sub(quotient.wrapping_mul(divisor)),
     }
 }
 

@@ -58,9 +58,12 @@ pub fn write8(write: ColorWrite, d: &[u32; 8]) -> [u32; 8]
 pub fn select8(bits: u8, a: &[u32; 8], b: &[u32; 8]) -> [u32; 8]
     ensures { (j : ℕ) → j < 8 → slice_index result j ≡ (if bit_at bits j == 1 then slice_index a.now j else slice_index b.now j) }
 {
+    let wide = u32::from(bits);
+    let (ones, others) = (*a, *b);
     let mut chosen = [0; 8];
     for j in 0..8usize {
-        chosen[j] = if bits >> j & 1 == 1 { a[j] } else { b[j] };
+        let (one, other) = (ones[j], others[j]);
+        chosen[j] = if wide >> j & 1 == 1 { one } else { other };
     }
     chosen
 }

@@ -1,5 +1,5 @@
-use Rattle.std.proofs.Common.{rules, pos, w64, FitsSigned, ◌+ℤ◌, ◌-ℤ◌, arith}
-use Rattle.std.proofs.lemmas.Int.{ints, to_z-of_z}
+use Rattle.std.proofs.Common.{rules, w64, FitsSigned, ◌+ℤ◌, ◌-ℤ◌}
+use Rattle.std.proofs.lemmas.Int.{to_z-of_z}
 use Rattle.depthplane.proofs.DivisionLaws.{sum_below, sum_above, test_below, test_above, fits_sum, fits_rest}
 use Rattle.depthplane.proofs.division.Divided.plus.Goals as goal
 

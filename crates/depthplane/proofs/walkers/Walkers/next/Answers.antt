@@ -1,4 +1,4 @@
-use Rattle.std.proofs.Common.{rules, ◌≡◌, ◌∙◌, ap, ℕ, ◌+◌, ◌<◌, w64, FitsSigned, subst}
+use Rattle.std.proofs.Common.{rules, ◌≡◌, ◌∙◌, ap, ℕ, ◌+◌, w64, FitsSigned, subst}
 use Rattle.std.proofs.lemmas.Int.{to_z-of_z}
 use Rattle.gfxspec.specs.Raster.{centre}
 use Rattle.depthplane.specs.Height.{DeepTriangle, height, size_of}
