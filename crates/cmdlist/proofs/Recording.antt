@@ -1,16 +1,16 @@
 -- One more command in a recorder.
-use Rattle.std.proofs.Common.{◌≡◌, ◌∙◌, ap, sym, subst, refl, ℕ, ◌+◌, ◌-◌, ◌<◌, ◌≤◌, arith, Bool, true, false, cond, List, [], ◌∷◌, ◌++◌, length, map}
-use Rattle.std.specs.Prelude.{ℤ, Option, Some, None, nat_lt, ◌||◌}
+use Rattle.std.proofs.Common.{◌≡◌, ◌∙◌, ap, sym, subst, refl, ℕ, ◌+◌, ◌<◌, ◌≤◌, arith, Bool, true, false, cond, List, [], ◌∷◌, ◌++◌, length, map}
+use Rattle.std.specs.Prelude.{ℤ, Some, None, Result, Ok, Err, IfErr, nat_lt, ◌||◌}
 use Rattle.std.proofs.lemmas.List.{length_push, length-append, map-append}
 use Rattle.std.proofs.lemmas.Bool.Decides.{nat_tests}
 use Rattle.gfxspec.specs.declared.TheConstants.{LIST_LIMIT}
 use Rattle.gfxspec.specs.Assembly.{draw_indexed_primitives}
-use Rattle.gfxspec.specs.Commands.{Command, SetVertices, SetIndices, SetTopology, SetRaster, SetScissor, SetDepthStencil, SetBlend, Draw, DrawIndexed, ClearColor, ClearDepthStencil, Begin, End, Kept}
+use Rattle.gfxspec.specs.Commands.{Command, DrawIndexed, Begin, Kept}
 use Rattle.gfxspec.specs.Recorded.{settings_after, issues, queries_open, triangle_count}
 use Rattle.gfxspec.specs.declared.error.GfxError.{GfxError}
 use Rattle.gfxspec.specs.State.{Settings as PlainSettings}
 use Rattle.gfxspec.specs.Refusals.{Row, first_row, list_rows, too_long, AreSound, IsAccepted, AreAccepted}
-use Rattle.meaning.specs.OneMore.{settings_with, queries_with, triangles_of}
+use Rattle.meaning.specs.OneMore.{settings_with, queries_with}
 use Rattle.meaning.proofs.Nearest.{settings_after-push}
 use Rattle.meaning.proofs.Growing.{issues-push, triangle_count-push, queries_open-push, accepted-push, open_few}
 use Rattle.meaning.proofs.Accepting.{none_of, sound_after}
@@ -94,3 +94,7 @@ pub refused_draw : {A : Type 0} (c : Inside A) (cs : List Command) (s : PlainSet
 refused_draw c cs s count start base e r same is h =
     first_row-more (draw_indexed_rows (settings_after cs) count start base) (too_long cs (length (draw_indexed_primitives (settings_after cs) count start base)) ∷ []) e
     (subst (λ x. first_row (draw_indexed_rows x count start base) ≡ Some e) (is ∙ r.settings ∙ ap settings_after same) h)
+
+pub refused_draws : {A : Type 0} (c : Inside A) (cs : List Command) (s : PlainSettings) (count start : ℕ) (base : ℤ) (r : Result ℕ GfxError) → IsRecorded c → commands_of c ≡ cs → s ≡ settings_value c.settings → IfErr r (λ e. first_row (draw_indexed_rows s count start base) ≡ Some e) → IfErr r (λ e. first_row (list_rows cs (DrawIndexed count start base)) ≡ Some e)
+refused_draws c cs s count start base (Ok n) h same is refused = refused
+refused_draws c cs s count start base (Err e) h same is refused = refused_draw c cs s count start base e h same is refused

@@ -3,7 +3,7 @@ use Rattle.std.specs.Prelude.{ℕ, ◌≡◌, ◌≤◌, Bool, true, false, List
 use Rattle.gfxspec.specs.declared.TheConstants.{LIST_LIMIT}
 use Rattle.gfxspec.specs.Commands.{Command, Begin, Kept}
 use Rattle.gfxspec.specs.Recorded.{settings_after, issues, queries_open, triangle_count}
-use Rattle.gfxspec.specs.Refusals.{Row, first_row, list_rows, too_long, AreAccepted}
+use Rattle.gfxspec.specs.Refusals.{first_row, list_rows, too_long, AreAccepted}
 use Rattle.meaning.specs.OneMore.{triangles_of}
 use Rattle.cmdlist.specs.Seen.{settings_value, command_value}
 use Rattle.cmdlist.specs.declared.context.DeferredContext.TheInside as context
@@ -24,6 +24,11 @@ pub record IsRecorded {A : Type 0} (c : context.Inside A) : Type 0 where
   pub few_issues : c.issues ≤ 64
   pub opened : c.open_queries.items ≡ queries_open (commands_of c)
 
+-- commands of a finished list are accepted ones, and leave no query open
+pub record IsFinished (commands : List Command) : Type 0 where
+  pub accepted : AreAccepted commands
+  pub none_open : queries_open commands ≡ []
+
 -- the commands of a finished list
 abbrev pub list_commands : {A : Type 0} → list.Inside A → List Command
 list_commands l = map command_value l.commands.items
@@ -36,6 +41,11 @@ is_call c = true
 abbrev pub is_begin : Command → Bool
 is_begin (Begin query) = true
 is_begin c = false
+
+-- nothing but the kept state of the list before
+abbrev pub is_kept_alone : List Command → Bool
+is_kept_alone (Kept s ∷ []) = true
+is_kept_alone list = false
 
 -- Of the rows of a call that draws so many triangles only that on the length of the list may apply.
 pub record OnlyLength (list : List Command) (c : Command) (triangles : ℕ) : Type 0 where

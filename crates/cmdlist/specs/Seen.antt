@@ -1,8 +1,6 @@
 -- Commands and settings of the code, as the definitions have them.
-use Rattle.std.specs.Prelude.{ℕ, List, [], Option, Some, None, unwrap_or}
 use Rattle.gfxspec.specs.State.{Settings}
 use Rattle.gfxspec.specs.Commands.{Command, SetVertices, SetIndices, SetTopology, SetRaster, SetScissor, SetDepthStencil, SetBlend, Draw, DrawIndexed, ClearColor, ClearDepthStencil, Begin, End, Kept}
-use Rattle.gfxspec.specs.Recorded.{vertices_set, indices_set, topology_set, raster_set, scissor_set, depth_stencil_set, reference_set, blend_set}
 use Rattle.cmdlist.specs.declared.settings.Settings as owned
 use Rattle.cmdlist.specs.declared.settings.State as lent
 use Rattle.cmdlist.specs.declared.command.Command as recorded

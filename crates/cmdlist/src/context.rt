@@ -1,31 +1,28 @@
 //! Recording.
 
-ghost use Rattle.std.specs.Prelude.{◌≡◌, ◌<◌, ◌≤◌, ◌+◌, ◌++◌, ◌∷◌, [], ℕ, ℤ, List, length, map, IfOk, OnOk, OnErr, IsTrue, not, true, ◌==◌, Option, is_none, nat_le, IfErr};
-ghost use Rattle.std.specs.List.{list_all, list_any};
+ghost use Rattle.std.specs.Prelude.{◌≡◌, ◌<◌, ◌++◌, ◌∷◌, [], length, map, nat_le, IfErr, IfOk, IsTrue, OnErr, OnOk, Some, false, true};
+ghost use Rattle.std.specs.List.{list_all};
 ghost use Rattle.arrayvec.specs.ArrayVec.{array_vec_len};
-ghost use Rattle.gfxspec.specs.declared.geometry.Vertex.{Vertex};
-ghost use Rattle.gfxspec.specs.declared.state.Topology.{Topology};
 ghost use Rattle.gfxspec.specs.Vertices.{is_in_range};
-ghost use Rattle.gfxspec.specs.State.{Settings as PlainSettings};
-ghost use Rattle.gfxspec.specs.Assembly.{part, draw_primitives, draw_indexed_primitives};
-ghost use Rattle.gfxspec.specs.Commands.{SetVertices, SetIndices, SetTopology, SetRaster, SetScissor, SetDepthStencil, SetBlend, Draw, DrawIndexed, ClearColor, ClearDepthStencil, Begin, End, Kept};
-ghost use Rattle.gfxspec.specs.Recorded.{settings_after, issues, queries_open, after_finish};
-ghost use Rattle.gfxspec.specs.Refusals.{AnswersBy, AreAccepted, AreSound, list_rows, finish_rows, some_open, is_among, is_bad_scissor, too_long};
+ghost use Rattle.gfxspec.specs.Commands.{Kept};
+ghost use Rattle.gfxspec.specs.Recorded.{issues, queries_open, after_finish};
+ghost use Rattle.gfxspec.specs.Refusals.{AnswersBy, AreAccepted, AreSound, first_row, list_rows, finish_rows, some_open, is_among, is_bad_scissor, too_long};
 ghost use Rattle.meaning.specs.OneMore.{queries_with};
 ghost use Rattle.cmdlist.specs.Recorder.{is_begin};
+ghost use Rattle.cmdlist.specs.Calls.{call_value};
 ghost use Rattle.cmdlist.specs.Seen.{command_value, settings_value};
 
-use crate::buffer::Buffer;
+use crate::call::{Call, command_of};
 use crate::command::Command;
+use crate::device_context::DeviceContext;
 use crate::drawing::{drawn_indexed_triangles, drawn_triangles};
 use crate::list::CommandList;
 use crate::settings::Settings;
 use arrayvec::ArrayVec;
 use gfxspec::{
     BUFFER_LIMIT, COORDINATE_LIMIT, DEPTH_MAX, GfxError, ISSUE_LIMIT, LIST_LIMIT, PixelRect,
-    QUERY_LIMIT, SIDE_LIMIT, Topology, Vertex,
+    QUERY_LIMIT, SIDE_LIMIT, Vertex,
 };
-use states::{BlendState, DepthStencilState, RasterState};
 use std::alloc::Allocator;
 use std::marker::Model;
 use std::mem;
@@ -97,7 +94,7 @@ impl<A: Allocator> Model for DeferredContext<A> {
 }
 
 impl<A: Allocator + Copy> DeferredContext<A> {
-    ghost use Rattle.cmdlist.specs.Recorder.{OnlyLength};
+    ghost use Rattle.cmdlist.specs.Recorder.{OnlyLength, is_kept_alone};
 
     /// A context that has recorded nothing.
     pub fn new(alloc: A) -> Self
@@ -140,197 +137,60 @@ impl<A: Allocator + Copy> DeferredContext<A> {
         self.issues >= ISSUE_LIMIT
     }
 
-    /// Records a call of which every other row was looked at.
-    fn record(&mut self, command: Command<A>, triangles: u32) -> Result<(), GfxError>
-        requires { OnlyLength self.old (command_value command) triangles }
-        ensures answer { AnswersBy (list_rows self.old (command_value command)) result }
-        ensures ok { OnOk result (self.new ≡ self.old ++ command_value command ∷ []) }
-        ensures err { OnErr result (self.new ≡ self.old) }
+    /// Looks at each row of a call but that on the length of the list, and counts the triangles that it draws.
+    fn examine_but_length(&self, call: &Call<'_>) -> Result<u32, GfxError>
+        ensures ok { IfOk result (λ triangles. OnlyLength self.now (call_value call.now) triangles) }
+        ensures err { IfErr result (λ e. first_row (list_rows self.now (call_value call.now)) ≡ Some e) }
     {
+        match *call {
+            Call::SetVertices(vertices) if vertices.len() > BUFFER_LIMIT => {
+                Err(GfxError::VertexCount)
+            }
+            Call::SetVertices(vertices) if !are_in_range(vertices) => Err(GfxError::VertexRange),
+            Call::SetIndices(indices) if indices.len() > BUFFER_LIMIT => Err(GfxError::VertexCount),
+            Call::SetScissor(scissor) if is_scissor_bad(scissor) => Err(GfxError::ScissorRect),
+            Call::Draw(count, start) => drawn_triangles(&self.settings.state(), count, start),
+            Call::DrawIndexed(count, start, base) => {
+                drawn_indexed_triangles(&self.settings.state(), count, start, base)
+            }
+            Call::ClearDepthStencil(depth, _) if depth > DEPTH_MAX => Err(GfxError::VertexRange),
+            Call::Begin(query) if query >= QUERY_LIMIT => Err(GfxError::QueryNumber),
+            Call::Begin(query) if self.is_open(query) => Err(GfxError::QueryOpen),
+            Call::Begin(_) if self.has_all_issues() => Err(GfxError::TooManyIssues),
+            Call::End(query) if query >= QUERY_LIMIT => Err(GfxError::QueryNumber),
+            Call::End(query) if !self.is_open(query) => Err(GfxError::QueryNotOpen),
+            _ => Ok(0),
+        }
+    }
+
+    /// Looks at each row of a call, and counts the triangles that it draws.
+    fn examine(&self, call: &Call<'_>) -> Result<u32, GfxError>
+        ensures answer { AnswersBy (list_rows self.now (call_value call.now)) result }
+        ensures only { IfOk result (λ triangles. OnlyLength self.now (call_value call.now) triangles) }
+        ensures room { IfOk result (λ triangles. (too_long self.now triangles).1 ≡ false) }
+    {
+        let triangles = self.examine_but_length(call)?;
         if self.is_full(triangles) {
             return Err(GfxError::ListTooLong);
         }
-        if self.commands.try_reserve(1).is_err() || self.settings.change(&command).is_err() {
-            return Err(GfxError::OutOfMemory);
-        }
+        Ok(triangles)
+    }
+
+    /// Appends a command that no row refuses.
+    fn append(&mut self, command: Command<A>, triangles: u32) -> Result<(), GfxError>
+        requires only { OnlyLength self.old (command_value command) triangles }
+        requires room { (too_long self.old triangles).1 ≡ false }
+        ensures ok { OnOk result (self.new ≡ self.old ++ command_value command ∷ []) }
+        ensures memory { IfErr result (λ e. e ≡ GfxError.OutOfMemory) }
+        ensures err { OnErr result (self.new ≡ self.old) }
+    {
+        self.commands.try_reserve(1)?;
+        self.settings.change(&command)?;
         self.triangles += triangles;
         self.issues += u32::from(begins(&command));
         note_query(&mut self.open_queries, &command);
         self.commands.push(command).unwrap();
         Ok(())
-    }
-
-    /// Sets the vertices. Refused with VertexCount, VertexRange, ListTooLong, OutOfMemory.
-    pub fn ia_set_vertices(&mut self, vertices: &[Vertex]) -> Result<(), GfxError>
-        ensures answer { AnswersBy (list_rows self.old (SetVertices vertices.now)) result }
-        ensures ok { OnOk result (self.new ≡ self.old ++ SetVertices vertices.now ∷ []) }
-        ensures err { OnErr result (self.new ≡ self.old) }
-    {
-        if vertices.len() > BUFFER_LIMIT {
-            return Err(GfxError::VertexCount);
-        }
-        if !are_in_range(vertices) {
-            return Err(GfxError::VertexRange);
-        }
-        if self.is_full(0) {
-            return Err(GfxError::ListTooLong);
-        }
-        let alloc = *self.commands.allocator();
-        let Ok(vertices) = Buffer::from_slice(alloc, vertices) else {
-            return Err(GfxError::OutOfMemory);
-        };
-        self.record(Command::SetVertices(vertices), 0)
-    }
-
-    /// Sets the indices. Refused with VertexCount, ListTooLong, OutOfMemory.
-    pub fn ia_set_indices(&mut self, indices: &[u16]) -> Result<(), GfxError>
-        ensures answer { AnswersBy (list_rows self.old (SetIndices indices.now)) result }
-        ensures ok { OnOk result (self.new ≡ self.old ++ SetIndices indices.now ∷ []) }
-        ensures err { OnErr result (self.new ≡ self.old) }
-    {
-        if indices.len() > BUFFER_LIMIT {
-            return Err(GfxError::VertexCount);
-        }
-        if self.is_full(0) {
-            return Err(GfxError::ListTooLong);
-        }
-        let alloc = *self.commands.allocator();
-        let Ok(indices) = Buffer::from_slice(alloc, indices) else {
-            return Err(GfxError::OutOfMemory);
-        };
-        self.record(Command::SetIndices(indices), 0)
-    }
-
-    /// Sets the topology. Refused with ListTooLong, OutOfMemory.
-    pub fn ia_set_topology(&mut self, topology: Topology) -> Result<(), GfxError>
-        ensures answer { AnswersBy (list_rows self.old (SetTopology topology)) result }
-        ensures ok { OnOk result (self.new ≡ self.old ++ SetTopology topology ∷ []) }
-        ensures err { OnErr result (self.new ≡ self.old) }
-    {
-        self.record(Command::SetTopology(topology), 0)
-    }
-
-    /// Sets the rasterizer state. Refused with ListTooLong, OutOfMemory.
-    pub fn rs_set_state(&mut self, raster: RasterState) -> Result<(), GfxError>
-        ensures answer { AnswersBy (list_rows self.old (SetRaster raster)) result }
-        ensures ok { OnOk result (self.new ≡ self.old ++ SetRaster raster ∷ []) }
-        ensures err { OnErr result (self.new ≡ self.old) }
-    {
-        self.record(Command::SetRaster(raster), 0)
-    }
-
-    /// Sets the scissor rectangle, in pixels. Refused with ScissorRect, ListTooLong, OutOfMemory.
-    pub fn rs_set_scissor(&mut self, scissor: PixelRect) -> Result<(), GfxError>
-        ensures answer { AnswersBy (list_rows self.old (SetScissor scissor)) result }
-        ensures ok { OnOk result (self.new ≡ self.old ++ SetScissor scissor ∷ []) }
-        ensures err { OnErr result (self.new ≡ self.old) }
-    {
-        if is_scissor_bad(scissor) {
-            return Err(GfxError::ScissorRect);
-        }
-        self.record(Command::SetScissor(scissor), 0)
-    }
-
-    /// Sets the depth-stencil state with its reference. Refused with ListTooLong, OutOfMemory.
-    pub fn om_set_depth_stencil(
-        &mut self,
-        depth_stencil: DepthStencilState,
-        reference: u8,
-    ) -> Result<(), GfxError>
-        ensures answer { AnswersBy (list_rows self.old (SetDepthStencil depth_stencil reference)) result }
-        ensures ok { OnOk result (self.new ≡ self.old ++ SetDepthStencil depth_stencil reference ∷ []) }
-        ensures err { OnErr result (self.new ≡ self.old) }
-    {
-        self.record(Command::SetDepthStencil(depth_stencil, reference), 0)
-    }
-
-    /// Sets the blend state. Refused with ListTooLong, OutOfMemory.
-    pub fn om_set_blend(&mut self, blend: BlendState) -> Result<(), GfxError>
-        ensures answer { AnswersBy (list_rows self.old (SetBlend blend)) result }
-        ensures ok { OnOk result (self.new ≡ self.old ++ SetBlend blend ∷ []) }
-        ensures err { OnErr result (self.new ≡ self.old) }
-    {
-        self.record(Command::SetBlend(blend), 0)
-    }
-
-    /// Draws vertices: a count, and the first place. Refused with TopologyUnset, DrawRange, ListTooLong, OutOfMemory.
-    pub fn draw(&mut self, count: u32, start: u32) -> Result<(), GfxError>
-        ensures answer { AnswersBy (list_rows self.old (Draw count start)) result }
-        ensures ok { OnOk result (self.new ≡ self.old ++ Draw count start ∷ []) }
-        ensures err { OnErr result (self.new ≡ self.old) }
-    {
-        match drawn_triangles(&self.settings.state(), count, start) {
-            Ok(triangles) => self.record(Command::Draw(count, start), triangles),
-            Err(refusal) => Err(refusal),
-        }
-    }
-
-    /// Draws vertices by indices: a count, the first place in the indices, and what is added to each index. Refused with
-    /// TopologyUnset, DrawRange, IndexRange, ListTooLong, OutOfMemory.
-    pub fn draw_indexed(&mut self, count: u32, start: u32, base: i32) -> Result<(), GfxError>
-        ensures answer { AnswersBy (list_rows self.old (DrawIndexed count start base)) result }
-        ensures ok { OnOk result (self.new ≡ self.old ++ DrawIndexed count start base ∷ []) }
-        ensures err { OnErr result (self.new ≡ self.old) }
-    {
-        match drawn_indexed_triangles(&self.settings.state(), count, start, base) {
-            Ok(triangles) => self.record(Command::DrawIndexed(count, start, base), triangles),
-            Err(refusal) => Err(refusal),
-        }
-    }
-
-    /// Clears the colour of every pixel of the target, whatever the state is. Refused with ListTooLong, OutOfMemory.
-    pub fn clear_color(&mut self, rgba: [u8; 4]) -> Result<(), GfxError>
-        ensures answer { AnswersBy (list_rows self.old (ClearColor rgba)) result }
-        ensures ok { OnOk result (self.new ≡ self.old ++ ClearColor rgba ∷ []) }
-        ensures err { OnErr result (self.new ≡ self.old) }
-    {
-        self.record(Command::ClearColor(rgba), 0)
-    }
-
-    /// Clears depth and stencil of every pixel of the target, whatever the state is. Refused with VertexRange for a depth
-    /// above 16,777,215, ListTooLong, OutOfMemory.
-    pub fn clear_depth_stencil(&mut self, depth: u32, stencil: u8) -> Result<(), GfxError>
-        ensures answer { AnswersBy (list_rows self.old (ClearDepthStencil depth stencil)) result }
-        ensures ok { OnOk result (self.new ≡ self.old ++ ClearDepthStencil depth stencil ∷ []) }
-        ensures err { OnErr result (self.new ≡ self.old) }
-    {
-        if depth > DEPTH_MAX {
-            return Err(GfxError::VertexRange);
-        }
-        self.record(Command::ClearDepthStencil(depth, stencil), 0)
-    }
-
-    /// Begins a query, 0 to 63. Refused with QueryNumber, QueryOpen, TooManyIssues, ListTooLong, OutOfMemory.
-    pub fn begin(&mut self, query: u32) -> Result<(), GfxError>
-        ensures answer { AnswersBy (list_rows self.old (Begin query)) result }
-        ensures ok { OnOk result (self.new ≡ self.old ++ Begin query ∷ []) }
-        ensures err { OnErr result (self.new ≡ self.old) }
-    {
-        if query >= QUERY_LIMIT {
-            return Err(GfxError::QueryNumber);
-        }
-        if self.is_open(query) {
-            return Err(GfxError::QueryOpen);
-        }
-        if self.has_all_issues() {
-            return Err(GfxError::TooManyIssues);
-        }
-        self.record(Command::Begin(query), 0)
-    }
-
-    /// Ends a query that is open. Refused with QueryNumber, QueryNotOpen, ListTooLong, OutOfMemory.
-    pub fn end(&mut self, query: u32) -> Result<(), GfxError>
-        ensures answer { AnswersBy (list_rows self.old (End query)) result }
-        ensures ok { OnOk result (self.new ≡ self.old ++ End query ∷ []) }
-        ensures err { OnErr result (self.new ≡ self.old) }
-    {
-        if query >= QUERY_LIMIT {
-            return Err(GfxError::QueryNumber);
-        }
-        if !self.is_open(query) {
-            return Err(GfxError::QueryNotOpen);
-        }
-        self.record(Command::End(query), 0)
     }
 
     /// The list that was recorded. The next one begins with the kept state, as one command, if `restore` says so, and else
@@ -349,20 +209,6 @@ impl<A: Allocator + Copy> DeferredContext<A> {
         Ok(done.into_list())
     }
 
-    /// Drops the recorded commands, as after a finish of their list. Refused with OutOfMemory alone; it takes no memory
-    /// where the kept state alone is recorded already.
-    pub fn restart(&mut self, restore: bool) -> Result<(), GfxError>
-        ensures next { OnOk result (self.new ≡ after_finish restore self.old) }
-        ensures memory { IfErr result (λ e. e ≡ GfxError.OutOfMemory) }
-        ensures err { OnErr result (self.new ≡ self.old) }
-    {
-        if restore && self.is_kept_alone() {
-            return Ok(());
-        }
-        *self = self.next(restore)?;
-        Ok(())
-    }
-
     /// The commands of the list so far, each accepted behind those before it.
     pub fn commands(&self) -> &[Command<A>]
         ensures commands { map command_value result.now ≡ self.now }
@@ -371,15 +217,16 @@ impl<A: Allocator + Copy> DeferredContext<A> {
         self.commands.as_slice()
     }
 
-    /// Whether the kept state is all that is recorded.
-    fn is_kept_alone(&self) -> bool
-        ensures { IsTrue result → after_finish true self.now ≡ self.now }
+    /// Whether the list holds the kept state alone. A finish that keeps the state then begins the same list again.
+    pub fn is_kept_state_alone(&self) -> bool
+        ensures value { result ≡ is_kept_alone self.now }
+        ensures same { IsTrue result → after_finish true self.now ≡ self.now }
     {
         matches!(self.commands.as_slice(), [Command::Kept(_)])
     }
 
-    /// The context for the next list. Refused with OutOfMemory alone.
-    fn next(&self, restore: bool) -> Result<Self, GfxError>
+    /// The context for the list behind this one, as a finish makes it. Refused with OutOfMemory alone.
+    pub fn next(&self, restore: bool) -> Result<Self, GfxError>
         ensures next { IfOk result (λ next. next ≡ after_finish restore self.now) }
         ensures memory { IfErr result (λ e. e ≡ GfxError.OutOfMemory) }
     {
@@ -387,14 +234,14 @@ impl<A: Allocator + Copy> DeferredContext<A> {
         if !restore {
             return Ok(DeferredContext::new(alloc));
         }
-        let (Ok(kept), Ok(settings)) = (self.settings.share(), self.settings.share()) else {
-            return Err(GfxError::OutOfMemory);
-        };
+        let kept = self.settings.share()?;
+        let settings = self.settings.share()?;
         DeferredContext::with_settings(alloc, kept, settings)
     }
 
-    /// The recorded commands as a list.
+    /// The recorded commands as a list, where no query is open.
     fn into_list(self) -> CommandList<A>
+        requires { queries_open self ≡ [] }
         ensures { result ≡ self }
     {
         CommandList {
@@ -409,13 +256,9 @@ impl<A: Allocator + Copy> DeferredContext<A> {
         ensures kept { IfOk result (λ context. context ≡ Kept (settings_value settings) ∷ []) }
         ensures memory { IfErr result (λ e. e ≡ GfxError.OutOfMemory) }
     {
-        let Ok(kept) = Box::new(alloc, kept) else {
-            return Err(GfxError::OutOfMemory);
-        };
+        let kept = Box::new(alloc, kept)?;
         let mut commands = Vec::new(alloc);
-        if commands.push(Command::Kept(kept)).is_err() {
-            return Err(GfxError::OutOfMemory);
-        }
+        commands.push(Command::Kept(kept))?;
         Ok(DeferredContext {
             commands,
             settings,
@@ -424,4 +267,20 @@ impl<A: Allocator + Copy> DeferredContext<A> {
             open_queries: ArrayVec::new(),
         })
     }
+}
+
+impl<A: Allocator + Copy> DeviceContext for DeferredContext<A> {
+    ghost use Rattle.std.specs.Prelude.{◌++◌, ◌∷◌, [], refl};
+
+    ghost recorded = { λ commands. commands };
+
+    ghost with = { λ commands c. commands ++ c ∷ [] };
+
+    fn record(&mut self, call: &Call<'_>) -> Result<(), GfxError> {
+        let triangles = self.examine(call)?;
+        let command = command_of(*self.commands.allocator(), call)?;
+        self.append(command, triangles)
+    }
+
+    ghost appends = { λ commands c. refl };
 }

@@ -17,7 +17,7 @@ use Rattle.gfxspec.specs.Items.{Drawn, opening, after_items, issue_count}
 use Rattle.gfxspec.specs.Commands.{Command, SetVertices, SetIndices, SetTopology, SetRaster, SetScissor, Draw, DrawIndexed, ClearColor, ClearDepthStencil, Begin, End}
 use Rattle.gfxspec.specs.Recorded.{items, triangle_count}
 use Rattle.gfxspec.specs.Session.{Step, Records, Executes, Flushes, items_of_session, settings_now, last_issue, pending}
-use Rattle.gfxspec.specs.Refusals.{first_row, list_rows, finish_rows, flush_rows, pixel_rows, query_rows}
+use Rattle.gfxspec.specs.Refusals.{first_row, list_rows, finish_rows, worker_rows, flush_rows, flush_rows_by, pixel_rows, query_rows, query_rows_by}
 use Rattle.gfxspec.specs.Tiles.{tile_count, tile_of, tile_rect}
 use Rattle.gfxspec.proofs.Vectors.{at, grey, upper_left, count_of}
 
@@ -86,6 +86,10 @@ queries = (refl, refl, refl, refl, refl, refl, refl)
 
 ends : (first_row (finish_rows (Begin 0 ∷ [])) ≡ Some E.QueryLeftOpen) × (first_row (finish_rows (issued 1)) ≡ None) × (first_row (flush_rows (0 ∷ [])) ≡ Some E.QueryOpen) × (first_row (pixel_rows (of_size 4 4) [] 3 3) ≡ None) × (first_row (pixel_rows (of_size 4 4) (0 ∷ []) 4 0) ≡ Some E.PixelRange) × (first_row (query_rows (0 ∷ []) None 64) ≡ Some E.QueryNumber) × (first_row (query_rows [] None 0) ≡ Some E.NotIssued)
 ends = (refl, refl, refl, refl, refl, refl, refl)
+
+-- an open query is refused before too many workers, and these before a query that has no result
+by_workers : (first_row (flush_rows_by (worker_rows 16) (0 ∷ [])) ≡ Some E.QueryOpen) × (first_row (flush_rows_by (worker_rows 16) []) ≡ Some E.WorkerCount) × (first_row (flush_rows_by (worker_rows 15) []) ≡ None) × (first_row (query_rows_by (worker_rows 16) [] None 0) ≡ Some E.WorkerCount) × (first_row (query_rows_by (worker_rows 15) [] None 0) ≡ Some E.NotIssued)
+by_workers = (refl, refl, refl, refl, refl)
 
 -- a full list takes no command, and one of as many triangles as it may have takes a clear
 full : (list : List Command) → length list ≡ 65536 → refused list (ClearColor (grey 0)) ≡ Some E.ListTooLong

@@ -1,9 +1,9 @@
 -- When a call is refused: of each call its rows, a refusal and its test, in the order in which they are looked at (this project's own; the numbers stand in `Error`).
 use Rattle.std.specs.Prelude.{ℕ, ◌+◌, ◌≡◌, ◌⊎◌, ℤ, pos, ◌+ℤ◌, int_le, int_lt, nat_lt, nat_le, ◌==◌, Bool, true, false, not, ◌&&◌, ◌||◌, List, [], ◌∷◌, ◌++◌, length, Option, Some, None, is_none, Result, Ok, Err, if◌then◌else◌}
 use Rattle.std.specs.List.{list_any, list_all}
-use Rattle.gfxspec.specs.declared.TheConstants.{SIDE_LIMIT, DEPTH_MAX, BUFFER_LIMIT, LIST_LIMIT, QUERY_LIMIT, ISSUE_LIMIT}
+use Rattle.gfxspec.specs.declared.TheConstants.{SIDE_LIMIT, DEPTH_MAX, BUFFER_LIMIT, LIST_LIMIT, QUERY_LIMIT, ISSUE_LIMIT, WORKER_LIMIT}
 use Rattle.gfxspec.specs.declared.error.GfxError.{GfxError}
-use Rattle.gfxspec.specs.declared.error.GfxError.TheVariants.{OutOfMemory, VertexRange, VertexCount, DrawRange, IndexRange, TopologyUnset, ScissorRect, QueryOpen, QueryNotOpen, QueryNumber, QueryLeftOpen, ListTooLong, TooManyIssues, PixelRange, NotIssued}
+use Rattle.gfxspec.specs.declared.error.GfxError.TheVariants.{OutOfMemory, VertexRange, VertexCount, DrawRange, IndexRange, TopologyUnset, ScissorRect, QueryOpen, QueryNotOpen, QueryNumber, QueryLeftOpen, ListTooLong, TooManyIssues, PixelRange, WorkerCount, NotIssued}
 use Rattle.gfxspec.specs.declared.geometry.PixelRect.{PixelRect}
 use Rattle.gfxspec.specs.declared.geometry.Size.{Size}
 use Rattle.gfxspec.specs.declared.state.Topology.{Topology}
@@ -90,18 +90,30 @@ some_open opened = not (length opened == 0)
 abbrev pub finish_rows : List Command → List Row
 finish_rows list = (QueryLeftOpen, some_open (queries_open list)) ∷ []
 
--- a call of the immediate context that runs the pending commands
-abbrev pub flush_rows : List ℕ → List Row
-flush_rows opened = (QueryOpen, some_open opened) ∷ []
+-- Calls of the immediate context that run the pending commands. `crew` has the rows on who runs them: none where the caller does alone.
+abbrev pub worker_rows : ℕ → List Row
+worker_rows workers = (WorkerCount, nat_lt WORKER_LIMIT workers) ∷ []
 
-abbrev pub pixel_rows : Size → List ℕ → ℕ → ℕ → List Row
-pixel_rows size opened x y =
-    (PixelRange, not (nat_lt x size.width && nat_lt y size.height)) ∷ (QueryOpen, some_open opened) ∷ []
+abbrev pub flush_rows_by : List Row → List ℕ → List Row
+flush_rows_by crew opened = (QueryOpen, some_open opened) ∷ crew
+
+abbrev pub pixel_rows_by : List Row → Size → List ℕ → ℕ → ℕ → List Row
+pixel_rows_by crew size opened x y =
+    (PixelRange, not (nat_lt x size.width && nat_lt y size.height)) ∷ flush_rows_by crew opened
 
 -- `last` is the last ended issue of the query
+abbrev pub query_rows_by : List Row → List ℕ → Option ℕ → ℕ → List Row
+query_rows_by crew opened last query =
+    (QueryNumber, nat_le QUERY_LIMIT query) ∷ flush_rows_by crew opened ++ (NotIssued, is_none last) ∷ []
+
+abbrev pub flush_rows : List ℕ → List Row
+flush_rows opened = flush_rows_by [] opened
+
+abbrev pub pixel_rows : Size → List ℕ → ℕ → ℕ → List Row
+pixel_rows size opened x y = pixel_rows_by [] size opened x y
+
 abbrev pub query_rows : List ℕ → Option ℕ → ℕ → List Row
-query_rows opened last query =
-    (QueryNumber, nat_le QUERY_LIMIT query) ∷ (QueryOpen, some_open opened) ∷ (NotIssued, is_none last) ∷ []
+query_rows opened last query = query_rows_by [] opened last query
 
 -- ---- lists of accepted commands
 

@@ -1,5 +1,5 @@
 -- How a target is cut into tiles of 32 by 32 pixels, numbered by rows from the upper left (this project's own).
-use Rattle.std.specs.Prelude.{ℕ, ◌+◌, ◌*◌, ◌/◌, ◌%◌, ◌<◌, ◌≤◌, min}
+use Rattle.std.specs.Prelude.{ℕ, ◌≡◌, ◌+◌, ◌*◌, ◌/◌, ◌%◌, ◌<◌, ◌≤◌, min}
 use Rattle.gfxspec.specs.declared.TheConstants.{TILE_SIDE}
 use Rattle.gfxspec.specs.declared.geometry.PixelRect.{PixelRect}
 use Rattle.gfxspec.specs.declared.geometry.Size.{Size}
@@ -28,3 +28,20 @@ pub record IsIn (r : PixelRect) (x y : ℕ) : Type 0 where
   pub right : x < r.right
   pub top : r.top ≤ y
   pub bottom : y < r.bottom
+
+-- a rectangle that begins where a tile does, and doesn't leave it
+pub record IsInTile (r : PixelRect) : Type 0 where
+  pub left : r.left % 32 ≡ 0
+  pub top : r.top % 32 ≡ 0
+  pub right : r.right ≤ r.left + 32
+  pub bottom : r.bottom ≤ r.top + 32
+
+-- The tiles of a target have each of its pixels once, and no other.
+pub record EachPixelOnce (s : Size) : Type 0 where
+  -- a pixel lies in its tile's rectangle,
+  pub numbered : (x y : ℕ) → x < s.width → y < s.height → tile_of s x y < tile_count s
+  pub there : (x y : ℕ) → x < s.width → y < s.height → IsIn (tile_rect s (tile_of s x y)) x y
+  -- in no other's,
+  pub once : (t x y : ℕ) → t < tile_count s → IsIn (tile_rect s t) x y → t ≡ tile_of s x y
+  -- and no rectangle leaves the target.
+  pub within : (t x y : ℕ) → IsIn (tile_rect s t) x y → (x < s.width) × (y < s.height)

@@ -13,6 +13,7 @@ mod pixel;
 mod state;
 #[cfg(test)]
 mod tests;
+mod tiles;
 mod to_write;
 mod transfer;
 
@@ -22,6 +23,7 @@ pub use from_read::FromRead;
 pub use geometry::{Facing, PixelRect, Size, Vertex};
 pub use pixel::{DepthStencil, Pixel};
 pub use state::{Compare, Cull, LogicOp, StencilOp, Topology};
+pub use tiles::{is_size, tile_count, tile_rect, tiles_along, tiles_have_each_pixel_once};
 pub use to_write::ToWrite;
 pub use transfer::{GatherError, gather, put_all};
 
@@ -45,6 +47,9 @@ pub const QUERY_LIMIT: u32 = 64;
 
 /// Issues in a list.
 pub const ISSUE_LIMIT: u32 = 64;
+
+/// Workers beside the caller.
+pub const WORKER_LIMIT: u32 = 15;
 
 /// The side of a tile, in pixels.
 pub const TILE_SIDE: u32 = 32;

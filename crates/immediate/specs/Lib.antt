@@ -1,4 +1,3 @@
 pub mod Works
 pub mod Pending
 pub mod Ready
-pub mod FewTiles

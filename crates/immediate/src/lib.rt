@@ -1,5 +1,5 @@
-//! The immediate context: it records commands like a deferred one, executes lists, and answers (Microsoft Learn,
-//! ID3D11DeviceContext, "Immediate and Deferred Rendering").
+//! The immediate context: it records calls like a deferred one, by the same trait, executes lists, and answers (Microsoft
+//! Learn, ID3D11DeviceContext, "Immediate and Deferred Rendering").
 //!
 //! Recorded commands are accepted at once and stay pending until a call runs them. The context stores no past command: it
 //! is seen by contracts as its target and its pending commands, and what a pixel holds by what folding the pending items

@@ -89,7 +89,7 @@ impl<'a, A: Allocator + Send> TileJob for PlainJob<'a, A> {
     }
 
     ghost use Rattle.std.proofs.Common.{arith};
-    ghost use Rattle.immediate.specs.FewTiles.{few_tiles_of};
+    ghost use Rattle.gfxspec.proofs.TileLaws.{few_tiles_of};
 
     ghost few_tiles = { λ job. few_tiles_of job.size job.allowed };
 

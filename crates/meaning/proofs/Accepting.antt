@@ -1,12 +1,12 @@
 -- What the commands of a list are, each accepted behind those before it.
-use Rattle.std.proofs.Common.{◌≡◌, ◌∙◌, ap, sym, subst, refl, ℕ, Bool, true, false, not, cond, List, [], ◌∷◌, ◌++◌, append_assoc}
-use Rattle.std.specs.Prelude.{Option, Some, None}
+use Rattle.std.proofs.Common.{◌≡◌, sym, subst, refl, arith, ℕ, suc, length, Bool, true, false, not, cond, List, [], ◌∷◌, ◌++◌, append_assoc}
+use Rattle.std.specs.Prelude.{Some, None, ◌==◌}
+use Rattle.std.proofs.lemmas.Bool.Decides.{nat_tests}
 use Rattle.std.proofs.lemmas.List.{append-nil}
-use Rattle.gfxspec.specs.declared.error.GfxError.{GfxError}
-use Rattle.gfxspec.specs.State.{Settings, defaults}
-use Rattle.gfxspec.specs.Commands.{Command, SetVertices, SetIndices, SetTopology, SetRaster, SetScissor, SetDepthStencil, SetBlend, Draw, DrawIndexed, ClearColor, ClearDepthStencil, Begin, End, Kept}
-use Rattle.gfxspec.specs.Recorded.{settings_after}
-use Rattle.gfxspec.specs.Refusals.{Row, first_row, list_rows, AreSound, IsAccepted, AcceptedBehind, AreAccepted}
+use Rattle.gfxspec.specs.State.{Settings}
+use Rattle.gfxspec.specs.Commands.{Command, SetVertices, SetIndices, SetScissor, Kept}
+use Rattle.gfxspec.specs.Recorded.{settings_after, queries_open}
+use Rattle.gfxspec.specs.Refusals.{Row, first_row, list_rows, some_open, flush_rows, finish_rows, AreSound, IsAccepted, AcceptedBehind, AreAccepted}
 use Rattle.meaning.specs.OneMore.{settings_with}
 use Rattle.meaning.proofs.Nearest.{settings_after-push}
 
@@ -49,3 +49,20 @@ sound_behind earlier (c ∷ cs) h k =
 -- accepted commands leave sound settings
 pub sound_after : (cs : List Command) → AreAccepted cs → AreSound (settings_after cs)
 sound_after cs h = sound_behind [] cs h (record { vertex_count = refl; in_range = refl; index_count = refl; scissor = refl })
+
+-- ---- where no query is open
+
+none_there : (opened : List ℕ) → some_open opened ≡ false → opened ≡ []
+none_there [] h = refl
+none_there (q ∷ opened) h = absurd (some (length opened) h)
+  where
+    some : (n : ℕ) → not (suc n == 0) ≡ false → ⊥
+    some n e = grind (arith, nat_tests)
+
+-- a call that runs the pending commands isn't refused
+pub none_open_at_run : (opened : List ℕ) → first_row (flush_rows opened) ≡ None → opened ≡ []
+none_open_at_run opened h = none_there opened (none_of (flush_rows opened) h).0
+
+-- a list is finished
+pub none_open_at_finish : (list : List Command) → first_row (finish_rows list) ≡ None → queries_open list ≡ []
+none_open_at_finish list h = none_there (queries_open list) (none_of (finish_rows list) h).0

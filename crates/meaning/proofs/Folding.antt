@@ -4,8 +4,8 @@ use Rattle.gfxspec.specs.declared.pixel.Pixel.{Pixel}
 use Rattle.gfxspec.specs.State.{Settings}
 use Rattle.gfxspec.specs.Assembly.{Primitive, draw_primitives, draw_indexed_primitives}
 use Rattle.gfxspec.specs.Items.{Item, Drawn, after_item, after_items}
-use Rattle.gfxspec.specs.Commands.{Command, SetVertices, SetIndices, SetTopology, SetRaster, SetScissor, SetDepthStencil, SetBlend, Draw, DrawIndexed, ClearColor, ClearDepthStencil, Begin, End, Kept}
-use Rattle.gfxspec.specs.Recorded.{settings_after, open_after, drawn_items, items_at, items_behind, items}
+use Rattle.gfxspec.specs.Commands.{Command, Draw, DrawIndexed}
+use Rattle.gfxspec.specs.Recorded.{settings_after, open_after, drawn_items, items_at, items_behind}
 
 -- the fold over two lists is that over the second from what the first gave
 pub after_items-append : (is js : List Item) (x y : ℕ) (old : Pixel) → after_items (is ++ js) x y old ≡ after_items js x y (after_items is x y old)

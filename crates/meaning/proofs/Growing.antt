@@ -1,17 +1,17 @@
 -- Items, issues and open queries behind one more command.
-use Rattle.std.proofs.Common.{◌≡◌, ◌∙◌, ◌≤◌, ap, sym, subst, refl, ℕ, ◌+◌, arith, Bool, true, false, List, [], ◌∷◌, ◌++◌, length, map, append_assoc}
-use Rattle.std.specs.Prelude.{Option, Some, None, filter, filter_map, count_by, cond, not, ◌==◌, ◌||◌}
+use Rattle.std.proofs.Common.{◌≡◌, ◌∙◌, ◌≤◌, ap, sym, subst, refl, ℕ, ◌+◌, arith, Bool, true, false, List, [], ◌∷◌, ◌++◌, length, append_assoc}
+use Rattle.std.specs.Prelude.{count_by, cond, ◌==◌, ◌||◌}
 use Rattle.std.specs.List.{list_any}
 use Rattle.std.proofs.Math.Numerals.{one-add}
 use Rattle.std.proofs.Math.Bool.{or-false}
-use Rattle.std.proofs.lemmas.List.{append-nil, length-append}
+use Rattle.std.proofs.lemmas.List.{append-nil}
 use Rattle.std.proofs.lemmas.List.Folds.{list_any-append}
 use Rattle.std.proofs.lemmas.List.Sums.{sum_by-append, sum_by-cons}
 use Rattle.std.proofs.lemmas.List.Elements.{filter_map-append}
 use Rattle.gfxspec.specs.State.{Settings}
 use Rattle.gfxspec.specs.Assembly.{Primitive, draw_primitives, draw_indexed_primitives}
-use Rattle.gfxspec.specs.Items.{Item, Drawn, ColorCleared, DepthStencilCleared}
-use Rattle.gfxspec.specs.Commands.{Command, SetVertices, SetIndices, SetTopology, SetRaster, SetScissor, SetDepthStencil, SetBlend, Draw, DrawIndexed, ClearColor, ClearDepthStencil, Begin, End, Kept}
+use Rattle.gfxspec.specs.Items.{Drawn}
+use Rattle.gfxspec.specs.Commands.{Command, Draw, DrawIndexed, Begin, End}
 use Rattle.gfxspec.specs.Recorded.{settings_after, open_after, queries_open, ends, items_at, items_behind, items, drawn_items, is_drawn, triangle_count, issues, query_begun}
 use Rattle.meaning.specs.OneMore.{triangles_of, without, queries_with}
 use Rattle.gfxspec.specs.Refusals.{IsAccepted, AcceptedBehind, AreAccepted}

@@ -3,10 +3,9 @@ use Rattle.std.proofs.Common.{◌≡◌, ◌∙◌, ap, refl, List, [], ◌∷�
 use Rattle.std.specs.Prelude.{Option, Some, None, unwrap_or, filter_map}
 use Rattle.std.proofs.lemmas.List.{append-nil}
 use Rattle.std.proofs.lemmas.List.Elements.{filter_map-append}
-use Rattle.gfxspec.specs.State.{Settings}
-use Rattle.gfxspec.specs.Commands.{Command, SetVertices, SetIndices, SetTopology, SetRaster, SetScissor, SetDepthStencil, SetBlend, Draw, DrawIndexed, ClearColor, ClearDepthStencil, Begin, End, Kept}
+use Rattle.gfxspec.specs.Commands.{Command}
 use Rattle.meaning.specs.OneMore.{settings_with}
-use Rattle.gfxspec.specs.Recorded.{vertices_set, indices_set, topology_set, raster_set, scissor_set, depth_stencil_set, reference_set, blend_set, last_or, nearest, settings_after}
+use Rattle.gfxspec.specs.Recorded.{last_or, nearest, settings_after}
 
 pub last_or-push : {A : Type 0} (d : A) (xs : List A) (x : A) → last_or d (xs ++ x ∷ []) ≡ x
 last_or-push d [] x = refl

@@ -1,11 +1,9 @@
 -- Sessions: what one more step adds, and that a flush is not there.
-use Rattle.std.proofs.Common.{◌≡◌, ◌∙◌, ap, sym, refl, ℕ, Bool, true, false, List, [], ◌∷◌, ◌++◌, append_assoc}
-use Rattle.std.specs.Prelude.{Option, Some, None, filter_map, unwrap_or}
+use Rattle.std.proofs.Common.{◌≡◌, ◌∙◌, ap, sym, refl, true, false, List, [], ◌∷◌, ◌++◌, append_assoc}
 use Rattle.std.specs.List.{flat_map}
 use Rattle.std.proofs.lemmas.List.{append-nil}
 use Rattle.std.proofs.lemmas.List.Concat.{flat_map-append}
-use Rattle.gfxspec.specs.State.{Settings, defaults}
-use Rattle.gfxspec.specs.Items.{Item}
+use Rattle.gfxspec.specs.State.{defaults}
 use Rattle.gfxspec.specs.Commands.{Command, Kept}
 use Rattle.gfxspec.specs.Recorded.{settings_after, open_after, queries_open, items_at, items_behind, after_finish}
 use Rattle.gfxspec.specs.Session.{Step, Records, Executes, Flushes, seen, all_seen, run, all_run, step_items, session_items, items_of_session, settings_now, open_now, pending_from, pending}

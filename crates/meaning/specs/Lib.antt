@@ -1,1 +1,5 @@
 pub mod OneMore
+pub mod Over
+pub mod Renumbering
+pub mod Contexts
+pub mod Standing

@@ -1,5 +1,5 @@
 -- What one more command of a list, or one more step of a session, changes. The definitions (gfxspec) look back over all of them; these follow from them, as this crate proves.
-use Rattle.std.specs.Prelude.{ℕ, true, ◌==◌, not, List, [], ◌∷◌, ◌++◌, length, filter, unwrap_or}
+use Rattle.std.specs.Prelude.{ℕ, true, ◌==◌, not, List, [], ◌∷◌, ◌++◌, length, filter, unwrap_or, slice_index_or}
 use Rattle.gfxspec.specs.State.{Settings}
 use Rattle.gfxspec.specs.Assembly.{draw_primitives, draw_indexed_primitives}
 use Rattle.gfxspec.specs.Commands.{Command, Draw, DrawIndexed, Begin, End}
@@ -35,6 +35,12 @@ abbrev pub queries_with : Command → List ℕ → List ℕ
 queries_with (Begin q) open_queries = open_queries ++ q ∷ []
 queries_with (End q) open_queries = without q open_queries
 queries_with c open_queries = open_queries
+
+-- the issues that are open after one more command; `begun` has the query of each issue so far
+abbrev pub open_with : List ℕ → Command → List ℕ → List ℕ
+open_with begun (Begin q) open_issues = open_issues ++ length begun ∷ []
+open_with begun (End q) open_issues = filter (λ k. not (q == slice_index_or begun k 0)) open_issues
+open_with begun c open_issues = open_issues
 
 -- the pending list behind one more step
 abbrev pub pending_with : List Command → List Step → Step → List Command

@@ -1,6 +1,7 @@
 pub mod TextLemmas
 pub mod NumberLemmas
 pub mod RangeLemmas
+pub mod ChoiceLemmas
 pub mod MadeLemmas
 pub mod GroupLemmas
 pub mod VerbLemmas

@@ -14,18 +14,18 @@ use Rattle.gfxspec.specs.declared.geometry.Size.{Size}
 use Rattle.scenetext.specs.Scene.{Actor, Immediate, Deferred, Verb, Execute, Line}
 use Rattle.scenetext.specs.declared.scene.Line as code_line
 use Rattle.scenetext.specs.Seen.{line_value}
-use Rattle.scenetext.specs.Text.{TextLine, before_lines, lines_of, words_of, line_text}
-use Rattle.scenetext.specs.Spelling.{is_finish, is_deferred, finishes_list, line_words, size_words, IsVerb, HasList, IsLine, AreLines, Spells}
-use Rattle.scenetext.specs.Faults.{number_of_fault, unless, found_in, line_fault, first_line_fault, later_line_fault, first_fault, fault_of_lines, fault_of}
-use Rattle.scenetext.specs.Reading.{Counts, HasCounted, ReadsLine, line_record, CutsLine, BadForm, ReadsSize, number_of_error, counted_for, counted_by, ReadsFirst, RefusesText, ReadsNext, RefusesNext, last_read, Refused}
+use Rattle.scenetext.specs.Text.{TextLine, before_lines, lines_of, line_text}
+use Rattle.scenetext.specs.Spelling.{is_finish, is_deferred, finishes_list, line_words, size_words, IsVerb, HasList, IsLine, AreLines, IsTarget, Spells}
+use Rattle.scenetext.specs.Faults.{number_of_fault, found_in, line_fault, first_fault, fault_of_lines, fault_of}
+use Rattle.scenetext.specs.Reading.{Counts, HasCounted, ReadsLine, line_record, CutsLine, ReadsSize, number_of_error, counted_for, counted_by, ReadsFirst, RefusesText, ReadsNext, RefusesNext, last_read, Refused}
 use Rattle.scenetext.proofs.TextLemmas.{line_bytes, text_from-lines_of, join-words_of}
-use Rattle.scenetext.proofs.SceneLemmas.{raw, raw_line, earlier_of, IsSize, texts_of, count-earlier, line_faultless, first_faultless}
+use Rattle.scenetext.proofs.SceneLemmas.{raw, raw_line, earlier_of, texts_of, count-earlier, line_faultless, first_faultless}
 use Rattle.scenetext.proofs.ReadingLaw.{bytes_of}
 
 -- ---- one line
 
 pub first_read : (text line rest : List ℕ) (s : Size) → CutsLine text line rest → ReadsSize line s → ReadsFirst text s rest
-first_read text line rest s c r = record { lines = c.lines ∙ ap (λ x. line_record x ∷ lines_of rest) (sym (join-words_of line) ∙ ap (join_with_byte 32) (sym r.words_are)); width = r.width; height = r.height; shorter = c.shorter }
+first_read text line rest s c r = record { lines = c.lines ∙ ap (λ x. line_record x ∷ lines_of rest) (sym (join-words_of line) ∙ ap (join_with_byte 32) (sym r.words_are)); size = r.size; shorter = c.shorter }
 
 pub next_read : (finished text line rest : List ℕ) (l : Line) → CutsLine text line rest → ReadsLine finished line l → ReadsNext finished text l rest
 next_read finished text line rest l c r =
@@ -37,7 +37,7 @@ next_read finished text line rest l c r =
 pub record SoFar (text : List ℕ) (size : Size) (ls : List Line) (finished rest : List ℕ) : Type 0 where
   pub whole : lines_of text ≡ earlier_of size ls ++ lines_of rest
   pub fault : fault_of text ≡ first_fault (earlier_of size ls) (lines_of rest)
-  pub size_is : IsSize size
+  pub size_is : IsTarget size
   pub lines_are : AreLines [] ls
   pub counts : (k : ℕ) → k < 8 → slice_index finished k ≡ count_by (finishes_list k) ls
   pub wide : length finished ≡ 8
@@ -48,11 +48,10 @@ zero_counts k h = get_or-replicate 8 k 0 0 h
 
 pub starts : (text rest : List ℕ) (s : Size) → ReadsFirst text s rest → SoFar text s [] (replicate 8 0) rest
 starts text rest s r =
-    let size : IsSize s = record { width = r.width; height = r.height } in
     record {
       whole = r.lines;
-      fault = ap fault_of_lines r.lines ∙ ap (λ o. found_in 1 o (first_fault (raw (size_words s) ∷ []) (lines_of rest))) (first_faultless s size);
-      size_is = size;
+      fault = ap fault_of_lines r.lines ∙ ap (λ o. found_in 1 o (first_fault (raw (size_words s) ∷ []) (lines_of rest))) (first_faultless s r.size);
+      size_is = r.size;
       lines_are = tt;
       counts = zero_counts;
       wide = refl;
@@ -162,7 +161,7 @@ pub is_read : (text : List ℕ) (size : Size) (ls : List Line) (finished rest : 
 is_read text size ls finished [] s h =
     let whole : lines_of text ≡ earlier_of size ls = s.whole ∙ append-nil (earlier_of size ls) in
     record {
-      scene_is = (s.size_is.width, s.size_is.height, s.lines_are);
+      scene_is = (s.size_is, s.lines_are);
       text_is = sym (text_from-lines_of text) ∙ ap (flat_map line_bytes) whole ∙ ap (λ (xs : List ℕ). line_text (size_words size) ++ xs) (bytes_of ls);
     }
 is_read text size ls finished (b ∷ bs) s h = absurd (omega arith)

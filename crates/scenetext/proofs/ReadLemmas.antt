@@ -1,32 +1,30 @@
 -- What the parts of the reader owe.
-use Rattle.std.proofs.Common.{◌≡◌, ◌≢◌, ℕ, ℤ, zero, suc, ◌+◌, ◌-◌, ◌*◌, ◌^◌, ◌<◌, Bool, true, false, cond, ◌&&◌, eqb, List, [], ◌∷◌, ◌++◌, length, get_or, map, replicate, Option, Some, None, refl, sym, ap, ◌∙◌, append_assoc, arith}
+use Rattle.std.proofs.Common.{◌≡◌, ℕ, ℤ, zero, suc, ◌+◌, ◌-◌, ◌*◌, ◌<◌, Bool, true, false, ◌&&◌, List, [], ◌∷◌, ◌++◌, length, map, replicate, Option, Some, refl, sym, ap, ◌∙◌, append_assoc, arith}
 use Rattle.std.specs.Prelude.{decimal, slice_index, count_by}
 use Rattle.std.specs.List.{AllByRecursion, flat_map}
 use Rattle.std.specs.Fmt.{signed_decimal}
-use Rattle.std.proofs.lemmas.List.{length-append, length-map, append-nil}
+use Rattle.std.proofs.lemmas.List.{length-append, length-map}
 use Rattle.std.proofs.lemmas.Bool.Decides.{nat_tests}
 use Rattle.std.proofs.lemmas.Fmt.{digits_value-decimal}
 use Rattle.gfxspec.specs.declared.geometry.Vertex.{Vertex}
-use Rattle.gfxspec.specs.Commands as gfx
 use Rattle.scenetext.specs.declared.fault.Fault.{Fault}
 use Rattle.scenetext.specs.declared.fault.Fault.TheVariants as faults
 use Rattle.scenetext.specs.declared.fault.ReadError.{ReadError}
 use Rattle.scenetext.specs.declared.fault.ReadError.TheVariants as errors
-use Rattle.scenetext.specs.declared.range.Range.{Range}
 use Rattle.scenetext.specs.declared.command.CommandWord.{CommandWord}
 use Rattle.scenetext.specs.declared.command.CommandWord.TheVariants as words
-use Rattle.scenetext.specs.Scene.{Actor, Verb, Call, Execute}
+use Rattle.scenetext.specs.Scene.{Actor, Verb, Execute}
 use Rattle.scenetext.specs.Text.{TextLine, words_of}
-use Rattle.scenetext.specs.Numbers.{Kind, context_word, fits_kind, fit, i32s, u16s}
-use Rattle.scenetext.specs.Commands.{OneOf, vertex_kinds, shape, name, serves, kinds_of}
+use Rattle.scenetext.specs.Numbers.{Kind, context_word, fits_kind, fit, i32s}
+use Rattle.scenetext.specs.Commands.{vertex_kinds, shape, name, serves, kinds_of}
 use Rattle.scenetext.specs.Spelling.{vertex_words, verb_words, IsVertex, IsVerb, actor_word, is_immediate_actor}
 use Rattle.scenetext.specs.Faults.{word, or_fault, unless, arguments_fault, finishes, has_list, later_line_fault}
-use Rattle.scenetext.specs.Ranges.{kinds, AreIn}
+use Rattle.scenetext.specs.declared.range.TheConstants.{INDEX}
+use Rattle.scenetext.specs.Ranges.{kind_of, kinds}
 use Rattle.scenetext.specs.Reading.{Reads, Refuses, Counts, LacksCounted, IsHead, RefusesLine}
 use Rattle.scenetext.proofs.NumberLemmas.{own}
-use Rattle.scenetext.proofs.RangeLemmas.{and_false, fit_fails, length-AreIn}
-use Rattle.scenetext.proofs.MadeLemmas.{u32_range, index_range, flag_range, flag_back, IsMade}
-use Rattle.scenetext.proofs.GroupLemmas.{fit-append, vertex_fits, length-vertex_words, length-vertices, groups_of, index_ranges, indices_in, singles_of}
+use Rattle.scenetext.proofs.RangeLemmas.{and_false, fit_fails}
+use Rattle.scenetext.proofs.GroupLemmas.{fit-append, vertex_fits, length-vertex_words, length-vertices, groups_of, IsIndex, index_ranges, indices_in, singles_of}
 use Rattle.scenetext.proofs.VerbLemmas.{Fits, verb_fits, command_named-name}
 use Rattle.scenetext.proofs.SceneLemmas.{actor_known, immediate_is}
 
@@ -84,15 +82,15 @@ replicate-middle x (suc a) b =
     rw e (ap (λ xs. x ∷ xs) (replicate-middle x a b))
 
 -- a word that is no index, behind others
-pub indices_refuse : (old ws : List (List ℕ)) (is : List ℕ) → old ≡ map decimal is ++ ws → AllByRecursion (λ i. i < 2 ^ 16) is → 0 < length ws → fits_kind u16s (word ws 0) ≡ false → (rows : Option Fault) → arguments_fault (shape words.Ib) old rows ≡ Some faults.Argument
+pub indices_refuse : (old ws : List (List ℕ)) (is : List ℕ) → old ≡ map decimal is ++ ws → AllByRecursion IsIndex is → 0 < length ws → fits_kind (kind_of INDEX) (word ws 0) ≡ false → (rows : Option Fault) → arguments_fault (shape words.Ib) old rows ≡ Some faults.Argument
 indices_refuse old ws is e h l f rows =
     let more = length ws - 1 in
     let n : length old ≡ length is + suc more = omega (arith, ap length e, length-append (map decimal is) ws, length-map is decimal) in
     let found : kinds_of (shape words.Ib) (length old) ≡ Some (kinds (index_ranges (length is + suc more))) = ap (kinds_of (shape words.Ib)) n ∙ singles_of (length is + suc more) in
     let fails : fit (kinds (index_ranges (length is + suc more))) old ≡ false =
     ap (fit (kinds (index_ranges (length is + suc more)))) e
-    ∙ ap (λ rs. fit (kinds rs) (map decimal is ++ ws)) (replicate-middle index_range (length is) more)
-    ∙ fit_fails (index_ranges (length is)) is index_range (index_ranges more) ws (indices_in is h) l f in
+    ∙ ap (λ rs. fit (kinds rs) (map decimal is ++ ws)) (replicate-middle INDEX (length is) more)
+    ∙ fit_fails (index_ranges (length is)) is INDEX (index_ranges more) ws (indices_in is h) l f in
     ap (λ o. or_fault o faults.ArgumentCount (λ ks. unless (fit ks old) faults.Argument rows)) found ∙ ap (λ b. unless b faults.Argument rows) fails
 
 -- ---- a later line
@@ -100,7 +98,7 @@ indices_refuse old ws is e h l f rows =
 lacks_list : (earlier : List TextLine) (finished : List ℕ) (a : Actor) (v : Verb) → Counts earlier finished → IsVerb v → LacksCounted finished v → has_list earlier (actor_word a ∷ verb_words v) ≡ false
 lacks_list earlier finished a (Execute k list restore) n i h =
     let count : slice_index finished k ≡ count_by (finishes (context_word k)) earlier = n k i.0 in
-    rw (digits_value-decimal own list (omega (arith, i.1)), ← count) (grind (arith, nat_tests))
+    rw (digits_value-decimal own list (omega (arith, i.1.0.high)), ← count) (grind (arith, nat_tests))
 lacks_list earlier finished a v n i h = absurd h
 
 -- an `exec` of a list that is not finished, behind its head

@@ -13,18 +13,18 @@ use Rattle.scenetext.specs.declared.command.CommandWord.{CommandWord}
 use Rattle.scenetext.specs.declared.command.CommandWord.TheVariants.{Vb}
 use Rattle.scenetext.specs.Scene.{Actor, Immediate, Deferred, Verb, Execute, Line, Scene}
 use Rattle.scenetext.specs.Text.{TextLine, lines_of, words_of, has_form, line_text, is_printable, is_word}
-use Rattle.scenetext.specs.Numbers.{context_word, fit, u32s, is_context}
+use Rattle.scenetext.specs.Numbers.{context_word, fit, is_context}
 use Rattle.scenetext.specs.Commands.{OneOf, name, serves, shape, kinds_of, is_named, commands, command_named}
-use Rattle.scenetext.specs.Spelling.{actor_word, is_immediate_actor, verb_words, may_take, line_words, size_words, IsVerb, IsActor, finishes_list, HasList, IsLine, AreLines, Spells}
+use Rattle.scenetext.specs.Spelling.{actor_word, is_immediate_actor, verb_words, may_take, line_words, size_words, IsVerb, IsActor, finishes_list, HasList, IsLine, AreLines, IsTarget, Spells}
 use Rattle.scenetext.specs.Faults.{number_of_fault, word, unless, or_fault, found_in, is_immediate, finishes, has_list, arguments_fault, first_line_fault, later_line_fault, line_fault, first_fault, fault_of_lines, fault_of, HasFault}
-use Rattle.scenetext.specs.Ranges.{AreIn}
+use Rattle.scenetext.specs.Ranges.{kinds, AreIn}
 use Rattle.scenetext.proofs.TextLemmas.{IsWordText, and_left, and_right, line_bytes, text_from-lines_of, join-words_of, joined_words}
 use Rattle.scenetext.proofs.NumberLemmas.{own, value, context, context_is, value-decimal}
 use Rattle.scenetext.proofs.RangeLemmas.{naturals_back}
-use Rattle.scenetext.proofs.MadeLemmas.{u32_range}
+use Rattle.scenetext.specs.declared.range.TheConstants.{U32}
 use Rattle.scenetext.proofs.GroupLemmas.{All-join}
 use Rattle.scenetext.proofs.VerbLemmas.{IsWordText-name, command_named-name, verb_from, one_of, verb_fits, backs}
-use Rattle.scenetext.proofs.SceneLemmas.{raw, raw_line, earlier_of, IsSize, AreTexts, line_texts, size_texts, immediate_is, count-earlier, lines_of-text_of, spelled_faultless}
+use Rattle.scenetext.proofs.SceneLemmas.{raw, raw_line, earlier_of, AreTexts, line_texts, size_texts, immediate_is, count-earlier, lines_of-text_of, spelled_faultless}
 
 pub unless_none : (test : Bool) (f : Fault) (rows : Option Fault) → unless test f rows ≡ None → (test ≡ true) × (rows ≡ None)
 unless_none true f rows h = (refl, h)
@@ -116,26 +116,26 @@ later_back earlier ws h =
 
 has_list_back : (earlier : List TextLine) (ls : List Line) (a : Actor) (v : Verb) → ((k : ℕ) → count_by (finishes (context_word k)) earlier ≡ count_by (finishes_list k) ls) → IsVerb v → has_list earlier (actor_word a ∷ verb_words v) ≡ true → HasList ls v
 has_list_back earlier ls a (Execute context list restore) c i h =
-    let g : not (leb (count_by (finishes_list context) ls) list) ≡ true = rw (digits_value-decimal own list (omega (arith, i.1)), c context) at h in
+    let g : not (leb (count_by (finishes_list context) ls) list) ≡ true = rw (digits_value-decimal own list (omega (arith, i.1.0.high)), c context) at h in
     grind (arith, nat_tests)
 has_list_back earlier ls a v c i h = tt
 
 -- the first line
-size_back : (ws : List (List ℕ)) → first_line_fault ws ≡ None → (size_words (record { width = value (word ws 1); height = value (word ws 2) }) ≡ ws) × IsSize (record { width = value (word ws 1); height = value (word ws 2) })
+size_back : (ws : List (List ℕ)) → first_line_fault ws ≡ None → (size_words (record { width = value (word ws 1); height = value (word ws 2) }) ≡ ws) × IsTarget (record { width = value (word ws 1); height = value (word ws 2) })
 size_back ws h =
     let r0 = unless_none (bytes_eq (word ws 0) (codes "target")) faults.FirstLine _ h in
-    let r1 = or_fault_none (kinds_of (OneOf ((u32s ∷ u32s ∷ []) ∷ [])) (length (drop 1 ws))) faults.ArgumentCount (λ kinds. unless (fit kinds (drop 1 ws)) faults.Argument None) r0.1 in
+    let r1 = or_fault_none (kinds_of (OneOf (kinds (U32 ∷ U32 ∷ []) ∷ [])) (length (drop 1 ws))) faults.ArgumentCount (λ kinds. unless (fit kinds (drop 1 ws)) faults.Argument None) r0.1 in
     let r2 = unless_none (fit r1.0 (drop 1 ws)) faults.Argument None r1.2 in
-    let g = one_of (u32s ∷ u32s ∷ []) r1.0 (length (drop 1 ws)) r1.1 in
-    let b = naturals_back (u32_range ∷ u32_range ∷ []) (drop 1 ws) refl g.0 (subst (λ ks. fit ks (drop 1 ws) ≡ true) (sym g.1) r2.0) in
+    let g = one_of (kinds (U32 ∷ U32 ∷ [])) r1.0 (length (drop 1 ws)) r1.1 in
+    let b = naturals_back (U32 ∷ U32 ∷ []) (drop 1 ws) refl g.0 (subst (λ ks. fit ks (drop 1 ws) ≡ true) (sym g.1) r2.0) in
     three ws ((bytes_eq-Decides (word ws 0) (codes "target")).0 r0.0) g.0 b.0 b.1
   where
-    three : (ws : List (List ℕ)) → word ws 0 ≡ codes "target" → 2 ≡ length (drop 1 ws) → map decimal (map value (drop 1 ws)) ≡ drop 1 ws → AreIn (u32_range ∷ u32_range ∷ []) (map value (drop 1 ws))
-        → (size_words (record { width = value (word ws 1); height = value (word ws 2) }) ≡ ws) × IsSize (record { width = value (word ws 1); height = value (word ws 2) })
+    three : (ws : List (List ℕ)) → word ws 0 ≡ codes "target" → 2 ≡ length (drop 1 ws) → map decimal (map value (drop 1 ws)) ≡ drop 1 ws → AreIn (U32 ∷ U32 ∷ []) (map value (drop 1 ws))
+        → (size_words (record { width = value (word ws 1); height = value (word ws 2) }) ≡ ws) × IsTarget (record { width = value (word ws 1); height = value (word ws 2) })
     three [] e l f i = absurd i
     three (a ∷ []) e l f i = absurd i
     three (a ∷ b ∷ []) e l f i = absurd i.1
-    three (a ∷ b ∷ c ∷ []) e l f i = (ap (λ w. w ∷ decimal (value b) ∷ decimal (value c) ∷ []) (sym e) ∙ ap (λ x. a ∷ x) f, record { width = omega (arith, i.0.high); height = omega (arith, i.1.0.high) })
+    three (a ∷ b ∷ c ∷ []) e l f i = (ap (λ w. w ∷ decimal (value b) ∷ decimal (value c) ∷ []) (sym e) ∙ ap (λ x. a ∷ x) f, record { width = i.0; height = i.1.0 })
     three (a ∷ b ∷ c ∷ d ∷ ws) e l f i = absurd (omega arith)
 
 -- a line that has its form is its words
@@ -144,7 +144,7 @@ raw_words l h =
     let e : l.ended ≡ true = and_left l.ended (list_all is_printable l.bytes) (and_left (l.ended && list_all is_printable l.bytes) (list_all is_word (words_of l.bytes)) h) in
     ap (λ bs. record { bytes = bs; ended = true }) (join-words_of l.bytes) ∙ ap (λ b. record { bytes = l.bytes; ended = b }) (sym e)
 
-lines_back : (size : Size) (before : List Line) (rest : List TextLine) → IsSize size → AreTexts before → first_fault (earlier_of size before) rest ≡ None → (map raw_line (map line_from rest) ≡ rest) × AreLines before (map line_from rest)
+lines_back : (size : Size) (before : List Line) (rest : List TextLine) → IsTarget size → AreTexts before → first_fault (earlier_of size before) rest ≡ None → (map raw_line (map line_from rest) ≡ rest) × AreLines before (map line_from rest)
 lines_back size before [] s t h = (refl, tt)
 lines_back size before (l ∷ ls) s t h =
     let r0 = found_none (length (earlier_of size before) + 1) (line_fault (earlier_of size before) l) (first_fault (earlier_of size before ++ l ∷ []) ls) h in
@@ -171,7 +171,7 @@ of_lines text (l ∷ ls) e h =
     let same : raw (size_words (size_from l)) ≡ l = ap raw s.0 ∙ raw_words l r1.0 in
     let b = lines_back (size_from l) [] ls s.1 tt (ap (λ x. first_fault (x ∷ []) ls) same ∙ r0.1) in
     record {
-      scene_is = (s.1.width, s.1.height, b.1);
+      scene_is = (s.1, b.1);
       text_is = sym (text_from-lines_of text) ∙ ap (flat_map line_bytes) e
           ∙ ap (λ x. flat_map line_bytes (x ∷ ls)) (sym same) ∙ ap (λ (xs : List TextLine). flat_map line_bytes (raw (size_words (size_from l)) ∷ xs)) (sym b.0)
           ∙ ap (λ (xs : List ℕ). line_text (size_words (size_from l)) ++ xs) (bytes_of (map line_from ls));
@@ -205,20 +205,19 @@ lines_again before (l ∷ ls) h =
     ap (λ x. x ∷ map line_from (map raw_line ls)) (ap from_words words ∙ line_again before l h.0)
     ∙ ap (λ (xs : List Line). l ∷ xs) (lines_again (before ++ l ∷ []) ls h.1)
 
-size_again : (s : Size) → IsSize s → size_from (raw (size_words s)) ≡ s
+size_again : (s : Size) → IsTarget s → size_from (raw (size_words s)) ≡ s
 size_again s h =
     let words = joined_words (codes "target") (decimal s.width ∷ decimal s.height ∷ []) (size_texts s h) in
     ap (λ ws. record { width = value (word ws 1); height = value (word ws 2) }) words
-    ∙ ap (λ w. record { width = w; height = value (decimal s.height) }) (value-decimal s.width (omega (arith, h.width)))
-    ∙ ap (λ w. record { width = s.width; height = w }) (value-decimal s.height (omega (arith, h.height)))
+    ∙ ap (λ w. record { width = w; height = value (decimal s.height) }) (value-decimal s.width (omega (arith, h.width.high)))
+    ∙ ap (λ w. record { width = s.width; height = w }) (value-decimal s.height (omega (arith, h.height.high)))
 
 -- a scene is that of the lines of its spelling
 pub scene_again : (text : List ℕ) (scene : Scene) → Spells text scene → scene_from (lines_of text) ≡ scene
 scene_again text scene h =
-    let s : IsSize scene.size = record { width = h.scene_is.0; height = h.scene_is.1 } in
     ap (λ t. scene_from (lines_of t)) h.text_is ∙ ap scene_from (lines_of-text_of scene h.scene_is)
-    ∙ ap (λ z. record { size = z; lines = map line_from (map raw_line scene.lines) }) (size_again scene.size s)
-    ∙ ap (λ ls. record { size = scene.size; lines = ls }) (lines_again [] scene.lines h.scene_is.2)
+    ∙ ap (λ z. record { size = z; lines = map line_from (map raw_line scene.lines) }) (size_again scene.size h.scene_is.0)
+    ∙ ap (λ ls. record { size = scene.size; lines = ls }) (lines_again [] scene.lines h.scene_is.1)
 
 -- ---- the law
 

@@ -1,5 +1,5 @@
 -- What is spelled has no fault.
-use Rattle.std.proofs.Common.{◌≡◌, ℕ, ◌+◌, ◌^◌, ◌<◌, Bool, true, false, cond, ◌&&◌, ◌||◌, List, [], ◌∷◌, ◌++◌, length, map, None, refl, sym, ap, subst, ◌∙◌, arith}
+use Rattle.std.proofs.Common.{◌≡◌, ℕ, ◌+◌, Bool, true, false, cond, ◌&&◌, ◌||◌, List, [], ◌∷◌, ◌++◌, length, map, None, refl, sym, ap, subst, ◌∙◌, arith}
 use Rattle.std.specs.Prelude.{decimal, bytes_eq, codes, count_by}
 use Rattle.std.specs.List.{AllByRecursion, flat_map, join_with_byte}
 use Rattle.std.proofs.lemmas.Bool.Decides.{nat_tests}
@@ -12,7 +12,7 @@ use Rattle.scenetext.specs.Scene.{Actor, Immediate, Deferred, Verb, Call, Execut
 use Rattle.scenetext.specs.Text.{TextLine, lines_of, words_of, line_text}
 use Rattle.scenetext.specs.Numbers.{context_word, is_context}
 use Rattle.scenetext.specs.Commands.{name, serves}
-use Rattle.scenetext.specs.Spelling.{actor_word, is_immediate_actor, verb_words, may_take, line_words, size_words, text_of, IsVerb, IsActor, is_finish, is_deferred, finishes_list, HasList, IsLine, AreLines, IsScene, Spells}
+use Rattle.scenetext.specs.Spelling.{actor_word, is_immediate_actor, verb_words, may_take, line_words, size_words, text_of, IsVerb, IsActor, is_finish, is_deferred, finishes_list, HasList, IsLine, AreLines, IsTarget, IsScene, Spells}
 use Rattle.scenetext.specs.declared.fault.Fault.TheVariants as faults
 use Rattle.scenetext.specs.Faults.{word, unless, found_in, fault_of_lines, is_immediate, finishes, has_list, first_line_fault, later_line_fault, line_fault, first_fault, fault_of}
 use Rattle.scenetext.proofs.TextLemmas.{IsWordText, joined_words, has_form-joined, lines_of-line}
@@ -30,12 +30,8 @@ raw_line l = raw (line_words l)
 abbrev pub earlier_of : Size → List Line → List TextLine
 earlier_of size ls = raw (size_words size) ∷ map raw_line ls
 
-pub record IsSize (s : Size) : Type 0 where
-  pub width : s.width < 2 ^ 32
-  pub height : s.height < 2 ^ 32
-
-pub size_texts : (s : Size) → IsSize s → AllByRecursion IsWordText (size_words s)
-size_texts s h = (IsWordText-known (codes "target") refl refl refl, (IsWordText-decimal s.width (omega (arith, h.width)), (IsWordText-decimal s.height (omega (arith, h.height)), tt)))
+pub size_texts : (s : Size) → IsTarget s → AllByRecursion IsWordText (size_words s)
+size_texts s h = (IsWordText-known (codes "target") refl refl refl, (IsWordText-decimal s.width (omega (arith, h.width.high)), (IsWordText-decimal s.height (omega (arith, h.height.high)), tt)))
 
 actor_text : (a : Actor) → IsActor a → IsWordText (actor_word a)
 actor_text Immediate h = IsWordText-known (codes "i") refl refl refl
@@ -73,7 +69,7 @@ skips : {X : Type 0} (p : X → Bool) (x : X) (xs : List X) → p x ≡ false �
 skips p x xs h = sum_by-cons (λ y. cond (p y) 1 0) x xs ∙ rw h (omega arith)
 
 -- the lists that earlier lines finished, of the text and of the scene
-pub count-earlier : (k : ℕ) (size : Size) (ls : List Line) → IsSize size → AreTexts ls → count_by (finishes (context_word k)) (earlier_of size ls) ≡ count_by (finishes_list k) ls
+pub count-earlier : (k : ℕ) (size : Size) (ls : List Line) → IsTarget size → AreTexts ls → count_by (finishes (context_word k)) (earlier_of size ls) ≡ count_by (finishes_list k) ls
 count-earlier k size ls s h =
     let first : finishes (context_word k) (raw (size_words size)) ≡ false = ap (λ ws. bytes_eq (word ws 0) (context_word k) && bytes_eq (word ws 1) (codes "finish")) (joined_words (codes "target") (decimal size.width ∷ decimal size.height ∷ []) (size_texts size s)) in
     skips (finishes (context_word k)) (raw (size_words size)) (map raw_line ls) first ∙ count-lines k ls h
@@ -88,7 +84,7 @@ immediate_is (Deferred k) = refl
 
 has_list-typed : (earlier : List TextLine) (ls : List Line) (a : Actor) (v : Verb) → ((k : ℕ) → count_by (finishes (context_word k)) earlier ≡ count_by (finishes_list k) ls) → IsVerb v → HasList ls v → has_list earlier (actor_word a ∷ verb_words v) ≡ true
 has_list-typed earlier ls a (Execute context list restore) c i h =
-    rw (digits_value-decimal own list (omega (arith, i.1)), c context) (grind (arith, nat_tests))
+    rw (digits_value-decimal own list (omega (arith, i.1.0.high)), c context) (grind (arith, nat_tests))
 has_list-typed earlier ls a (Call (gfx.SetVertices vertices)) c i h = refl
 has_list-typed earlier ls a v c i h = refl
 
@@ -101,22 +97,22 @@ later_faultless earlier a v f i t l =
     ∙ rw (actor_known a i, immediate_is a, command_named-name f.command (is_immediate_actor a) taken, f.found, f.fits, listed) refl
 
 -- a line of a scene has no fault
-pub line_faultless : (size : Size) (before : List Line) (l : Line) → IsSize size → AreTexts before → IsLine before l → line_fault (earlier_of size before) (raw_line l) ≡ None
+pub line_faultless : (size : Size) (before : List Line) (l : Line) → IsTarget size → AreTexts before → IsLine before l → line_fault (earlier_of size before) (raw_line l) ≡ None
 line_faultless size before l s t h =
     let texts = line_texts before l h in
     let listed = has_list-typed (earlier_of size before) before l.actor l.verb (λ k. count-earlier k size before s t) h.verb h.has_list in
     rw (has_form-joined (actor_word l.actor) (verb_words l.verb) texts, joined_words (actor_word l.actor) (verb_words l.verb) texts)
     (later_faultless (earlier_of size before) l.actor l.verb (verb_fits l.verb h.verb) h.actor h.taken listed)
 
-pub first_faultless : (size : Size) → IsSize size → line_fault [] (raw (size_words size)) ≡ None
+pub first_faultless : (size : Size) → IsTarget size → line_fault [] (raw (size_words size)) ≡ None
 first_faultless size s =
     let form = has_form-joined (codes "target") (decimal size.width ∷ decimal size.height ∷ []) (size_texts size s) in
     let words = joined_words (codes "target") (decimal size.width ∷ decimal size.height ∷ []) (size_texts size s) in
-    let rows : first_line_fault (size_words size) ≡ None = rw (natural_fits 0 4294967295 size.width (omega arith) (omega (arith, s.width)) (omega (arith, s.width)), natural_fits 0 4294967295 size.height (omega arith) (omega (arith, s.height)) (omega (arith, s.height))) refl in
+    let rows : first_line_fault (size_words size) ≡ None = rw (natural_fits 0 4294967295 size.width s.width.low s.width.high (omega (arith, s.width.high)), natural_fits 0 4294967295 size.height s.height.low s.height.high (omega (arith, s.height.high))) refl in
     ap (λ b. unless b faults.LineForm (first_line_fault (words_of (raw (size_words size)).bytes))) form ∙ ap first_line_fault words ∙ rows
 
 -- lines of a scene behind earlier ones
-faultless_lines : (size : Size) (before ls : List Line) → IsSize size → AreTexts before → AreLines before ls → first_fault (earlier_of size before) (map raw_line ls) ≡ None
+faultless_lines : (size : Size) (before ls : List Line) → IsTarget size → AreTexts before → AreLines before ls → first_fault (earlier_of size before) (map raw_line ls) ≡ None
 faultless_lines size before [] s t h = refl
 faultless_lines size before (l ∷ ls) s t h =
     let here = line_faultless size before l s t h.0 in
@@ -136,15 +132,14 @@ cut_lines (l ∷ ls) h =
 
 pub lines_of-text_of : (scene : Scene) → IsScene scene → lines_of (text_of scene) ≡ raw (size_words scene.size) ∷ map raw_line scene.lines
 lines_of-text_of scene h =
-    let s : IsSize scene.size = record { width = h.0; height = h.1 } in
-    lines_of-line (codes "target") (decimal scene.size.width ∷ decimal scene.size.height ∷ []) (flat_map (λ l. line_text (line_words l)) scene.lines) (size_texts scene.size s)
-    ∙ ap (λ (xs : List TextLine). raw (size_words scene.size) ∷ xs) (cut_lines scene.lines (texts_of [] scene.lines h.2))
+    lines_of-line (codes "target") (decimal scene.size.width ∷ decimal scene.size.height ∷ []) (flat_map (λ l. line_text (line_words l)) scene.lines) (size_texts scene.size h.0)
+    ∙ ap (λ (xs : List TextLine). raw (size_words scene.size) ∷ xs) (cut_lines scene.lines (texts_of [] scene.lines h.1))
 
 -- a text that spells a scene has no fault
 pub spelled_faultless : (text : List ℕ) (scene : Scene) → Spells text scene → fault_of text ≡ None
 spelled_faultless text scene h =
-    let s : IsSize scene.size = record { width = h.scene_is.0; height = h.scene_is.1 } in
+    let s = h.scene_is.0 in
     let first = first_faultless scene.size s in
-    let rest = faultless_lines scene.size [] scene.lines s tt h.scene_is.2 in
+    let rest = faultless_lines scene.size [] scene.lines s tt h.scene_is.1 in
     ap fault_of h.text_is ∙ ap fault_of_lines (lines_of-text_of scene h.scene_is)
     ∙ ap (λ f. found_in 1 f (first_fault (raw (size_words scene.size) ∷ []) (map raw_line scene.lines))) first ∙ rest

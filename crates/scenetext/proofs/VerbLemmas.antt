@@ -1,5 +1,5 @@
 -- Verbs and their words: the words are what the table of commands wants, and what it lets through are words of a verb.
-use Rattle.std.proofs.Common.{◌≡◌, ℕ, ℤ, pos, ◌+◌, ◌-◌, ◌*◌, ◌/◌, ◌^◌, ◌<◌, ◌≤◌, Bool, true, false, cond, not, ◌&&◌, eqb, eq-eqb, List, [], ◌∷◌, length, map, replicate, Some, None, refl, sym, ap, subst, ◌∙◌, arith}
+use Rattle.std.proofs.Common.{◌≡◌, ℕ, ℤ, ◌+◌, ◌-◌, ◌*◌, ◌/◌, ◌<◌, Bool, true, false, cond, not, eqb, eq-eqb, List, [], ◌∷◌, ◌++◌, length, map, replicate, Some, None, refl, sym, ap, subst, ◌∙◌, arith}
 use Rattle.std.specs.Prelude.{decimal, codes, FitsSigned}
 use Rattle.std.specs.List.{list_all, AllByRecursion, flat_map}
 use Rattle.std.specs.Int.{w32}
@@ -7,23 +7,25 @@ use Rattle.std.specs.Fmt.{signed_decimal}
 use Rattle.std.proofs.lemmas.List.{length-map, length-replicate}
 use Rattle.std.proofs.lemmas.Bool.{eqb-true}
 use Rattle.std.proofs.lemmas.Bool.Decides.{nat_tests}
-use Rattle.gfxspec.specs.Numbers.{cull_number, topology_number}
+use Rattle.gfxspec.specs.Numbers.{topology_number}
 use Rattle.gfxspec.specs.Commands as gfx
 use Rattle.scenetext.specs.declared.range.Range.{Range}
+use Rattle.scenetext.specs.declared.range.TheConstants.{U32, FLAG}
 use Rattle.scenetext.specs.declared.command.CommandWord.{CommandWord}
 use Rattle.scenetext.specs.declared.command.CommandWord.TheVariants as words
 use Rattle.scenetext.specs.Scene.{Verb, Call, Finish, Flush, Execute, Pixel}
 use Rattle.scenetext.specs.Text.{is_printable, is_word}
-use Rattle.scenetext.specs.Numbers.{context_word, Kind, Context, is_context, fits_kind, fit, u32s, i32s, flags}
-use Rattle.scenetext.specs.Commands.{vertex_kinds, OneOf, name, serves, shape, kinds_of, command_named}
-use Rattle.scenetext.specs.Spelling.{flag_number, vertex_words, verb_words, may_take, IsVerb}
+use Rattle.scenetext.specs.Numbers.{context_word, Kind, Context, is_context, fits_kind, fit, i32s}
+use Rattle.scenetext.specs.Commands.{vertex_kinds, OneOf, name, serves, ranges, shape, kinds_of, command_named}
+use Rattle.scenetext.specs.Spelling.{flag_number, raster_numbers, rect_numbers, depth_stencil_numbers, blend_numbers, vertex_words, verb_words, may_take, IsVerb}
 use Rattle.scenetext.specs.Faults.{word}
-use Rattle.scenetext.specs.Ranges.{kinds, AreIn}
+use Rattle.scenetext.specs.Ranges.{kind_of, kinds, IsIn, AreIn}
 use Rattle.scenetext.proofs.TextLemmas.{IsWordText, Lacks, and_left, and_right}
 use Rattle.scenetext.proofs.NumberLemmas.{IsWordText-decimal, IsWordText-signed_decimal, IsWordText-context, natural_fits, integer_fits, context_fits, small_signed, value-signed_decimal, value, number, context, value-decimal, natural_between, integer_is, context_is}
 use Rattle.scenetext.proofs.RangeLemmas.{are_small, length-AreIn, naturals_fit, naturals_texts, values_again, naturals_back}
-use Rattle.scenetext.proofs.MadeLemmas.{u32_range, byte_range, flag_range, topology_range, cull_range, up_to, flag_from, flag_in, flag_back, flag_again, topology_in, topology_again, cull_in, topology_set, raster_set, scissor_set, drawn, color_cleared, depth_stencil_cleared, finished, flushed, pixel_asked, IsMade, topology_made, raster_made, scissor_made, draw_made, color_made, depth_stencil_made, finish_made, flush_made, pixel_made, color_in, raster_again}
-use Rattle.scenetext.proofs.GroupLemmas.{groups_found, vertices_from, vertices_texts, length-vertices, vertices_fit, vertices_again, groups_of, vertices_back, index_ranges, indices_small, indices_in, indices_are, singles_of}
+use Rattle.scenetext.proofs.ChoiceLemmas.{flag_from, flag_back, flag_again, topology_again}
+use Rattle.scenetext.proofs.MadeLemmas.{topology_set, raster_set, scissor_set, depth_stencil_set, blend_set, drawn, color_cleared, depth_stencil_cleared, finished, flushed, pixel_asked, IsMade, topology_made, raster_made, scissor_made, depth_stencil_made, blend_made, draw_made, color_made, clear_made, finish_made, flush_made, pixel_made, raster_again, depth_stencil_again, blend_again}
+use Rattle.scenetext.proofs.GroupLemmas.{groups_found, vertices_from, vertices_texts, length-vertices, vertices_fit, vertices_again, groups_of, vertices_back, IsIndex, index_ranges, indices_small, indices_in, indices_are, singles_of}
 
 -- the verb of a command with these words
 abbrev pub verb_from : CommandWord → List (List ℕ) → Verb
@@ -32,6 +34,8 @@ verb_from words.Ib ws = Call (gfx.SetIndices (map value ws))
 verb_from words.Topology ws = topology_set (map value ws)
 verb_from words.Raster ws = raster_set (map value ws)
 verb_from words.Scissor ws = scissor_set (map value ws)
+verb_from words.Ds ws = depth_stencil_set (map value ws)
+verb_from words.Blend ws = blend_set (map value ws)
 verb_from words.Draw ws = drawn (map value ws)
 verb_from words.Drawi ws = Call (gfx.DrawIndexed (value (word ws 0)) (value (word ws 1)) (number (word ws 2)))
 verb_from words.Clearc ws = color_cleared (map value ws)
@@ -60,21 +64,21 @@ found_naturals rs ns h =
     let e : length (kinds rs) ≡ length (map decimal ns) = length-map rs _ ∙ length-AreIn rs ns h ∙ sym (length-map ns decimal) in
     ap (λ b. cond b (Some (kinds rs)) None) (eq-eqb _ _ e)
 
-naturals : (c : CommandWord) (rs : List Range) (make : List ℕ → Verb) (ns : List ℕ) (v : Verb) → verb_words v ≡ name c ∷ map decimal ns → ((immediate : Bool) → may_take v immediate ≡ serves c immediate)
-    → shape c ≡ OneOf (kinds rs ∷ []) → are_small rs ≡ true → ((ws : List (List ℕ)) → verb_from c ws ≡ make (map value ws)) → make ns ≡ v → AreIn rs ns → Fits v
-naturals c rs make ns v words taken sh small from made h = record {
+naturals : (c : CommandWord) (make : List ℕ → Verb) (ns : List ℕ) (v : Verb) → verb_words v ≡ name c ∷ map decimal ns → ((immediate : Bool) → may_take v immediate ≡ serves c immediate)
+    → shape c ≡ OneOf (kinds (ranges c) ∷ []) → are_small (ranges c) ≡ true → ((ws : List (List ℕ)) → verb_from c ws ≡ make (map value ws)) → make ns ≡ v → AreIn (ranges c) ns → Fits v
+naturals c make ns v words taken sh small from made h = record {
   command = c;
   arguments = map decimal ns;
   words_are = words;
   taken = taken;
-  kinds = kinds rs;
-  found = ap (λ s. kinds_of s (length (map decimal ns))) sh ∙ found_naturals rs ns h;
-  fits = naturals_fit rs ns small h;
-  texts = naturals_texts rs ns small h;
-  again = from (map decimal ns) ∙ ap make (values_again rs ns small h) ∙ made;
+  kinds = kinds (ranges c);
+  found = ap (λ s. kinds_of s (length (map decimal ns))) sh ∙ found_naturals (ranges c) ns h;
+  fits = naturals_fit (ranges c) ns small h;
+  texts = naturals_texts (ranges c) ns small h;
+  again = from (map decimal ns) ∙ ap make (values_again (ranges c) ns small h) ∙ made;
 }
 
-indices_fits : (is : List ℕ) → AllByRecursion (λ i. i < 2 ^ 16) is → Fits (Call (gfx.SetIndices is))
+indices_fits : (is : List ℕ) → AllByRecursion IsIndex is → Fits (Call (gfx.SetIndices is))
 indices_fits is h =
     let n = length is in
     let within : AreIn (index_ranges n) is = indices_in is h in
@@ -90,35 +94,35 @@ indices_fits is h =
       again = ap (λ xs. Call (gfx.SetIndices xs)) (values_again (index_ranges n) is (indices_small n) within);
     }
 
-drawi_fits : (count start : ℕ) (base : ℤ) → count < 2 ^ 32 → start < 2 ^ 32 → FitsSigned w32 base → Fits (Call (gfx.DrawIndexed count start base))
-drawi_fits count start base hc hs hb = record {
+-- two natural numbers, and one behind them that may be negative
+drawi_fits : (count start : ℕ) (base : ℤ) → AreIn (ranges words.Drawi) (count ∷ start ∷ []) → FitsSigned w32 base → Fits (Call (gfx.DrawIndexed count start base))
+drawi_fits count start base h hb = record {
   command = words.Drawi;
   arguments = decimal count ∷ decimal start ∷ signed_decimal base ∷ [];
   words_are = refl;
   taken = λ im. refl;
-  kinds = u32s ∷ u32s ∷ i32s ∷ [];
+  kinds = kinds (ranges words.Drawi) ++ i32s ∷ [];
   found = refl;
-  fits = rw (natural_fits 0 4294967295 count (omega arith) (omega arith) (omega arith), natural_fits 0 4294967295 start (omega arith) (omega arith) (omega arith), integer_fits base hb) refl;
-  texts = (IsWordText-decimal count (omega arith), (IsWordText-decimal start (omega arith), (IsWordText-signed_decimal base (small_signed base hb), tt)));
-  again = rw (value-decimal count (omega arith), value-decimal start (omega arith), value-signed_decimal base (small_signed base hb)) refl;
+  fits = rw (natural_fits 0 4294967295 count h.0.low h.0.high (omega (arith, h.0.high)), natural_fits 0 4294967295 start h.1.0.low h.1.0.high (omega (arith, h.1.0.high)), integer_fits base hb) refl;
+  texts = (IsWordText-decimal count (omega (arith, h.0.high)), (IsWordText-decimal start (omega (arith, h.1.0.high)), (IsWordText-signed_decimal base (small_signed base hb), tt)));
+  again = rw (value-decimal count (omega (arith, h.0.high)), value-decimal start (omega (arith, h.1.0.high)), value-signed_decimal base (small_signed base hb)) refl;
 }
 
-exec_fits : (k list : ℕ) (restore : Bool) → k < 8 → list < 2 ^ 32 → Fits (Execute k list restore)
-exec_fits k list restore h l =
-    let numbers : AreIn (u32_range ∷ flag_range ∷ []) (list ∷ flag_number restore ∷ []) = (up_to 4294967295 list (omega arith), (flag_in restore, tt)) in
+exec_fits : (k list : ℕ) (restore : Bool) → k < 8 → AreIn (ranges words.Exec) (list ∷ flag_number restore ∷ []) → Fits (Execute k list restore)
+exec_fits k list restore h numbers =
+    let ns : List ℕ = list ∷ flag_number restore ∷ [] in
     record {
       command = words.Exec;
-      arguments = context_word k ∷ decimal list ∷ decimal (flag_number restore) ∷ [];
+      arguments = context_word k ∷ map decimal ns;
       words_are = refl;
       taken = λ im. refl;
-      kinds = Context ∷ u32s ∷ flags ∷ [];
+      kinds = Context ∷ kinds (ranges words.Exec);
       found = refl;
-      fits = rw (context_fits k h) (naturals_fit (u32_range ∷ flag_range ∷ []) (list ∷ flag_number restore ∷ []) refl numbers);
-      texts = (IsWordText-context k h, naturals_texts (u32_range ∷ flag_range ∷ []) (list ∷ flag_number restore ∷ []) refl numbers);
+      fits = rw (context_fits k h) (naturals_fit (ranges words.Exec) ns refl numbers);
+      texts = (IsWordText-context k h, naturals_texts (ranges words.Exec) ns refl numbers);
       again = (
           let e : 48 + k - 48 ≡ k = omega arith in
-          let f : value (decimal (flag_number restore)) ≡ flag_number restore = value-decimal (flag_number restore) (omega (arith, numbers.1.0.high)) in
-          rw (e, value-decimal list (omega arith), f, flag_again restore) refl);
+          rw (e, value-decimal list (omega (arith, numbers.0.high)), value-decimal (flag_number restore) (omega (arith, numbers.1.0.high)), flag_again restore) refl);
     }
 
 pub verb_fits : (v : Verb) → IsVerb v → Fits v
@@ -134,17 +138,19 @@ verb_fits (Call (gfx.SetVertices vs)) h = record {
   again = ap (λ us. Call (gfx.SetVertices us)) (vertices_again vs h);
 }
 verb_fits (Call (gfx.SetIndices is)) h = indices_fits is h
-verb_fits (Call (gfx.SetTopology t)) h = naturals words.Topology (topology_range ∷ []) topology_set (topology_number t ∷ []) _ refl (λ im. refl) refl refl (λ ws. refl) (ap (λ x. Call (gfx.SetTopology x)) (topology_again t)) (topology_in t, tt)
-verb_fits (Call (gfx.SetRaster r)) h = naturals words.Raster (cull_range ∷ flag_range ∷ flag_range ∷ []) raster_set (cull_number r.cull ∷ flag_number r.front_ccw ∷ flag_number r.scissor ∷ []) _ refl (λ im. refl) refl refl (λ ws. refl) (raster_again r h) (cull_in r.cull, (flag_in r.front_ccw, (flag_in r.scissor, tt)))
-verb_fits (Call (gfx.SetScissor r)) h = naturals words.Scissor (u32_range ∷ u32_range ∷ u32_range ∷ u32_range ∷ []) scissor_set (r.left ∷ r.top ∷ r.right ∷ r.bottom ∷ []) _ refl (λ im. refl) refl refl (λ ws. refl) refl (up_to 4294967295 r.left (omega (arith, h.0)), (up_to 4294967295 r.top (omega (arith, h.1)), (up_to 4294967295 r.right (omega (arith, h.2)), (up_to 4294967295 r.bottom (omega (arith, h.3)), tt))))
-verb_fits (Call (gfx.Draw count start)) h = naturals words.Draw (u32_range ∷ u32_range ∷ []) drawn (count ∷ start ∷ []) _ refl (λ im. refl) refl refl (λ ws. refl) refl (up_to 4294967295 count (omega (arith, h.0)), (up_to 4294967295 start (omega (arith, h.1)), tt))
-verb_fits (Call (gfx.DrawIndexed count start base)) h = drawi_fits count start base h.0 h.1 h.2
-verb_fits (Call (gfx.ClearColor rgba)) h = naturals words.Clearc (byte_range ∷ byte_range ∷ byte_range ∷ byte_range ∷ []) color_cleared rgba _ refl (λ im. refl) refl refl (λ ws. refl) refl (color_in rgba h)
-verb_fits (Call (gfx.ClearDepthStencil depth stencil)) h = naturals words.Cleards (u32_range ∷ byte_range ∷ []) depth_stencil_cleared (depth ∷ stencil ∷ []) _ refl (λ im. refl) refl refl (λ ws. refl) refl (up_to 4294967295 depth (omega (arith, h.0)), (up_to 255 stencil (omega (arith, h.1)), tt))
-verb_fits (Finish restore) h = naturals words.Finish (flag_range ∷ []) finished (flag_number restore ∷ []) _ refl (λ im. refl) refl refl (λ ws. refl) (ap Finish (flag_again restore)) (flag_in restore, tt)
-verb_fits Flush h = naturals words.Flush [] flushed [] _ refl (λ im. refl) refl refl (λ ws. refl) refl tt
+verb_fits (Call (gfx.SetTopology t)) h = naturals words.Topology topology_set (topology_number t ∷ []) _ refl (λ im. refl) refl refl (λ ws. refl) (ap (λ x. Call (gfx.SetTopology x)) (topology_again t)) h
+verb_fits (Call (gfx.SetRaster r)) h = naturals words.Raster raster_set (raster_numbers r) _ refl (λ im. refl) refl refl (λ ws. refl) (raster_again r h.1) h.0
+verb_fits (Call (gfx.SetScissor r)) h = naturals words.Scissor scissor_set (rect_numbers r) _ refl (λ im. refl) refl refl (λ ws. refl) refl h
+verb_fits (Call (gfx.SetDepthStencil s reference)) h = naturals words.Ds depth_stencil_set (depth_stencil_numbers s reference) _ refl (λ im. refl) refl refl (λ ws. refl) (depth_stencil_again s reference) h
+verb_fits (Call (gfx.SetBlend b)) h = naturals words.Blend blend_set (blend_numbers b) _ refl (λ im. refl) refl refl (λ ws. refl) (blend_again b) h
+verb_fits (Call (gfx.Draw count start)) h = naturals words.Draw drawn (count ∷ start ∷ []) _ refl (λ im. refl) refl refl (λ ws. refl) refl h
+verb_fits (Call (gfx.DrawIndexed count start base)) h = drawi_fits count start base h.0 h.1
+verb_fits (Call (gfx.ClearColor rgba)) h = naturals words.Clearc color_cleared rgba _ refl (λ im. refl) refl refl (λ ws. refl) refl h
+verb_fits (Call (gfx.ClearDepthStencil depth stencil)) h = naturals words.Cleards depth_stencil_cleared (depth ∷ stencil ∷ []) _ refl (λ im. refl) refl refl (λ ws. refl) refl h
+verb_fits (Finish restore) h = naturals words.Finish finished (flag_number restore ∷ []) _ refl (λ im. refl) refl refl (λ ws. refl) (ap Finish (flag_again restore)) h
+verb_fits Flush h = naturals words.Flush flushed [] _ refl (λ im. refl) refl refl (λ ws. refl) refl tt
 verb_fits (Execute context list restore) h = exec_fits context list restore h.0 h.1
-verb_fits (Pixel x y) h = naturals words.Pixel (u32_range ∷ u32_range ∷ []) pixel_asked (x ∷ y ∷ []) _ refl (λ im. refl) refl refl (λ ws. refl) refl (up_to 4294967295 x (omega (arith, h.0)), (up_to 4294967295 y (omega (arith, h.1)), tt))
+verb_fits (Pixel x y) h = naturals words.Pixel pixel_asked (x ∷ y ∷ []) _ refl (λ im. refl) refl refl (λ ws. refl) refl h
 verb_fits v h = absurd h
 
 -- ---- from words to their verb
@@ -162,11 +168,11 @@ one_of ks ls n h = one_of_test ks ls (eqb (length ks) n) n refl h
     one_of_test ks ls true n e h = (eqb-true _ _ e, cc)
     one_of_test ks ls false n e h = absurd cc
 
-naturals_backs : (c : CommandWord) (rs : List Range) (make : List ℕ → Verb) → shape c ≡ OneOf (kinds rs ∷ []) → are_small rs ≡ true → ((ws : List (List ℕ)) → verb_from c ws ≡ make (map value ws)) → ((ns : List ℕ) → AreIn rs ns → IsMade c ns (make ns))
+naturals_backs : (c : CommandWord) (make : List ℕ → Verb) → shape c ≡ OneOf (kinds (ranges c) ∷ []) → are_small (ranges c) ≡ true → ((ws : List (List ℕ)) → verb_from c ws ≡ make (map value ws)) → ((ns : List ℕ) → AreIn (ranges c) ns → IsMade c ns (make ns))
     → (ls : List Kind) (ws : List (List ℕ)) → kinds_of (shape c) (length ws) ≡ Some ls → fit ls ws ≡ true → Backs c ws
-naturals_backs c rs make sh small from made ls ws found fits =
-    let g = one_of (kinds rs) ls (length ws) (ap (λ s. kinds_of s (length ws)) (sym sh) ∙ found) in
-    let b = naturals_back rs ws small (sym (length-map rs _) ∙ g.0) (subst (λ ks. fit ks ws ≡ true) (sym g.1) fits) in
+naturals_backs c make sh small from made ls ws found fits =
+    let g = one_of (kinds (ranges c)) ls (length ws) (ap (λ s. kinds_of s (length ws)) (sym sh) ∙ found) in
+    let b = naturals_back (ranges c) ws small (sym (length-map (ranges c) _) ∙ g.0) (subst (λ ks. fit ks ws ≡ true) (sym g.1) fits) in
     let m = made (map value ws) b.1 in
     record {
       words = ap verb_words (from ws) ∙ m.words ∙ ap (λ x. name c ∷ x) b.0;
@@ -174,38 +180,40 @@ naturals_backs c rs make sh small from made ls ws found fits =
       taken = λ im. ap (λ v. may_take v im) (from ws) ∙ m.taken im;
     }
 
-drawi_backs : (ws : List (List ℕ)) → 3 ≡ length ws → fit (u32s ∷ u32s ∷ i32s ∷ []) ws ≡ true → Backs words.Drawi ws
+drawi_backs : (ws : List (List ℕ)) → 3 ≡ length ws → fit (kinds (ranges words.Drawi) ++ i32s ∷ []) ws ≡ true → Backs words.Drawi ws
 drawi_backs [] e h = absurd (omega arith)
 drawi_backs (a ∷ []) e h = absurd (omega arith)
 drawi_backs (a ∷ b ∷ []) e h = absurd (omega arith)
 drawi_backs (a ∷ b ∷ c ∷ []) e h =
-    let h1 = and_right (fits_kind u32s a) (fit (u32s ∷ i32s ∷ []) (b ∷ c ∷ [])) h in
-    let h2 = and_right (fits_kind u32s b) (fit (i32s ∷ []) (c ∷ [])) h1 in
-    let x = natural_between 0 4294967295 a (omega arith) (and_left (fits_kind u32s a) (fit (u32s ∷ i32s ∷ []) (b ∷ c ∷ [])) h) in
-    let y = natural_between 0 4294967295 b (omega arith) (and_left (fits_kind u32s b) (fit (i32s ∷ []) (c ∷ [])) h1) in
+    let h1 = and_right (fits_kind (kind_of U32) a) (fit (kind_of U32 ∷ i32s ∷ []) (b ∷ c ∷ [])) h in
+    let h2 = and_right (fits_kind (kind_of U32) b) (fit (i32s ∷ []) (c ∷ [])) h1 in
+    let x = natural_between 0 4294967295 a (omega arith) (and_left (fits_kind (kind_of U32) a) (fit (kind_of U32 ∷ i32s ∷ []) (b ∷ c ∷ [])) h) in
+    let y = natural_between 0 4294967295 b (omega arith) (and_left (fits_kind (kind_of U32) b) (fit (i32s ∷ []) (c ∷ [])) h1) in
     let z = integer_is c (and_left (fits_kind i32s c) true h2) in
     record {
       words = ap (λ w. codes "drawi" ∷ w ∷ decimal (value b) ∷ signed_decimal (number c) ∷ []) (sym x.0) ∙ ap (λ w. codes "drawi" ∷ a ∷ w ∷ signed_decimal (number c) ∷ []) (sym y.0) ∙ ap (λ w. codes "drawi" ∷ a ∷ b ∷ w ∷ []) (sym z.0);
-      verb = (omega (arith, x.2), omega (arith, y.2), z.1);
+      verb = ((record { low = x.1; high = x.2 }, (record { low = y.1; high = y.2 }, tt)), z.1);
       taken = λ im. refl;
     }
 drawi_backs (a ∷ b ∷ c ∷ d ∷ ws) e h = absurd (omega arith)
 
-exec_backs : (ws : List (List ℕ)) → 3 ≡ length ws → fit (Context ∷ u32s ∷ flags ∷ []) ws ≡ true → Backs words.Exec ws
+exec_backs : (ws : List (List ℕ)) → 3 ≡ length ws → fit (Context ∷ kinds (ranges words.Exec)) ws ≡ true → Backs words.Exec ws
 exec_backs [] e h = absurd (omega arith)
 exec_backs (a ∷ ws) e h =
-    let k = context_is a (and_left (is_context a) (fit (u32s ∷ flags ∷ []) ws) h) in
-    let b = naturals_back (u32_range ∷ flag_range ∷ []) ws refl (omega arith) (and_right (is_context a) (fit (u32s ∷ flags ∷ []) ws) h) in
+    let k = context_is a (and_left (is_context a) (fit (kinds (ranges words.Exec)) ws) h) in
+    let b = naturals_back (ranges words.Exec) ws refl (omega arith) (and_right (is_context a) (fit (kinds (ranges words.Exec)) ws) h) in
     at ws b.0 b.1 k.0 k.1
   where
-    at : (ws : List (List ℕ)) → map decimal (map value ws) ≡ ws → AreIn (u32_range ∷ flag_range ∷ []) (map value ws) → a ≡ context_word (context a) → context a < 8 → Backs words.Exec (a ∷ ws)
+    at : (ws : List (List ℕ)) → map decimal (map value ws) ≡ ws → AreIn (ranges words.Exec) (map value ws) → a ≡ context_word (context a) → context a < 8 → Backs words.Exec (a ∷ ws)
     at [] f h g l = absurd h
     at (b ∷ []) f h g l = absurd h.1
-    at (b ∷ c ∷ []) f h g l = record {
-      words = ap (λ n. codes "exec" ∷ context_word (context a) ∷ decimal (value b) ∷ decimal n ∷ []) (flag_back (value c) h.1.0.high) ∙ ap (λ w. codes "exec" ∷ w ∷ map decimal (map value (b ∷ c ∷ []))) (sym g) ∙ ap (λ x. codes "exec" ∷ a ∷ x) f;
-      verb = (l, omega (arith, h.0.high));
-      taken = λ im. refl;
-    }
+    at (b ∷ c ∷ []) f h g l =
+        let flag = flag_back (value c) h.1.0 in
+        record {
+          words = ap (λ n. codes "exec" ∷ context_word (context a) ∷ decimal (value b) ∷ decimal n ∷ []) flag ∙ ap (λ w. codes "exec" ∷ w ∷ map decimal (map value (b ∷ c ∷ []))) (sym g) ∙ ap (λ x. codes "exec" ∷ a ∷ x) f;
+          verb = (l, (h.0, (subst (IsIn FLAG) (sym flag) h.1.0, tt)));
+          taken = λ im. refl;
+        }
     at (b ∷ c ∷ d ∷ ws) f h g l = absurd h.1.1
 
 indices_backs : (ls : List Kind) (ws : List (List ℕ)) → kinds_of (shape words.Ib) (length ws) ≡ Some ls → fit ls ws ≡ true → Backs words.Ib ws
@@ -224,21 +232,23 @@ backs words.Vb ls ws found fits =
     let r = vertices_back (length ws / 7) ws e (subst (λ ks. fit ks ws ≡ true) (sym g.1) fits) in
     record { words = ap (λ x. codes "vb" ∷ x) r.0; verb = r.1; taken = λ im. refl }
 backs words.Ib ls ws found fits = indices_backs ls ws found fits
-backs words.Topology ls ws found fits = naturals_backs words.Topology (topology_range ∷ []) topology_set refl refl (λ ws. refl) topology_made ls ws found fits
-backs words.Raster ls ws found fits = naturals_backs words.Raster (cull_range ∷ flag_range ∷ flag_range ∷ []) raster_set refl refl (λ ws. refl) raster_made ls ws found fits
-backs words.Scissor ls ws found fits = naturals_backs words.Scissor (u32_range ∷ u32_range ∷ u32_range ∷ u32_range ∷ []) scissor_set refl refl (λ ws. refl) scissor_made ls ws found fits
-backs words.Draw ls ws found fits = naturals_backs words.Draw (u32_range ∷ u32_range ∷ []) drawn refl refl (λ ws. refl) draw_made ls ws found fits
+backs words.Topology ls ws found fits = naturals_backs words.Topology topology_set refl refl (λ ws. refl) topology_made ls ws found fits
+backs words.Raster ls ws found fits = naturals_backs words.Raster raster_set refl refl (λ ws. refl) raster_made ls ws found fits
+backs words.Scissor ls ws found fits = naturals_backs words.Scissor scissor_set refl refl (λ ws. refl) scissor_made ls ws found fits
+backs words.Ds ls ws found fits = naturals_backs words.Ds depth_stencil_set refl refl (λ ws. refl) depth_stencil_made ls ws found fits
+backs words.Blend ls ws found fits = naturals_backs words.Blend blend_set refl refl (λ ws. refl) blend_made ls ws found fits
+backs words.Draw ls ws found fits = naturals_backs words.Draw drawn refl refl (λ ws. refl) draw_made ls ws found fits
 backs words.Drawi ls ws found fits =
-    let g = one_of (u32s ∷ u32s ∷ i32s ∷ []) ls (length ws) found in
+    let g = one_of (kinds (ranges words.Drawi) ++ i32s ∷ []) ls (length ws) found in
     drawi_backs ws g.0 (subst (λ ks. fit ks ws ≡ true) (sym g.1) fits)
-backs words.Clearc ls ws found fits = naturals_backs words.Clearc (byte_range ∷ byte_range ∷ byte_range ∷ byte_range ∷ []) color_cleared refl refl (λ ws. refl) color_made ls ws found fits
-backs words.Cleards ls ws found fits = naturals_backs words.Cleards (u32_range ∷ byte_range ∷ []) depth_stencil_cleared refl refl (λ ws. refl) depth_stencil_made ls ws found fits
-backs words.Finish ls ws found fits = naturals_backs words.Finish (flag_range ∷ []) finished refl refl (λ ws. refl) finish_made ls ws found fits
-backs words.Flush ls ws found fits = naturals_backs words.Flush [] flushed refl refl (λ ws. refl) flush_made ls ws found fits
+backs words.Clearc ls ws found fits = naturals_backs words.Clearc color_cleared refl refl (λ ws. refl) color_made ls ws found fits
+backs words.Cleards ls ws found fits = naturals_backs words.Cleards depth_stencil_cleared refl refl (λ ws. refl) clear_made ls ws found fits
+backs words.Finish ls ws found fits = naturals_backs words.Finish finished refl refl (λ ws. refl) finish_made ls ws found fits
+backs words.Flush ls ws found fits = naturals_backs words.Flush flushed refl refl (λ ws. refl) flush_made ls ws found fits
 backs words.Exec ls ws found fits =
-    let g = one_of (Context ∷ u32s ∷ flags ∷ []) ls (length ws) found in
+    let g = one_of (Context ∷ kinds (ranges words.Exec)) ls (length ws) found in
     exec_backs ws g.0 (subst (λ ks. fit ks ws ≡ true) (sym g.1) fits)
-backs words.Pixel ls ws found fits = naturals_backs words.Pixel (u32_range ∷ u32_range ∷ []) pixel_asked refl refl (λ ws. refl) pixel_made ls ws found fits
+backs words.Pixel ls ws found fits = naturals_backs words.Pixel pixel_asked refl refl (λ ws. refl) pixel_made ls ws found fits
 
 -- ---- the names of commands
 
@@ -264,6 +274,8 @@ IsWordText-name words.Ib = IsWordText-known (codes "ib") refl refl refl
 IsWordText-name words.Topology = IsWordText-known (codes "topology") refl refl refl
 IsWordText-name words.Raster = IsWordText-known (codes "raster") refl refl refl
 IsWordText-name words.Scissor = IsWordText-known (codes "scissor") refl refl refl
+IsWordText-name words.Ds = IsWordText-known (codes "ds") refl refl refl
+IsWordText-name words.Blend = IsWordText-known (codes "blend") refl refl refl
 IsWordText-name words.Draw = IsWordText-known (codes "draw") refl refl refl
 IsWordText-name words.Drawi = IsWordText-known (codes "drawi") refl refl refl
 IsWordText-name words.Clearc = IsWordText-known (codes "clearc") refl refl refl

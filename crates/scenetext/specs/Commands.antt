@@ -1,12 +1,15 @@
 -- The table of commands: the word, who may use it, and its arguments. A command that comes in later is a row of each definition.
-use Rattle.std.specs.Prelude.{ℕ, pos, ◌==◌, ◌/◌, ◌%◌, Bool, true, ◌&&◌, not, List, [], ◌∷◌, length, Option, Some, None, bytes_eq, codes, find, replicate, if◌then◌else◌}
+use Rattle.std.specs.Prelude.{ℕ, ◌==◌, ◌/◌, ◌%◌, Bool, true, ◌&&◌, not, List, [], ◌∷◌, ◌++◌, length, Option, Some, None, bytes_eq, codes, find, replicate, if◌then◌else◌}
 use Rattle.std.specs.List.{flat_map}
 use Rattle.scenetext.specs.declared.command.CommandWord.{CommandWord}
-use Rattle.scenetext.specs.declared.command.CommandWord.TheVariants.{Vb, Ib, Topology, Raster, Scissor, Draw, Drawi, Clearc, Cleards, Finish, Flush, Exec, Pixel}
-use Rattle.scenetext.specs.Numbers.{Kind, Number, Context, u32s, i32s, u16s, bytes, flags}
+use Rattle.scenetext.specs.declared.command.CommandWord.TheVariants.{Vb, Ib, Topology, Raster, Scissor, Ds, Blend, Draw, Drawi, Clearc, Cleards, Finish, Flush, Exec, Pixel}
+use Rattle.scenetext.specs.declared.range.Range.{Range}
+use Rattle.scenetext.specs.declared.range.TheConstants.{U32, BYTE, FLAG, INDEX, TOPOLOGY, CULL, COMPARISON, STENCIL_OP, LOGIC_OP, COLOR_MASK}
+use Rattle.scenetext.specs.Numbers.{Kind, Context, i32s}
+use Rattle.scenetext.specs.Ranges.{kinds}
 
 abbrev pub commands : List CommandWord
-commands = Vb ∷ Ib ∷ Topology ∷ Raster ∷ Scissor ∷ Draw ∷ Drawi ∷ Clearc ∷ Cleards ∷ Finish ∷ Flush ∷ Exec ∷ Pixel ∷ []
+commands = Vb ∷ Ib ∷ Topology ∷ Raster ∷ Scissor ∷ Ds ∷ Blend ∷ Draw ∷ Drawi ∷ Clearc ∷ Cleards ∷ Finish ∷ Flush ∷ Exec ∷ Pixel ∷ []
 
 abbrev pub name : CommandWord → List ℕ
 name Vb = codes "vb"
@@ -14,6 +17,8 @@ name Ib = codes "ib"
 name Topology = codes "topology"
 name Raster = codes "raster"
 name Scissor = codes "scissor"
+name Ds = codes "ds"
+name Blend = codes "blend"
 name Draw = codes "draw"
 name Drawi = codes "drawi"
 name Clearc = codes "clearc"
@@ -30,6 +35,8 @@ serves Ib immediate = true
 serves Topology immediate = true
 serves Raster immediate = true
 serves Scissor immediate = true
+serves Ds immediate = true
+serves Blend immediate = true
 serves Draw immediate = true
 serves Drawi immediate = true
 serves Clearc immediate = true
@@ -39,6 +46,28 @@ serves Flush immediate = immediate
 serves Exec immediate = immediate
 serves Pixel immediate = immediate
 
+-- a face's three stencil operations (where the stencil test fails, where the depth test does, where both pass), and its comparison
+abbrev pub face_ranges : List Range
+face_ranges = STENCIL_OP ∷ STENCIL_OP ∷ STENCIL_OP ∷ COMPARISON ∷ []
+
+-- the ranges of a command's natural numbers, in order: of one vertex behind its x and y, of one index, of `drawi` before its base, of `exec` behind its context
+abbrev pub ranges : CommandWord → List Range
+ranges Vb = U32 ∷ BYTE ∷ BYTE ∷ BYTE ∷ BYTE ∷ []
+ranges Ib = INDEX ∷ []
+ranges Topology = TOPOLOGY ∷ []
+ranges Raster = CULL ∷ FLAG ∷ FLAG ∷ []
+ranges Scissor = U32 ∷ U32 ∷ U32 ∷ U32 ∷ []
+ranges Ds = FLAG ∷ FLAG ∷ COMPARISON ∷ FLAG ∷ BYTE ∷ BYTE ∷ (face_ranges ++ (face_ranges ++ BYTE ∷ []))
+ranges Blend = FLAG ∷ LOGIC_OP ∷ COLOR_MASK ∷ []
+ranges Draw = U32 ∷ U32 ∷ []
+ranges Drawi = U32 ∷ U32 ∷ []
+ranges Clearc = BYTE ∷ BYTE ∷ BYTE ∷ BYTE ∷ []
+ranges Cleards = U32 ∷ BYTE ∷ []
+ranges Finish = FLAG ∷ []
+ranges Flush = []
+ranges Exec = U32 ∷ FLAG ∷ []
+ranges Pixel = U32 ∷ U32 ∷ []
+
 -- the arguments of a command: one of some lists of kinds, or any number of groups
 pub data Shape : Type 0 where
   OneOf : (options : List (List Kind)) → Shape
@@ -46,22 +75,14 @@ pub data Shape : Type 0 where
 
 -- x, y, z, red, green, blue and alpha of a vertex
 abbrev pub vertex_kinds : List Kind
-vertex_kinds = i32s ∷ i32s ∷ u32s ∷ bytes ∷ bytes ∷ bytes ∷ bytes ∷ []
+vertex_kinds = i32s ∷ i32s ∷ kinds (ranges Vb)
 
 abbrev pub shape : CommandWord → Shape
 shape Vb = Groups vertex_kinds
-shape Ib = Groups (u16s ∷ [])
-shape Topology = OneOf ((Number (pos 4) (pos 5) ∷ []) ∷ [])
-shape Raster = OneOf ((Number (pos 1) (pos 3) ∷ flags ∷ flags ∷ []) ∷ [])
-shape Scissor = OneOf ((u32s ∷ u32s ∷ u32s ∷ u32s ∷ []) ∷ [])
-shape Draw = OneOf ((u32s ∷ u32s ∷ []) ∷ [])
-shape Drawi = OneOf ((u32s ∷ u32s ∷ i32s ∷ []) ∷ [])
-shape Clearc = OneOf ((bytes ∷ bytes ∷ bytes ∷ bytes ∷ []) ∷ [])
-shape Cleards = OneOf ((u32s ∷ bytes ∷ []) ∷ [])
-shape Finish = OneOf ((flags ∷ []) ∷ [])
-shape Flush = OneOf ([] ∷ [])
-shape Exec = OneOf ((Context ∷ u32s ∷ flags ∷ []) ∷ [])
-shape Pixel = OneOf ((u32s ∷ u32s ∷ []) ∷ [])
+shape Ib = Groups (kinds (ranges Ib))
+shape Drawi = OneOf ((kinds (ranges Drawi) ++ i32s ∷ []) ∷ [])
+shape Exec = OneOf ((Context ∷ kinds (ranges Exec)) ∷ [])
+shape command = OneOf (kinds (ranges command) ∷ [])
 
 -- the kinds of this many arguments, if there may be so many
 abbrev pub kinds_of : Shape → ℕ → Option (List Kind)

@@ -3,8 +3,10 @@ use Rattle.std.specs.Prelude.{ℕ, ◌+◌, ◌≡◌, nat_le, Bool, ◌&&◌, �
 use Rattle.std.specs.Str.Parse.{digits_value}
 use Rattle.scenetext.specs.declared.fault.Fault.{Fault}
 use Rattle.scenetext.specs.declared.fault.Fault.TheVariants as faults
+use Rattle.scenetext.specs.declared.range.TheConstants.{U32}
 use Rattle.scenetext.specs.Text.{TextLine, lines_of, words_of, has_form}
-use Rattle.scenetext.specs.Numbers.{is_context, fit, u32s}
+use Rattle.scenetext.specs.Numbers.{is_context, fit}
+use Rattle.scenetext.specs.Ranges.{kinds}
 use Rattle.scenetext.specs.Commands.{Shape, OneOf, shape, kinds_of, command_named}
 
 -- the numbers of the faults
@@ -50,7 +52,7 @@ has_list earlier words =
     || not (nat_le (count_by (finishes (word words 2)) earlier) (digits_value 10 (word words 3)))
 
 abbrev pub target_shape : Shape
-target_shape = OneOf ((u32s ∷ u32s ∷ []) ∷ [])
+target_shape = OneOf (kinds (U32 ∷ U32 ∷ []) ∷ [])
 
 -- the rows for the first line
 abbrev pub first_line_fault : List (List ℕ) → Option Fault

@@ -32,17 +32,5 @@ fit [] words = true
 fit (k ∷ ks) [] = false
 fit (k ∷ ks) (w ∷ ws) = fits_kind k w && fit ks ws
 
-abbrev pub u32s : Kind
-u32s = Number (pos 0) (pos 4294967295)
-
 abbrev pub i32s : Kind
 i32s = Number (negsuc 2147483647) (pos 2147483647)
-
-abbrev pub u16s : Kind
-u16s = Number (pos 0) (pos 65535)
-
-abbrev pub bytes : Kind
-bytes = Number (pos 0) (pos 255)
-
-abbrev pub flags : Kind
-flags = Number (pos 0) (pos 1)

@@ -11,7 +11,7 @@ use Rattle.scenetext.specs.Scene.{Actor, Immediate, Deferred, Verb, Execute, Lin
 use Rattle.scenetext.specs.Text.{TextLine, lines_of, words_of, has_form}
 use Rattle.scenetext.specs.Numbers.{context_word}
 use Rattle.scenetext.specs.Commands.{Shape, name, shape, serves}
-use Rattle.scenetext.specs.Spelling.{actor_word, is_immediate_actor, verb_words, line_words, size_words, may_take, is_finish, IsActor, IsVerb}
+use Rattle.scenetext.specs.Spelling.{actor_word, is_immediate_actor, verb_words, line_words, size_words, may_take, is_finish, IsActor, IsVerb, IsTarget}
 use Rattle.scenetext.specs.Faults.{number_of_fault, arguments_fault, finishes, first_line_fault, later_line_fault, first_fault, fault_of, HasFault}
 
 -- these words are the arguments of this verb
@@ -86,8 +86,7 @@ pub record BadForm (text : List ℕ) : Type 0 where
 
 pub record ReadsSize (line : List ℕ) (s : Size) : Type 0 where
   pub words_are : size_words s ≡ words_of line
-  pub width : s.width < 2 ^ 32
-  pub height : s.height < 2 ^ 32
+  pub size : IsTarget s
 
 -- the first line takes no memory
 abbrev pub RefusesFirst : List ℕ → ReadError → Type 0
@@ -112,8 +111,7 @@ HasRoom finished = (k : ℕ) → k < 8 → slice_index finished k < 2 ^ 63
 -- a text whose first line gives this size
 pub record ReadsFirst (text : List ℕ) (s : Size) (rest : List ℕ) : Type 0 where
   pub lines : lines_of text ≡ line_record (join_with_byte 32 (size_words s)) ∷ lines_of rest
-  pub width : s.width < 2 ^ 32
-  pub height : s.height < 2 ^ 32
+  pub size : IsTarget s
   pub shorter : length rest < length text
 
 abbrev pub RefusesText : List ℕ → ReadError → Type 0

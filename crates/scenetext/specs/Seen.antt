@@ -1,5 +1,4 @@
 -- A line of the code as a plain one.
-use Rattle.std.specs.Prelude.{pos}
 use Rattle.gfxspec.specs.Commands as gfx
 use Rattle.scenetext.specs.declared.scene.Actor as code_actor
 use Rattle.scenetext.specs.declared.scene.Actor.TheVariants as actors
@@ -16,8 +15,10 @@ abbrev pub verb_value : {A : Type 0} → code_verb.Verb A → Verb
 verb_value (verbs.SetVertices vertices) = Call (gfx.SetVertices vertices)
 verb_value (verbs.SetIndices indices) = Call (gfx.SetIndices indices)
 verb_value (verbs.SetTopology topology) = Call (gfx.SetTopology topology)
-verb_value (verbs.SetRaster cull front_ccw scissor) = Call (gfx.SetRaster (record { cull = cull; front_ccw = front_ccw; scissor = scissor; depth_bias = pos 0 }))
+verb_value (verbs.SetRaster raster) = Call (gfx.SetRaster raster)
 verb_value (verbs.SetScissor rectangle) = Call (gfx.SetScissor rectangle)
+verb_value (verbs.SetDepthStencil depth_stencil reference) = Call (gfx.SetDepthStencil depth_stencil reference)
+verb_value (verbs.SetBlend blend) = Call (gfx.SetBlend blend)
 verb_value (verbs.Draw count start) = Call (gfx.Draw count start)
 verb_value (verbs.DrawIndexed count start base) = Call (gfx.DrawIndexed count start base)
 verb_value (verbs.ClearColor rgba) = Call (gfx.ClearColor rgba)

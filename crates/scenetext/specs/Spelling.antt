@@ -1,15 +1,23 @@
 -- The spelling of a scene: what stands in its text, word by word.
-use Rattle.std.specs.Prelude.{ℕ, pos, ◌≡◌, ◌<◌, ◌^◌, Bool, true, false, not, ◌&&◌, ◌==◌, List, [], ◌∷◌, ◌++◌, length, map, decimal, codes, count_by, FitsSigned}
+use Rattle.std.specs.Prelude.{ℕ, pos, ◌≡◌, ◌<◌, Bool, true, false, not, ◌&&◌, ◌==◌, List, [], ◌∷◌, ◌++◌, map, decimal, codes, count_by, FitsSigned}
 use Rattle.std.specs.List.{flat_map, AllByRecursion}
 use Rattle.std.specs.Int.{w32}
 use Rattle.std.specs.Fmt.{signed_decimal}
 use Rattle.gfxspec.specs.declared.geometry.Size.{Size}
 use Rattle.gfxspec.specs.declared.geometry.Vertex.{Vertex}
-use Rattle.gfxspec.specs.Numbers.{cull_number, topology_number}
+use Rattle.gfxspec.specs.declared.geometry.PixelRect.{PixelRect}
+use Rattle.gfxspec.specs.Numbers.{cull_number, topology_number, compare_number, stencil_op_number, logic_op_number}
+use Rattle.gfxspec.specs.DepthStencil.{FaceSetting, DepthStencilSetting}
+use Rattle.gfxspec.specs.Color.{BlendSetting}
+use Rattle.gfxspec.specs.State.{RasterSetting}
 use Rattle.gfxspec.specs.Commands as gfx
 use Rattle.scenetext.specs.Scene.{Actor, Immediate, Deferred, Verb, Call, Finish, Flush, Execute, Query, Pixel, Line, Scene}
 use Rattle.scenetext.specs.Text.{line_text}
+use Rattle.scenetext.specs.declared.range.TheConstants.{U32}
+use Rattle.scenetext.specs.declared.command.CommandWord.TheVariants as commands
 use Rattle.scenetext.specs.Numbers.{context_word}
+use Rattle.scenetext.specs.Ranges.{IsIn, AreIn}
+use Rattle.scenetext.specs.Commands.{ranges}
 
 abbrev pub actor_word : Actor → List ℕ
 actor_word Immediate = codes "i"
@@ -27,13 +35,32 @@ flag_number true = 1
 abbrev pub vertex_words : Vertex → List (List ℕ)
 vertex_words v = signed_decimal v.x ∷ signed_decimal v.y ∷ decimal v.z ∷ map decimal v.rgba
 
+abbrev pub raster_numbers : RasterSetting → List ℕ
+raster_numbers r = cull_number r.cull ∷ flag_number r.front_ccw ∷ flag_number r.scissor ∷ []
+
+abbrev pub face_numbers : FaceSetting → List ℕ
+face_numbers f = stencil_op_number f.fail ∷ stencil_op_number f.depth_fail ∷ stencil_op_number f.pass ∷ compare_number f.func ∷ []
+
+abbrev pub depth_stencil_numbers : DepthStencilSetting → ℕ → List ℕ
+depth_stencil_numbers s reference =
+    flag_number s.depth ∷ flag_number s.write ∷ compare_number s.func ∷ flag_number s.stencil ∷ s.read_mask ∷ s.write_mask
+    ∷ (face_numbers s.front ++ (face_numbers s.back ++ reference ∷ []))
+
+abbrev pub blend_numbers : BlendSetting → List ℕ
+blend_numbers b = flag_number b.logic ∷ logic_op_number b.op ∷ b.mask ∷ []
+
+abbrev pub rect_numbers : PixelRect → List ℕ
+rect_numbers r = r.left ∷ r.top ∷ r.right ∷ r.bottom ∷ []
+
 -- the command word of a verb, and its arguments in order; a verb that has no word yet has none
 abbrev pub verb_words : Verb → List (List ℕ)
 verb_words (Call (gfx.SetVertices vertices)) = codes "vb" ∷ flat_map vertex_words vertices
 verb_words (Call (gfx.SetIndices indices)) = codes "ib" ∷ map decimal indices
 verb_words (Call (gfx.SetTopology topology)) = codes "topology" ∷ decimal (topology_number topology) ∷ []
-verb_words (Call (gfx.SetRaster r)) = codes "raster" ∷ decimal (cull_number r.cull) ∷ decimal (flag_number r.front_ccw) ∷ decimal (flag_number r.scissor) ∷ []
-verb_words (Call (gfx.SetScissor r)) = codes "scissor" ∷ decimal r.left ∷ decimal r.top ∷ decimal r.right ∷ decimal r.bottom ∷ []
+verb_words (Call (gfx.SetRaster r)) = codes "raster" ∷ map decimal (raster_numbers r)
+verb_words (Call (gfx.SetScissor r)) = codes "scissor" ∷ map decimal (rect_numbers r)
+verb_words (Call (gfx.SetDepthStencil s reference)) = codes "ds" ∷ map decimal (depth_stencil_numbers s reference)
+verb_words (Call (gfx.SetBlend b)) = codes "blend" ∷ map decimal (blend_numbers b)
 verb_words (Call (gfx.Draw count start)) = codes "draw" ∷ decimal count ∷ decimal start ∷ []
 verb_words (Call (gfx.DrawIndexed count start base)) = codes "drawi" ∷ decimal count ∷ decimal start ∷ signed_decimal base ∷ []
 verb_words (Call (gfx.ClearColor rgba)) = codes "clearc" ∷ map decimal rgba
@@ -62,31 +89,28 @@ may_take (Execute context list restore) immediate = immediate
 may_take (Query query) immediate = immediate
 may_take (Pixel x y) immediate = immediate
 
--- four channels of a byte each
-abbrev pub IsColor : List ℕ → Type 0
-IsColor rgba = (length rgba ≡ 4) × AllByRecursion (λ b. b < 256) rgba
-
 pub record IsVertex (v : Vertex) : Type 0 where
   pub x : FitsSigned w32 v.x
   pub y : FitsSigned w32 v.y
-  pub z : v.z < 2 ^ 32
-  pub rgba : IsColor v.rgba
+  pub others : AreIn (ranges commands.Vb) (v.z ∷ v.rgba)
 
--- the values that the arguments may have; a verb that has no word yet has no spelling, nor has a depth bias
+-- the values that the arguments may have: numbers in the ranges of the command; a verb that has no word yet has no spelling, nor has a depth bias
 abbrev pub IsVerb : Verb → Type 0
 IsVerb (Call (gfx.SetVertices vertices)) = AllByRecursion IsVertex vertices
-IsVerb (Call (gfx.SetIndices indices)) = AllByRecursion (λ i. i < 2 ^ 16) indices
-IsVerb (Call (gfx.SetTopology topology)) = Unit {0}
-IsVerb (Call (gfx.SetRaster r)) = r.depth_bias ≡ pos 0
-IsVerb (Call (gfx.SetScissor r)) = (r.left < 2 ^ 32) × (r.top < 2 ^ 32) × (r.right < 2 ^ 32) × (r.bottom < 2 ^ 32)
-IsVerb (Call (gfx.Draw count start)) = (count < 2 ^ 32) × (start < 2 ^ 32)
-IsVerb (Call (gfx.DrawIndexed count start base)) = (count < 2 ^ 32) × (start < 2 ^ 32) × FitsSigned w32 base
-IsVerb (Call (gfx.ClearColor rgba)) = IsColor rgba
-IsVerb (Call (gfx.ClearDepthStencil depth stencil)) = (depth < 2 ^ 32) × (stencil < 256)
-IsVerb (Finish restore) = Unit {0}
+IsVerb (Call (gfx.SetIndices indices)) = AllByRecursion (λ i. AreIn (ranges commands.Ib) (i ∷ [])) indices
+IsVerb (Call (gfx.SetTopology topology)) = AreIn (ranges commands.Topology) (topology_number topology ∷ [])
+IsVerb (Call (gfx.SetRaster r)) = AreIn (ranges commands.Raster) (raster_numbers r) × (r.depth_bias ≡ pos 0)
+IsVerb (Call (gfx.SetScissor r)) = AreIn (ranges commands.Scissor) (rect_numbers r)
+IsVerb (Call (gfx.SetDepthStencil s reference)) = AreIn (ranges commands.Ds) (depth_stencil_numbers s reference)
+IsVerb (Call (gfx.SetBlend b)) = AreIn (ranges commands.Blend) (blend_numbers b)
+IsVerb (Call (gfx.Draw count start)) = AreIn (ranges commands.Draw) (count ∷ start ∷ [])
+IsVerb (Call (gfx.DrawIndexed count start base)) = AreIn (ranges commands.Drawi) (count ∷ start ∷ []) × FitsSigned w32 base
+IsVerb (Call (gfx.ClearColor rgba)) = AreIn (ranges commands.Clearc) rgba
+IsVerb (Call (gfx.ClearDepthStencil depth stencil)) = AreIn (ranges commands.Cleards) (depth ∷ stencil ∷ [])
+IsVerb (Finish restore) = AreIn (ranges commands.Finish) (flag_number restore ∷ [])
 IsVerb Flush = Unit {0}
-IsVerb (Execute context list restore) = (context < 8) × (list < 2 ^ 32)
-IsVerb (Pixel x y) = (x < 2 ^ 32) × (y < 2 ^ 32)
+IsVerb (Execute context list restore) = (context < 8) × AreIn (ranges commands.Exec) (list ∷ flag_number restore ∷ [])
+IsVerb (Pixel x y) = AreIn (ranges commands.Pixel) (x ∷ y ∷ [])
 IsVerb v = ⊥
 
 abbrev pub IsActor : Actor → Type 0
@@ -121,8 +145,13 @@ abbrev pub AreLines : List Line → List Line → Type 0
 AreLines earlier [] = Unit {0}
 AreLines earlier (l ∷ ls) = IsLine earlier l × AreLines (earlier ++ l ∷ []) ls
 
+-- the numbers of a `target` line
+pub record IsTarget (s : Size) : Type 0 where
+  pub width : IsIn U32 s.width
+  pub height : IsIn U32 s.height
+
 abbrev pub IsScene : Scene → Type 0
-IsScene scene = (scene.size.width < 2 ^ 32) × (scene.size.height < 2 ^ 32) × AreLines [] scene.lines
+IsScene scene = IsTarget scene.size × AreLines [] scene.lines
 
 -- this text spells this scene
 pub record Spells (text : List ℕ) (scene : Scene) : Type 0 where

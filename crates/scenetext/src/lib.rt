@@ -6,6 +6,7 @@
 //! for the vertices and the lines alone.
 #![tactic(auto)]
 
+mod choices;
 mod command;
 mod fault;
 mod law;

@@ -1,6 +1,7 @@
 //! A scene: the size of the target, and lines of commands.
 
-use gfxspec::{Cull, PixelRect, Size, Topology, Vertex};
+use gfxspec::{PixelRect, Size, Topology, Vertex};
+use states::{BlendState, DepthStencilState, RasterState};
 use std::alloc::{Allocator, Global};
 use std::marker::Model;
 
@@ -90,9 +91,11 @@ pub enum Verb<A: Allocator> {
     SetVertices(Vertices<A>),
     SetIndices(Indices<A>),
     SetTopology(Topology),
-    /// The cull mode, whether a counter-clockwise triangle faces the front, and whether the scissor rectangle acts.
-    SetRaster(Cull, bool, bool),
+    SetRaster(RasterState),
     SetScissor(PixelRect),
+    /// The state, and its reference.
+    SetDepthStencil(DepthStencilState, u8),
+    SetBlend(BlendState),
     /// How many vertices, and the first.
     Draw(u32, u32),
     /// How many indices, the first, and what is added to each.

@@ -4,8 +4,14 @@ mod trickle;
 mod writer;
 
 use crate::{Actor, Indices, Line, Lines, Scene, Verb, Vertices, one_reading, read};
-use gfxspec::{Cull, GatherError, PixelRect, Topology, Vertex, gather};
+use gfxspec::{
+    Compare, Cull, GatherError, LogicOp, PixelRect, StencilOp, Topology, Vertex, gather,
+};
 use refusing::Refusing;
+use states::{
+    BlendDesc, BlendState, ColorMask, DepthStencilDesc, DepthStencilState, Face, RasterDesc,
+    RasterState,
+};
 use std::alloc::Global;
 use std::process::Abort;
 use std::test::Fail;
@@ -101,7 +107,12 @@ fn list_inherits_nothing(rt: HostRuntime) -> Result<(), Fail> {
         assert!(rt; matches!(draw.verb, Verb::Draw(3, 0)));
         assert!(rt; matches!(finish.verb, Verb::Finish(false)));
         assert_corners(&rt, &again.verb, &corners);
-        assert!(rt; matches!(raster.verb, Verb::SetRaster(Cull::None, false, false)));
+        let unculled = RasterState::new(RasterDesc {
+            cull: Cull::None,
+            front_ccw: false,
+            scissor: false,
+        });
+        assert!(rt; matches!(raster.verb, Verb::SetRaster(state) if state == unculled));
         assert!(rt; matches!(exec.verb, Verb::Execute(0, 0, true)));
     }
     Ok(())
@@ -144,7 +155,8 @@ fn defaults_and_the_other_words(rt: HostRuntime) -> Result<(), Fail> {
             bottom: 0,
         };
         assert_eq!(rt; raster.actor, Actor::Deferred(7));
-        assert!(rt; matches!(raster.verb, Verb::SetRaster(Cull::Back, false, false)));
+        let raster_default = RasterState::default();
+        assert!(rt; matches!(raster.verb, Verb::SetRaster(state) if state == raster_default));
         assert!(rt; matches!(scissor.verb, Verb::SetScissor(rect) if rect == nowhere));
         assert!(rt; matches!(strip.verb, Verb::SetTopology(Topology::TriangleStrip)));
         assert!(rt; matches!(flush.verb, Verb::Flush));
@@ -158,6 +170,63 @@ fn defaults_and_the_other_words(rt: HostRuntime) -> Result<(), Fail> {
         assert!(rt; matches!(drawi.verb, Verb::DrawIndexed(1, 2, -2147483648)));
     } else {
         panic!(rt; "ten lines")
+    }
+    Ok(())
+}
+
+const OUTPUT: &str = "target 1 1
+d0 ds 1 1 2 0 255 255 1 1 1 8 1 1 1 8 0
+d0 blend 0 4 15
+i ds 0 1 3 1 7 8 2 3 4 5 6 7 8 1 9
+i blend 1 6 10
+";
+
+fn depth_stencil() -> DepthStencilState {
+    DepthStencilState::new(DepthStencilDesc {
+        depth: false,
+        write: true,
+        func: Compare::Equal,
+        stencil: true,
+        read_mask: 7,
+        write_mask: 8,
+        front: Face {
+            fail: StencilOp::Zero,
+            depth_fail: StencilOp::Replace,
+            pass: StencilOp::IncrSat,
+            func: Compare::Greater,
+        },
+        back: Face {
+            fail: StencilOp::Invert,
+            depth_fail: StencilOp::Incr,
+            pass: StencilOp::Decr,
+            func: Compare::Never,
+        },
+    })
+}
+
+fn blend() -> BlendState {
+    BlendState::new(BlendDesc {
+        logic: true,
+        op: LogicOp::And,
+        mask: ColorMask::GREEN | ColorMask::ALPHA,
+    })
+}
+
+// The default states, and states of which each number differs.
+#[test]
+fn output_states(rt: HostRuntime) -> Result<(), Fail> {
+    let scene = scene(&rt, OUTPUT)?;
+    if let [ds_default, blend_default, ds, mask] = scene.lines.as_slice() {
+        let state = DepthStencilState::default();
+        assert!(rt; matches!(ds_default.verb, Verb::SetDepthStencil(ds, 0) if ds == state));
+        let state = BlendState::default();
+        assert!(rt; matches!(blend_default.verb, Verb::SetBlend(blend) if blend == state));
+        let state = depth_stencil();
+        assert!(rt; matches!(ds.verb, Verb::SetDepthStencil(ds, 9) if ds == state));
+        let state = blend();
+        assert!(rt; matches!(mask.verb, Verb::SetBlend(blend) if blend == state));
+    } else {
+        panic!(rt; "four lines")
     }
     Ok(())
 }
@@ -251,6 +320,7 @@ fn rows_read_and_written_again(rt: HostRuntime) -> Result<(), Fail> {
         CLEARED,
         LIST_INHERITS_NOTHING,
         DEFAULTS,
+        OUTPUT,
         MANY_LISTS,
     ] {
         let scene = scene(&rt, text)?;
@@ -339,8 +409,6 @@ const LATER_LINES: &str = "101\x20
 104 i begin 0
 104 i end 0
 104 i query 0
-104 i ds 1 1 2 0 255 255 1 1 1 8 1 1 1 8 0
-104 i blend 0 4 15
 104 i predicate
 105 i vb a b
 105 i vb 1 2 3 4 5 6 7 8
@@ -349,6 +417,10 @@ const LATER_LINES: &str = "101\x20
 105 i raster 3 0
 105 i raster 3 0 0 0
 105 i scissor 0 0 0
+105 i ds 1 1 2 0 255 255 1 1 1 8 1 1 1 8
+105 i ds 1 1 2 0 255 255 1 1 1 8 1 1 1 8 0 0
+105 i blend 0 4
+105 i blend 0 4 15 0
 105 i draw 3 0 0
 105 i drawi 3 0
 105 i clearc 1 2 3
@@ -371,6 +443,25 @@ const LATER_LINES: &str = "101\x20
 106 i raster 3 2 0
 106 i raster 3 0 2
 106 i scissor 0 0 0 4294967296
+106 i ds 2 1 2 0 255 255 1 1 1 8 1 1 1 8 0
+106 i ds 1 2 2 0 255 255 1 1 1 8 1 1 1 8 0
+106 i ds 1 1 0 0 255 255 1 1 1 8 1 1 1 8 0
+106 i ds 1 1 9 0 255 255 1 1 1 8 1 1 1 8 0
+106 i ds 1 1 2 2 255 255 1 1 1 8 1 1 1 8 0
+106 i ds 1 1 2 0 256 255 1 1 1 8 1 1 1 8 0
+106 i ds 1 1 2 0 255 256 1 1 1 8 1 1 1 8 0
+106 i ds 1 1 2 0 255 255 0 1 1 8 1 1 1 8 0
+106 i ds 1 1 2 0 255 255 1 9 1 8 1 1 1 8 0
+106 i ds 1 1 2 0 255 255 1 1 0 8 1 1 1 8 0
+106 i ds 1 1 2 0 255 255 1 1 1 9 1 1 1 8 0
+106 i ds 1 1 2 0 255 255 1 1 1 8 9 1 1 8 0
+106 i ds 1 1 2 0 255 255 1 1 1 8 1 0 1 8 0
+106 i ds 1 1 2 0 255 255 1 1 1 8 1 1 9 8 0
+106 i ds 1 1 2 0 255 255 1 1 1 8 1 1 1 0 0
+106 i ds 1 1 2 0 255 255 1 1 1 8 1 1 1 8 256
+106 i blend 2 4 15
+106 i blend 0 16 15
+106 i blend 0 4 16
 106 i draw 4294967296 0
 106 i drawi 0 0 2147483648
 106 i drawi 0 0 -

@@ -1,20 +1,29 @@
 //! The arguments of each command.
 
-ghost use Rattle.std.specs.Prelude.{◌≡◌, ◌≤◌, ℕ, length, IfOk, IfErr, Err};
-ghost use Rattle.gfxspec.specs.Numbers.{cull_number, topology_number};
+ghost use Rattle.std.specs.Prelude.{IfOk, IfErr};
 ghost use Rattle.scenetext.specs.Seen.{verb_value};
 ghost use Rattle.scenetext.specs.Reading.{Reads, Refuses};
 
+use crate::choices::{color_mask_of, comparison_of, cull_of, face_of, logic_op_of, topology_of};
 use crate::command::CommandWord;
 use crate::fault::{Fault, ReadError};
 use crate::numbers::{
     expect, naturals, next_context, next_integer, next_natural, next_naturals, next_vertex,
 };
-use crate::range::{BYTE, CULL, FLAG, INDEX, TOPOLOGY, U32};
+use crate::range::{
+    BYTE, COLOR_MASK, COMPARISON, CULL, FLAG, INDEX, LOGIC_OP, Range, STENCIL_OP, TOPOLOGY, U32,
+};
 use crate::scene::{Indices, Verb, Vertices};
 use crate::words::Words;
-use gfxspec::{Cull, PixelRect, Topology};
+use gfxspec::PixelRect;
+use states::{BlendDesc, BlendState, DepthStencilDesc, DepthStencilState, RasterDesc, RasterState};
 use std::alloc::Allocator;
+
+/// The ranges of the numbers of a depth-stencil state, with its reference last.
+const DEPTH_STENCIL: [Range; 15] = [
+    FLAG, FLAG, COMPARISON, FLAG, BYTE, BYTE, STENCIL_OP, STENCIL_OP, STENCIL_OP, COMPARISON,
+    STENCIL_OP, STENCIL_OP, STENCIL_OP, COMPARISON, BYTE,
+];
 
 fn set_vertices<A: Allocator>(alloc: A, words: &mut Words) -> Result<Verb<A>, ReadError>
     ensures ok { IfOk result (λ v. Reads CommandWord.Vb words.old (verb_value v)) }
@@ -43,15 +52,6 @@ fn set_indices<A: Allocator>(alloc: A, words: &mut Words) -> Result<Verb<A>, Rea
     Ok(Verb::SetIndices(Indices::from_vec(indices)))
 }
 
-/// The topology of a number.
-fn topology_of(number: u32) -> Topology
-    requires low { 4 ≤ number }
-    requires high { number ≤ 5 }
-    ensures { topology_number result ≡ number }
-{
-    Topology::from_number(number).unwrap()
-}
-
 fn set_topology<A: Allocator>(words: &mut Words) -> Result<Verb<A>, ReadError>
     ensures ok { IfOk result (λ v. Reads CommandWord.Topology words.old (verb_value v)) }
     ensures err { IfErr result (Refuses CommandWord.Topology words.old) }
@@ -60,21 +60,16 @@ fn set_topology<A: Allocator>(words: &mut Words) -> Result<Verb<A>, ReadError>
     Ok(Verb::SetTopology(topology_of(topology)))
 }
 
-/// The cull mode of a number.
-fn cull_of(number: u32) -> Cull
-    requires low { 1 ≤ number }
-    requires high { number ≤ 3 }
-    ensures { cull_number result ≡ number }
-{
-    Cull::from_number(number).unwrap()
-}
-
 fn set_raster<A: Allocator>(words: &mut Words) -> Result<Verb<A>, ReadError>
     ensures ok { IfOk result (λ v. Reads CommandWord.Raster words.old (verb_value v)) }
     ensures err { IfErr result (Refuses CommandWord.Raster words.old) }
 {
     let [cull, front_ccw, scissor] = naturals(words, [CULL, FLAG, FLAG])?;
-    Ok(Verb::SetRaster(cull_of(cull), front_ccw == 1, scissor == 1))
+    Ok(Verb::SetRaster(RasterState::new(RasterDesc {
+        cull: cull_of(cull),
+        front_ccw: front_ccw == 1,
+        scissor: scissor == 1,
+    })))
 }
 
 fn set_scissor<A: Allocator>(words: &mut Words) -> Result<Verb<A>, ReadError>
@@ -88,6 +83,52 @@ fn set_scissor<A: Allocator>(words: &mut Words) -> Result<Verb<A>, ReadError>
         right,
         bottom,
     }))
+}
+
+fn set_depth_stencil<A: Allocator>(words: &mut Words) -> Result<Verb<A>, ReadError>
+    ensures ok { IfOk result (λ v. Reads CommandWord.Ds words.old (verb_value v)) }
+    ensures err { IfErr result (Refuses CommandWord.Ds words.old) }
+{
+    let [
+        depth,
+        write,
+        func,
+        stencil,
+        read_mask,
+        write_mask,
+        front_fail,
+        front_depth_fail,
+        front_pass,
+        front_func,
+        back_fail,
+        back_depth_fail,
+        back_pass,
+        back_func,
+        reference,
+    ] = naturals(words, DEPTH_STENCIL)?;
+    let state = DepthStencilState::new(DepthStencilDesc {
+        depth: depth == 1,
+        write: write == 1,
+        func: comparison_of(func),
+        stencil: stencil == 1,
+        read_mask: read_mask as u8,
+        write_mask: write_mask as u8,
+        front: face_of(front_fail, front_depth_fail, front_pass, front_func),
+        back: face_of(back_fail, back_depth_fail, back_pass, back_func),
+    });
+    Ok(Verb::SetDepthStencil(state, reference as u8))
+}
+
+fn set_blend<A: Allocator>(words: &mut Words) -> Result<Verb<A>, ReadError>
+    ensures ok { IfOk result (λ v. Reads CommandWord.Blend words.old (verb_value v)) }
+    ensures err { IfErr result (Refuses CommandWord.Blend words.old) }
+{
+    let [logic, op, mask] = naturals(words, [FLAG, LOGIC_OP, COLOR_MASK])?;
+    Ok(Verb::SetBlend(BlendState::new(BlendDesc {
+        logic: logic == 1,
+        op: logic_op_of(op),
+        mask: color_mask_of(mask),
+    })))
 }
 
 fn draw<A: Allocator>(words: &mut Words) -> Result<Verb<A>, ReadError>
@@ -173,6 +214,8 @@ pub fn verb_of<A: Allocator>(
         CommandWord::Topology => set_topology(words),
         CommandWord::Raster => set_raster(words),
         CommandWord::Scissor => set_scissor(words),
+        CommandWord::Ds => set_depth_stencil(words),
+        CommandWord::Blend => set_blend(words),
         CommandWord::Draw => draw(words),
         CommandWord::Drawi => draw_indexed(words),
         CommandWord::Clearc => clear_color(words),

@@ -1,40 +1,35 @@
 -- One more line of a session.
-use Rattle.std.proofs.Common.{◌≡◌, ◌≢◌, ◌∙◌, ap, sym, subst, refl, ℕ, zero, suc, ◌+◌, ◌<◌, ◌≤◌, ◌⊎◌, inl, inr, ⊎_elim, arith, Bool, true, false, cond, not, ◌&&◌, List, [], ◌∷◌, ◌++◌, length, take, drop, get_or, append_assoc, nat_lt, nat_eq, Some, None, Option, OnOk, slice_set, true≢false}
-use Rattle.std.specs.Prelude.{slice_index_or, Result, Ok, Err, IfOk, count_by, ◌==◌}
-use Rattle.std.specs.List.{flat_map}
+use Rattle.std.proofs.Common.{◌≡◌, ◌≢◌, ◌∙◌, ap, sym, subst, refl, ℕ, zero, suc, ◌+◌, ◌<◌, inl, inr, ⊎_elim, arith, true, false, not, ◌&&◌, List, [], ◌∷◌, ◌++◌, length, map, get_or, take, drop, append_assoc, nat_lt, None, true≢false}
+use Rattle.std.specs.Prelude.{slice_index_or, Err, count_by, ◌==◌}
 use Rattle.std.proofs.lemmas.Bool.Decides.{nat_tests}
 use Rattle.std.proofs.lemmas.Bool.{cases_eq}
-use Rattle.std.proofs.lemmas.List.{append-nil, take_more, drop_more, length-set, get_or-set_same, get_or-set_other}
+use Rattle.std.proofs.lemmas.List.{append-nil, take_more, drop_more, length-set, get_or-set_same, get_or-set_other, get_or-map, length-map}
 use Rattle.std.proofs.lemmas.List.Concat.{flat_map-append}
 use Rattle.gfxspec.specs.declared.geometry.Size.{Size}
 use Rattle.gfxspec.specs.declared.error.GfxError.{GfxError}
-use Rattle.gfxspec.specs.declared.error.GfxError.TheVariants.{OutOfMemory}
 use Rattle.gfxspec.specs.Items.{after_items}
 use Rattle.gfxspec.specs.Commands.{Command}
+use Rattle.scenetext.specs.declared.scene.Line as code
+use Rattle.scenetext.specs.Seen.{line_value}
 use Rattle.gfxspec.specs.Recorded.{items, queries_open}
-use Rattle.gfxspec.specs.Session.{Records, Executes, Flushes, open_now, pending}
-use Rattle.gfxspec.specs.Refusals.{Row, first_row, AnswersBy, flush_rows, pixel_rows, command_rows}
+use Rattle.gfxspec.specs.Session.{open_now}
+use Rattle.gfxspec.specs.Refusals.{first_row, AnswersBy, flush_rows, pixel_rows}
 use Rattle.scenetext.specs.Scene.{Actor, Immediate, Deferred, Verb, Call, Finish, Flush, Execute, Query, Pixel, Line}
 use Rattle.scenetext.specs.Spelling.{is_immediate_actor, may_take, IsActor, IsVerb, HasList, IsLine, AreLines, finishes_list}
 use Rattle.immediate.specs.Pending.{Pending, shown}
 use Rattle.gfxspec.specs.Commands as gfx
 use Rattle.meaning.proofs.Accepting.{none_of}
-use Rattle.sessions.specs.declared.players.PixelAnswer.{PixelAnswer}
-use Rattle.sessions.specs.Lists.{is_of, current_of, steps_of, actor_steps, list_of}
+use Rattle.sessions.specs.Lists.{steps_of, list_of}
 use Rattle.sessions.specs.Recording.{Recording, nothing_recorded, recording_with, recording_of}
-use Rattle.sessions.specs.Answers.{Answer, Shown, immediate_rows, deferred_rows, line_rows, refusal, pixel_after, answer_of, answers_behind, answers_or, answers_from, answer_line, answer_lines}
-use Rattle.sessions.specs.Quiet.{QuietVerb, QuietLines}
-use Rattle.sessions.specs.Taking.{recording_at, list_at, HasNamed, IsSeat, own_rows, Ran, OwnTaken, OwnPart, own_answer, taken_rows, Taken, taken_answer, recordings_with, shown_answers}
+use Rattle.sessions.specs.Answers.{Answer, Shown, immediate_rows, deferred_rows, line_rows, refusal, answer_of, answers_behind, answers_or, answers_from, answer_line, answer_lines}
+use Rattle.sessions.specs.Quiet.{QuietVerb}
+use Rattle.sessions.specs.Taking.{recording_at, HasNamed, own_rows, OwnTaken, OwnPart, taken_rows, Taken, taken_answers, recordings_with}
 use Rattle.sessions.specs.Playing.{IsPlayed, ArePlayed, AnsweredUpTo, Reached, Stopped, a_line, line_at}
 use Rattle.sessions.proofs.Quiet.{quiet_lines-push, none_open, none_pending_open}
 use Rattle.sessions.proofs.Recordings.{own_line, other_line, current_is, list_is, lists_counted}
 use Rattle.sessions.proofs.Played.{rows_agree, played_elsewhere, played_call, played_flush, played_execution}
 
 -- ---- what a line may ask
-
-pub seat : (a : Actor) → IsActor a → IsSeat a
-seat Immediate h = tt
-seat (Deferred k) h = h
 
 nat_eq_true : (n : ℕ) → (n == n) ≡ true
 nat_eq_true n = grind (arith, nat_tests)
@@ -130,7 +125,7 @@ module _ (size : Size) (e : List Line) (c : Pending) (rs : List Recording) (h : 
 
   -- ---- what it answers
 
-  pub answers_are : (a : Actor) (v : Verb) → IsVerb v → may_take v (is_immediate_actor a) ≡ true → first_row (line_rows size e a v) ≡ None → answer_of size e v ≡ shown_answers (taken_answer a v c)
+  pub answers_are : (a : Actor) (v : Verb) → IsVerb v → may_take v (is_immediate_actor a) ≡ true → first_row (line_rows size e a v) ≡ None → answer_of size e v ≡ taken_answers a v c
   answers_are Immediate (Call k) is may none = refl
   answers_are Immediate (Finish restore) is may none = refl
   answers_are Immediate Flush is may none = refl
@@ -195,12 +190,17 @@ one_answered size ls i bytes more below h none is = record {
 
 -- ---- one more line
 
+-- an element of the lines, as they are seen
+pub placed : {A : Type 0} (lines : List (code.Line A)) (i : ℕ) (l : code.Line A) → i < length lines → l ≡ get_or lines i l → (i < length (map line_value lines)) × (line_value l ≡ line_at (map line_value lines) i)
+placed lines i l below is =
+    (subst (λ n. i < n) (sym (length-map lines line_value)) below, ap line_value is ∙ sym (get_or-map line_value lines i l a_line below))
+
 module _ (size : Size) (ls : List Line) (i : ℕ) (l : Line) (c : Pending) (rs : List Recording) (bytes : List ℕ) (here : l ≡ line_at ls i) (lines : AreLines [] ls) (below : i < length ls) (h : Reached size ls i c rs bytes) where
   own : IsLine (take i ls) l
   own = subst (IsLine (take i ls)) (sym here) (is_line ls i below lines)
 
-  pub seat_at : IsSeat l.actor
-  seat_at = seat l.actor own.actor
+  pub actor_at : IsActor l.actor
+  actor_at = own.actor
 
   pub named_at : HasNamed rs l.verb
   named_at = named size (take i ls) c rs h.contexts l.verb own.verb own.has_list
@@ -211,7 +211,7 @@ module _ (size : Size) (ls : List Line) (i : ℕ) (l : Line) (c : Pending) (rs :
   refusal_at : refusal size (take i ls) l ≡ refusal size (take i ls) (line_at ls i)
   refusal_at = ap (refusal size (take i ls)) here
 
-  pub reached_next : (d : Pending) (ss : List Recording) (new : List ℕ) → first_row (taken_rows c rs l.actor l.verb) ≡ None → Taken l.actor l.verb c d rs ss → new ≡ bytes ++ answer_lines (shown_answers (taken_answer l.actor l.verb c)) → Reached size ls (i + 1) d ss new
+  pub reached_next : (d : Pending) (ss : List Recording) (new : List ℕ) → first_row (taken_rows c rs l.actor l.verb) ≡ None → Taken l.actor l.verb c d rs ss → new ≡ bytes ++ answer_lines (taken_answers l.actor l.verb c) → Reached size ls (i + 1) d ss new
   reached_next d ss new none taken is =
       let e = take i ls in
       let accepted : refusal size e l ≡ None = ap first_row (sym rows_at) ∙ none in

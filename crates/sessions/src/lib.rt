@@ -6,7 +6,6 @@ mod calls;
 mod outcome;
 mod perform;
 mod play;
-mod players;
 mod recorder;
 mod session;
 #[cfg(test)]

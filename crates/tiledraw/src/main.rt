@@ -10,6 +10,10 @@ mod settings;
 #[cfg(test)]
 mod tests;
 
+ghost use Rattle.std.specs.Prelude.{◌≡◌};
+ghost use Rattle.std.specs.Process.{exit_status};
+ghost use Rattle.tiledraw.specs.Report.{reported};
+
 use gfxspec::{FromRead, ToWrite};
 use sessions::{Ended, SessionFault};
 use settings::{Settings, SettingsFault};
@@ -64,7 +68,9 @@ fn drawn<R: Files + Print + AllocGlobal>(
 }
 
 /// Says how the session ended, where there is something to say, and gives the exit status.
-fn told<R: Eprint>(rt: &R, outcome: &Result<Ended, SessionFault>) -> ExitCode {
+fn told<R: Eprint>(rt: &R, outcome: &Result<Ended, SessionFault>) -> ExitCode
+    ensures { exit_status result ≡ (reported outcome.now).0 }
+{
     let (status, text) = report::report(outcome);
     if !text.is_empty() {
         let _ = rt.eprintln(text);
@@ -73,7 +79,9 @@ fn told<R: Eprint>(rt: &R, outcome: &Result<Ended, SessionFault>) -> ExitCode {
 }
 
 /// Says why the words are not taken, and gives the exit status.
-fn refused<R: Eprint>(rt: &R, fault: &SettingsFault) -> ExitCode {
+fn refused<R: Eprint>(rt: &R, fault: &SettingsFault) -> ExitCode
+    ensures { exit_status result ≡ 2 }
+{
     let _ = match fault {
         SettingsFault::Parse(error) => rt.eprint(error),
         SettingsFault::Memory => rt.eprintln("tiledraw: out of memory"),

@@ -2,6 +2,7 @@
 
 use crate::{Actor, Line, Scene, Verb};
 use gfxspec::Vertex;
+use states::Face;
 use std::alloc::{AllocError, Global};
 use std::fmt::Write;
 
@@ -33,10 +34,11 @@ fn write_buffer(text: &mut String, verb: &Verb<Global>) -> Result<(), AllocError
 fn write_plain(text: &mut String, verb: &Verb<Global>) -> Result<(), AllocError> {
     match verb {
         Verb::SetTopology(topology) => write!(text, "topology {}", topology.number()),
-        Verb::SetRaster(cull, counter_clockwise, scissor) => {
-            let front = u32::from(*counter_clockwise);
-            let scissor = u32::from(*scissor);
-            write!(text, "raster {} {front} {scissor}", cull.number())
+        Verb::SetRaster(raster) => {
+            let cull = raster.cull().number();
+            let front = u32::from(raster.front_ccw());
+            let scissor = u32::from(raster.scissor());
+            write!(text, "raster {cull} {front} {scissor}")
         }
         Verb::SetScissor(area) => {
             write!(text, "scissor {} {} ", area.left, area.top)?;
@@ -59,12 +61,45 @@ fn write_plain(text: &mut String, verb: &Verb<Global>) -> Result<(), AllocError>
     }
 }
 
+fn write_face(text: &mut String, face: Face) -> Result<(), AllocError> {
+    let fail = face.fail.number();
+    let depth_fail = face.depth_fail.number();
+    let pass = face.pass.number();
+    let func = face.func.number();
+    write!(text, " {fail} {depth_fail} {pass} {func}")
+}
+
+fn write_output(text: &mut String, verb: &Verb<Global>) -> Result<(), AllocError> {
+    match verb {
+        Verb::SetDepthStencil(state, reference) => {
+            let depth = u32::from(state.depth());
+            let write = u32::from(state.write());
+            let func = state.func().number();
+            let stencil = u32::from(state.stencil());
+            let read_mask = state.read_mask();
+            let write_mask = state.write_mask();
+            write!(text, "ds {depth} {write} {func}")?;
+            write!(text, " {stencil} {read_mask} {write_mask}")?;
+            write_face(text, state.front())?;
+            write_face(text, state.back())?;
+            write!(text, " {reference}")
+        }
+        Verb::SetBlend(blend) => {
+            let logic = u32::from(blend.logic());
+            let op = blend.op().number();
+            write!(text, "blend {logic} {op} {}", blend.mask().bits())
+        }
+        _ => Ok(()),
+    }
+}
+
 fn write_line(text: &mut String, line: &Line<Global>) -> Result<(), AllocError> {
     match line.actor {
         Actor::Immediate => write!(text, "i ")?,
         Actor::Deferred(context) => write!(text, "d{context} ")?,
     }
     write_buffer(text, &line.verb)?;
+    write_output(text, &line.verb)?;
     write_plain(text, &line.verb)?;
     write!(text, "\n")
 }

@@ -1,7 +1,5 @@
-use Rattle.std.proofs.Common.{◌≡◌, ◌∙◌, ap, sym, rules}
+use Rattle.std.proofs.Common.{rules}
 use Rattle.arrayvec.proofs.ArrayVecLemmas.{filter-from_retain}
-use Rattle.meaning.specs.OneMore.{queries_with}
-use Rattle.cmdlist.specs.Seen.{command_value}
 use Rattle.cmdlist.proofs.context.note_query.Goals as goal
 
 pub returns-in-End : goal.returns-in-End

@@ -1,6 +1,6 @@
 use Rattle.std.proofs.Common.{ap, ◌∙◌, ◌∷◌, arith}
 use Rattle.std.specs.Prelude.{decimal}
-use Rattle.scenetext.proofs.WordLemmas.{no_minus_zero, negated, negative_some, negative_none}
+use Rattle.scenetext.proofs.WordLemmas.{no_minus_zero, negated, negative_none}
 use Rattle.scenetext.proofs.words.negative.Goals as goal
 
 pub returns-then-number-eq0-clause-none : goal.returns-then-number-eq0-clause-none

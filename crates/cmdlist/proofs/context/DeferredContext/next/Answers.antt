@@ -2,4 +2,4 @@ use Rattle.cmdlist.proofs.Recording.{sound_settings}
 use Rattle.cmdlist.proofs.context.DeferredContext.next.Goals as goal
 
 pub with_settings-requires-clause-sound : goal.with_settings-requires-clause-sound
-with_settings-requires-clause-sound g c = sound_settings c.self.inside _ c.self.invariant c.in-Ok-Ok.ensures'
+with_settings-requires-clause-sound g c = sound_settings c.self.inside _ c.self.invariant c.in_ok-settings.ensures

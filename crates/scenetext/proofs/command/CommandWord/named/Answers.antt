@@ -1,4 +1,4 @@
-use Rattle.std.proofs.Common.{arith, rules, refl}
+use Rattle.std.proofs.Common.{arith, rules}
 use Rattle.scenetext.specs.declared.command.CommandWord.TheVariants as words
 use Rattle.scenetext.proofs.WordLemmas.{named_as}
 use Rattle.scenetext.proofs.command.CommandWord.named.Goals as goal
@@ -46,4 +46,9 @@ returns-in-cleards c =
 pub returns-in-topology : goal.returns-in-topology
 returns-in-topology c =
     let n = named_as c.args.word.now c.args.immediate words.Topology (omega arith) (search rules) (search rules) in
+    record { value = n.0; some = (n.1, n.2) }
+
+pub returns-in-blend : goal.returns-in-blend
+returns-in-blend c =
+    let n = named_as c.args.word.now c.args.immediate words.Blend (omega arith) (search rules) (search rules) in
     record { value = n.0; some = (n.1, n.2) }

@@ -1,0 +1,58 @@
+use Rattle.std.proofs.Common.{rules, ap, sym, subst, ◌∙◌, [], pos, min, max, get_or}
+use Rattle.gfxspec.specs.declared.geometry.Vertex.{Vertex}
+use Rattle.gfxspec.specs.Vertices.{IsDepth}
+use Rattle.gfxspec.proofs.Threes.{All_three}
+use Rattle.gfxspec.specs.Assembly.{Primitive}
+use Rattle.gfxspec.specs.Items.{face_setting, snapped_triangle}
+use Rattle.depthplane.specs.Height.{AreDepths, DeepTriangle}
+use Rattle.assemble.specs.Triangle.{primitive_of}
+use Rattle.cmdlist.specs.Seen.{state_value}
+use Rattle.binner.proofs.Preparing.{solid, same_primitive, all_ready, facing_is, kept_is, out_of_sight}
+use Rattle.binner.proofs.prepare.prepared.Goals as goal
+
+abbrev none : Vertex
+none = record { x = pos 0; y = pos 0; z = 0; rgba = [] }
+
+pub of-plane-requires-clause-depths : goal.of-plane-requires-clause-depths
+of-plane-requires-clause-depths c =
+    let ready = all_ready c.args.vertices.now none (search rules) c.requires in
+    All_three IsDepth _ _ _ ready.first.deep ready.second.deep ready.third.deep
+
+pub returns-then-not-is_seen-clause-dropped : goal.returns-then-not-is_seen-clause-dropped
+returns-then-not-is_seen-clause-dropped c n x y small_x small_y within_x within_y =
+    let t = primitive_of (record { v = c.args.vertices.now }) in
+    let s = state_value c.args.state.now in
+    let same = same_primitive c.args.vertices.now none (search rules) in
+    out_of_sight t s c.in_ok-edges.edges c.within_reach-bounds.result x y (c.in_ok-edges.ensures.set ∙ c.of-corners.ensures ∙ ap snapped_triangle same)
+    (c.within_reach-bounds.ensures.reach x y small_x small_y) (c.is_seen.ensures (search rules) x y within_x within_y)
+
+pub invariant_of-result : goal.invariant_of-result
+invariant_of-result c =
+    let ready = all_ready c.args.vertices.now none (search rules) c.requires in
+    record {
+      same = ap (λ d. d.triangle) c.of-plane.ensures ∙ sym c.in_ok-edges.ensures.set;
+      solid = solid _ c.in_ok-edges.edges c.in_ok-edges.ensures.set (search rules);
+      deep = subst AreDepths (sym c.of-plane.ensures) (record { z0 = ready.first.deep; z1 = ready.second.deep; z2 = ready.third.deep });
+      least = c.min-2.ensures ∙ ap (λ m. min m (get_or c.args.vertices.now 2 none).z) c.min.ensures ∙ ap (λ (d : DeepTriangle). min (min d.z0 d.z1) d.z2) (sym c.of-plane.ensures);
+      greatest = c.max-2.ensures ∙ ap (λ m. max m (get_or c.args.vertices.now 2 none).z) c.max.ensures ∙ ap (λ (d : DeepTriangle). max (max d.z0 d.z1) d.z2) (sym c.of-plane.ensures);
+      right = c.within_reach-bounds.ensures.right;
+      bottom = c.within_reach-bounds.ensures.bottom;
+    }
+
+pub returns-clause-setup : goal.returns-clause-setup
+returns-clause-setup c =
+    let t = primitive_of (record { v = c.args.vertices.now }) in
+    let s = state_value c.args.state.now in
+    let same = same_primitive c.args.vertices.now none (search rules) in
+    let corners = c.of-corners.ensures ∙ ap snapped_triangle same in
+    let faces = facing_is t s c.facing-facing.result c.front_ccw.result _ c.facing-facing.ensures c.front_ccw.ensures corners in
+    record {
+      edges = c.in_ok-edges.ensures.set ∙ corners;
+      z0 = ap (λ d. d.z0) c.of-plane.ensures ∙ ap (λ (p : Primitive). p.first.z) same;
+      z1 = ap (λ d. d.z1) c.of-plane.ensures ∙ ap (λ (p : Primitive). p.second.z) same;
+      z2 = ap (λ d. d.z2) c.of-plane.ensures ∙ ap (λ (p : Primitive). p.third.z) same;
+      kept = kept_is t s c.facing-facing.result c.cull.result c.culled.result faces c.cull.ensures c.culled.ensures c.if-culled.false;
+      face = λ d. c.is_front.ensures d ∙ ap (λ f. face_setting f d) faces;
+      rgba = ap (λ (p : Primitive). p.first.rgba) same;
+      reach = c.within_reach-bounds.ensures.reach;
+    }

@@ -1,0 +1,138 @@
+-- What a list that is being compiled means so far, and what each step adds.
+use Rattle.std.specs.Prelude.{ℕ, ◌≡◌, ◌<◌, ◌≤◌, ◌+◌, ◌*◌, ◌⊎◌, false, List, [], ◌∷◌, ◌++◌, length, Option, Some, None, slice_get}
+use Rattle.gfxspec.specs.declared.pixel.DepthStencil.{DepthStencil}
+use Rattle.gfxspec.specs.declared.geometry.PixelRect.{PixelRect}
+use Rattle.gfxspec.specs.State.{Settings}
+use Rattle.gfxspec.specs.Tiles.{tile_count, tile_rect}
+use Rattle.gfxspec.specs.Items.{Item}
+use Rattle.gfxspec.specs.Commands.{Command}
+use Rattle.gfxspec.specs.Recorded.{items, items_at, issues}
+use Rattle.meaning.specs.OneMore.{triangles_of}
+use Rattle.tileword.specs.declared.word.Word.TheVariants.{ClearC, ClearDs}
+use Rattle.binner.specs.declared.entry.StateEntry.{StateEntry}
+use Rattle.binner.specs.declared.entry.Current.{Current}
+use Rattle.binner.specs.declared.setup.TriSetup.{TriSetup}
+use Rattle.binner.specs.declared.compiling.Compiling.{Compiling}
+use Rattle.binner.specs.Program.{Tables, program, force_behind}
+use Rattle.binner.specs.Meaning.{Decode, Means, AreBits, entry_of}
+use Rattle.binner.specs.Compiled.{Compilation}
+use Rattle.binner.specs.Cuts.{AreUncounted}
+use Rattle.binner.specs.Lists.{TileList, at, IsLists, IsShort, EachChanges, TakesTriangle, TakesClear, drawn_behind}
+
+abbrev pub tables : {A : Type 0} → Compiling A → Tables
+tables c = record { states = c.states.items; triangles = c.triangles.items; colors = c.colors.items; depths = c.depths.items }
+
+-- on its rectangle a tile's list means these items, and its last triangle tells the entry in force
+pub record ListMeans (t : Tables) (r : PixelRect) (items : List Item) (current : Option Current) (l : TileList) : Type 0 where
+  pub decode : Decode l.numbers
+  pub means : Means t r None (force_behind t None (program l.numbers)) items (program l.numbers)
+  pub uncounted : l.counted ≡ false → AreUncounted t None (program l.numbers)
+  pub below : (n : ℕ) → drawn_behind None (program l.numbers) ≡ Some n → (p : TriSetup) × (slice_get t.triangles n ≡ Some p)
+  pub stands : (s : Current) (n : ℕ) → current ≡ Some s → drawn_behind None (program l.numbers) ≡ Some n → s.first ≤ n → (e : StateEntry) × (slice_get t.states s.entry ≡ Some e) × (force_behind t None (program l.numbers) ≡ Some e)
+
+-- so far each tile's list means these items
+abbrev pub HasCompiled : {A : Type 0} → Compiling A → List Item → Type 0
+HasCompiled c items =
+    (k : ℕ) → k < tile_count c.lists.size → ListMeans (tables c) (tile_rect c.lists.size k) items c.current (at c.lists k)
+
+-- no list has more words than two for each triangle and one for each clear
+pub record IsSound {A : Type 0} (c : Compiling A) : Type 0 where
+  pub lists : IsLists c.lists
+  pub short : IsShort (2 * length c.triangles.items + (length c.colors.items + length c.depths.items)) c.lists
+
+-- the tables have at most as many entries as commands and triangles can need
+pub record HasRoom {A : Type 0} (c : Compiling A) : Type 0 where
+  pub triangles : length c.triangles.items ≤ 65536
+  pub clears : length c.colors.items + length c.depths.items ≤ 65536
+
+-- the current entry is that of the state
+pub record IsEntry (states : List StateEntry) (e : StateEntry) (s : Current) : Type 0 where
+  pub place : slice_get states s.entry ≡ Some e
+  pub uncounted : s.counted ≡ false → e.issues ≡ 0
+
+abbrev pub IsCurrent : {A : Type 0} → Compiling A → Settings → ℕ → Type 0
+IsCurrent c s issues = (now : Current) → c.current ≡ Some now → IsEntry c.states.items (entry_of s issues) now
+
+-- ---- steps
+
+-- it is the current one; it may be new
+pub record Enters {A : Type 0} (e : StateEntry) (s : Current) (old new : Compiling A) : Type 0 where
+  pub entry : IsEntry new.states.items e s
+  pub current : new.current ≡ Some s
+  pub states : ((old.current ≡ Some s) × (new.states.items ≡ old.states.items)) ⊎ ((s.first ≡ length old.triangles.items) × (new.states.items ≡ old.states.items ++ e ∷ []))
+  pub lists : new.lists ≡ old.lists
+  pub triangles : new.triangles.items ≡ old.triangles.items
+  pub colors : new.colors.items ≡ old.colors.items
+  pub depths : new.depths.items ≡ old.depths.items
+
+pub record AddsSetup {A : Type 0} (setup : TriSetup) (s : Current) (old new : Compiling A) : Type 0 where
+  pub lists : EachChanges (λ k. TakesTriangle setup.edges setup.bounds (tile_rect old.lists.size k) s (length old.triangles.items)) old.lists new.lists
+  pub sound : IsLists new.lists
+  pub triangles : new.triangles.items ≡ old.triangles.items ++ setup ∷ []
+  pub states : new.states.items ≡ old.states.items
+  pub colors : new.colors.items ≡ old.colors.items
+  pub depths : new.depths.items ≡ old.depths.items
+  pub current : new.current ≡ old.current
+
+pub record AddsColor {A : Type 0} (rgba : List ℕ) (old new : Compiling A) : Type 0 where
+  pub lists : EachChanges (λ k. TakesClear (ClearC (length old.colors.items))) old.lists new.lists
+  pub sound : IsLists new.lists
+  pub triangles : new.triangles.items ≡ old.triangles.items
+  pub states : new.states.items ≡ old.states.items
+  pub colors : new.colors.items ≡ old.colors.items ++ rgba ∷ []
+  pub depths : new.depths.items ≡ old.depths.items
+  pub current : new.current ≡ old.current
+
+pub record AddsDepth {A : Type 0} (value : DepthStencil) (old new : Compiling A) : Type 0 where
+  pub lists : EachChanges (λ k. TakesClear (ClearDs (length old.depths.items))) old.lists new.lists
+  pub sound : IsLists new.lists
+  pub triangles : new.triangles.items ≡ old.triangles.items
+  pub states : new.states.items ≡ old.states.items
+  pub colors : new.colors.items ≡ old.colors.items
+  pub depths : new.depths.items ≡ old.depths.items ++ value ∷ []
+  pub current : new.current ≡ old.current
+
+-- what a command that draws so many triangles may add to the tables
+pub record Grows {A : Type 0} (triangles : ℕ) (old new : Compiling A) : Type 0 where
+  pub size : new.lists.size ≡ old.lists.size
+  pub states : length new.states.items ≤ length old.states.items + 1
+  pub drawn : length new.triangles.items ≤ length old.triangles.items + triangles
+  pub clears : length new.colors.items + length new.depths.items ≤ length old.colors.items + length old.depths.items + 1
+
+-- what a command under these settings, with these issues open, has added
+pub record Draws {A : Type 0} (s : Settings) (bits : ℕ) (c : Command) (old new : Compiling A) : Type 0 where
+  pub sound : IsSound new
+  pub current : IsCurrent new s bits
+  pub grows : Grows (triangles_of s c) old new
+  pub means : (items : List Item) (opened : List ℕ) → AreBits bits opened → HasCompiled old items → HasCompiled new (items ++ items_at s opened c)
+
+-- all but the current entry
+pub record SameTables {A : Type 0} (old new : Compiling A) : Type 0 where
+  pub lists : new.lists ≡ old.lists
+  pub states : new.states ≡ old.states
+  pub triangles : new.triangles ≡ old.triangles
+  pub colors : new.colors ≡ old.colors
+  pub depths : new.depths ≡ old.depths
+
+-- nothing is compiled yet
+pub record IsFresh {A : Type 0} (c : Compiling A) : Type 0 where
+  pub sound : IsSound c
+  pub states : c.states.items ≡ []
+  pub triangles : c.triangles.items ≡ []
+  pub colors : c.colors.items ≡ []
+  pub depths : c.depths.items ≡ []
+  pub current : c.current ≡ None
+  pub compiled : HasCompiled c []
+
+-- these commands are compiled, which begin so many issues
+pub record IsWhole {A : Type 0} (commands : List Command) (begun : ℕ) (old new : Compiling A) : Type 0 where
+  pub begun_are : begun ≡ length (issues commands)
+  pub few : begun ≤ 64
+  pub size : new.lists.size ≡ old.lists.size
+  pub sound : IsSound new
+  pub room : HasRoom new
+  pub compiled : HasCompiled new (items commands)
+
+-- what is kept of it at the end
+abbrev pub compilation_of : {A : Type 0} → ℕ → Compiling A → Compilation
+compilation_of begun c = record { size = c.lists.size; issues = begun; numbers = c.lists.bins; touched = c.lists.touched.items; tables = tables c }

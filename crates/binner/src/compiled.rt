@@ -1,0 +1,220 @@
+//! A compiled list.
+
+ghost use Rattle.std.specs.Prelude.{◌≡◌, map, IsTrue, IfOk, IfErr, List, length, replicate, false};
+ghost use Rattle.gfxspec.specs.declared.error.GfxError.TheVariants.{OutOfMemory};
+ghost use Rattle.gfxspec.specs.Limits.{is_size};
+ghost use Rattle.gfxspec.specs.Tiles.{tile_count};
+ghost use Rattle.gfxspec.specs.Refusals.{AreAccepted};
+ghost use Rattle.cmdlist.specs.Seen.{command_value};
+ghost use Rattle.binmem.specs.Lists.{no_words};
+ghost use Rattle.gfxspec.specs.Recorded.{issues as issues_of};
+ghost use Rattle.gfxspec.specs.Commands.{Command as Call};
+ghost use Rattle.binner.specs.Compiled.{Compilation as Whole, IsCompilation, MeansList, CountsAreSums};
+ghost use Rattle.binner.specs.Compiling.{IsFresh, compilation_of};
+
+use crate::compiling::{Compiling, add_commands};
+use crate::entry::StateEntry;
+use crate::lists::Lists;
+use crate::setup::TriSetup;
+use binmem::{Bins, SealedBins, Words};
+use cmdlist::Command;
+use gfxspec::{DepthStencil, GfxError, Size, tile_count};
+use std::alloc::{AllocError, Allocator};
+use std::marker::Model;
+
+/// A list of commands, compiled for a size: words for each tile, and what their numbers name.
+#[derive(Drop)]
+pub struct Compiled<A: Allocator> {
+    size: Size,
+    issues: u32,
+    bins: SealedBins<A>,
+    touched: Vec<u32, A>,
+    states: Vec<StateEntry, A>,
+    triangles: Vec<TriSetup, A>,
+    colors: Vec<[u8; 4], A>,
+    depths: Vec<DepthStencil, A>,
+}
+
+impl<A: Allocator> Model for Compiled<A> {
+    ghost use Rattle.binner.specs.Compiled.{Compilation, IsCompilation};
+
+    ghost Value = { Compilation };
+
+    ghost view = { λ c. record { size = c.size; issues = c.issues; numbers = c.bins; touched = c.touched.items; tables = record { states = c.states.items; triangles = c.triangles.items; colors = c.colors.items; depths = c.depths.items } } };
+
+    ghost invariant = { λ c. IsCompilation (record { size = c.size; issues = c.issues; numbers = c.bins; touched = c.touched.items; tables = record { states = c.states.items; triangles = c.triangles.items; colors = c.colors.items; depths = c.depths.items } }) };
+}
+
+/// No tile has a counted triangle.
+fn uncounted<A: Allocator + Copy>(alloc: A, tiles: u32) -> Result<Vec<bool, A>, AllocError>
+    ensures { IfOk result (λ counted. counted.items ≡ replicate tiles false) }
+{
+    let mut counted = Vec::new(alloc);
+    counted.resize(tiles as usize, false)?;
+    Ok(counted)
+}
+
+/// Nothing compiled yet. Without memory the bins come back.
+fn nothing<A: Allocator + Copy>(
+    alloc: A,
+    size: Size,
+    bins: Bins<A>,
+) -> Result<Compiling<A>, Bins<A>>
+    requires size { IsTrue (is_size size) }
+    requires empty { bins ≡ no_words (tile_count size) }
+    ensures fresh { IfOk result IsFresh }
+    ensures size { IfOk result (λ c. c.lists.size ≡ size) }
+    ensures refused { IfErr result (λ back. back ≡ no_words (tile_count size)) }
+{
+    let Ok(counted) = uncounted(alloc, tile_count(size)) else {
+        return Err(bins);
+    };
+    Ok(Compiling {
+        lists: Lists {
+            size,
+            bins,
+            counted,
+            touched: Vec::new(alloc),
+        },
+        states: Vec::new(alloc),
+        triangles: Vec::new(alloc),
+        colors: Vec::new(alloc),
+        depths: Vec::new(alloc),
+        current: None,
+    })
+}
+
+/// The compiled list, once all its commands are added, which begin so many issues.
+fn finished<A: Allocator + Copy>(compiling: Compiling<A>, issues: u32) -> Compiled<A>
+    requires { IsCompilation (compilation_of issues compiling) }
+    ensures { result ≡ compilation_of issues compiling }
+{
+    let Compiling {
+        lists,
+        states,
+        triangles,
+        colors,
+        depths,
+        current: _,
+    } = compiling;
+    Compiled {
+        size: lists.size,
+        issues,
+        bins: lists.bins.seal(),
+        touched: lists.touched,
+        states,
+        triangles,
+        colors,
+        depths,
+    }
+}
+
+/// Compiles accepted commands, read from the default state, for a target of this size, with empty bins of as many tiles
+/// as it has. The only error is `OutOfMemory`, with the bins, empty again
+/// (Direct3D 11.3 Functional Specification, "Rasterizer Stage" and "Output Merger Stage"; tiles are this project's own).
+pub fn compile<A: Allocator + Copy>(
+    alloc: A,
+    commands: &[Command<A>],
+    size: Size,
+    bins: Bins<A>,
+) -> Result<Compiled<A>, (GfxError, Bins<A>)>
+    requires accepted { AreAccepted (map command_value commands.now) }
+    requires size { IsTrue (is_size size) }
+    requires empty { bins ≡ no_words (tile_count size) }
+    ensures size { IfOk result (λ c. c.size ≡ size) }
+    ensures issues { IfOk result (λ c. c.issues ≡ length (issues_of (map command_value commands.now))) }
+    ensures means { IfOk result (λ c. MeansList (map command_value commands.now) c) }
+    ensures refused { IfErr result (λ e. e ≡ (OutOfMemory, no_words (tile_count size))) }
+{
+    let mut compiling = match nothing(alloc, size, bins) {
+        Ok(compiling) => compiling,
+        Err(back) => return Err((GfxError::OutOfMemory, back)),
+    };
+    match add_commands(&mut compiling, commands) {
+        Ok(issues) => Ok(finished(compiling, issues)),
+        Err(_) => Err((GfxError::OutOfMemory, compiling.lists.bins.seal().reuse())),
+    }
+}
+
+impl<A: Allocator + Copy> Compiled<A> {
+    ghost use Rattle.std.specs.Prelude.{◌≡◌, ◌<◌, ◌≤◌, length, slice_get, Some};
+    ghost use Rattle.gfxspec.specs.Tiles.{tile_count};
+    ghost use Rattle.binmem.specs.Lists.{no_words, words_of};
+    ghost use Rattle.binner.specs.Compiled.{IsCompilation};
+
+    /// The size that the list is compiled for.
+    pub fn size(&self) -> Size
+        ensures value { result ≡ self.now.size }
+        ensures sound { IsCompilation self.now }
+    {
+        self.size
+    }
+
+    /// How many issues the list has.
+    pub fn issues(&self) -> u32
+        ensures value { result ≡ self.now.issues }
+        ensures few { result ≤ 64 }
+    {
+        self.issues
+    }
+
+    /// The tiles that have words, each once.
+    pub fn touched(&self) -> &[u32]
+        ensures value { result.now ≡ self.now.touched }
+        ensures sound { IsCompilation self.now }
+    {
+        self.touched.as_slice()
+    }
+
+    /// The words of a tile, as numbers.
+    pub fn words(&self, tile: u32) -> Words<'_>
+        requires { tile < tile_count self.now.size }
+        ensures { result ≡ words_of self.now.numbers tile }
+    {
+        self.bins.words(tile)
+    }
+
+    /// The state entry of a number.
+    pub fn state(&self, number: u16) -> &StateEntry
+        requires { number < length self.now.tables.states }
+        ensures { slice_get self.now.tables.states number ≡ Some result.now }
+    {
+        &self.states[number as usize]
+    }
+
+    /// The triangle of a number.
+    pub fn tri(&self, number: u16) -> &TriSetup
+        requires { number < length self.now.tables.triangles }
+        ensures { slice_get self.now.tables.triangles number ≡ Some result.now }
+    {
+        &self.triangles[number as usize]
+    }
+
+    /// The colour of a number.
+    pub fn color(&self, number: u16) -> [u8; 4]
+        requires { number < length self.now.tables.colors }
+        ensures { slice_get self.now.tables.colors number ≡ Some result }
+    {
+        self.colors[number as usize]
+    }
+
+    /// The depth and the stencil value of a number.
+    pub fn depth_stencil(&self, number: u16) -> DepthStencil
+        requires { number < length self.now.tables.depths }
+        ensures { slice_get self.now.tables.depths number ≡ Some result }
+    {
+        self.depths[number as usize]
+    }
+
+    /// The bins, empty, for another list.
+    pub fn into_bins(self) -> Bins<A>
+        ensures { result ≡ no_words (tile_count self.size) }
+    {
+        self.bins.reuse_tiles(self.touched.as_slice())
+    }
+}
+
+/// The count of an issue over the target is the sum of what the tiles' programs count.
+pub fn programs_count_the_target()
+    ensures { (commands : List Call) (c : Whole) → MeansList commands c → CountsAreSums commands c }
+{}

@@ -1,0 +1,308 @@
+//! A list that is being compiled: each command adds to the words of the tiles.
+
+ghost use Rattle.std.specs.Prelude.{◌≡◌, ◌<◌, ◌≤◌, ◌+◌, ◌++◌, ◌∷◌, [], ℕ, List, length, IsTrue, IfOk, OnOk, Some};
+ghost use Rattle.std.specs.List.{list_all};
+ghost use Rattle.gfxspec.specs.Vertices.{is_in_range};
+ghost use Rattle.gfxspec.specs.Items.{Item, ColorCleared, DepthStencilCleared};
+ghost use Rattle.gfxspec.specs.Recorded.{drawn_items, items_at};
+ghost use Rattle.gfxspec.specs.Commands.{Draw as DrawCall, DrawIndexed as IndexedCall};
+ghost use Rattle.meaning.specs.OneMore.{triangles_of as count_of};
+ghost use Rattle.assemble.specs.Drawing.{IsInRange, triangles_of};
+ghost use Rattle.cmdlist.specs.Seen.{state_value, command_value};
+ghost use Rattle.binner.specs.Ready.{IsDrawable};
+ghost use Rattle.binner.specs.Meaning.{AreBits, entry_of};
+ghost use Rattle.binner.specs.Compiling.{HasCompiled, IsSound, IsCurrent, HasRoom, AddsSetup, AddsColor, AddsDepth, Enters, Grows, Draws, SameTables, IsFresh, IsWhole};
+ghost use Rattle.std.specs.Prelude.{map};
+ghost use Rattle.binner.specs.declared.entry.Current.{Current};
+ghost use Rattle.gfxspec.specs.State.{Settings};
+ghost use Rattle.gfxspec.specs.Refusals.{AreAccepted};
+ghost use Rattle.meaning.specs.OneMore.{settings_with};
+
+use crate::entry::{Current, StateEntry};
+use crate::lists::{Lists, add_to_all, add_to_tiles};
+use crate::opened::{note, nothing_begun};
+use crate::prepare::prepared;
+use crate::setup::TriSetup;
+use assemble::{Draw, triangles};
+use cmdlist::{Command, State};
+use gfxspec::DepthStencil;
+use std::alloc::{AllocError, Allocator};
+use tileword::Word;
+
+/// The lists of words, and what the numbers in them name.
+#[derive(Drop)]
+pub struct Compiling<A: Allocator> {
+    pub lists: Lists<A>,
+    pub states: Vec<StateEntry, A>,
+    pub triangles: Vec<TriSetup, A>,
+    pub colors: Vec<[u8; 4], A>,
+    pub depths: Vec<DepthStencil, A>,
+    /// The entry of the state that comes next, if it has one.
+    pub current: Option<Current>,
+}
+
+/// The entry of a state, with the open issues as bits.
+fn entry(state: &State<'_>, issues: u64) -> StateEntry
+    ensures { result ≡ entry_of (state_value state.now) issues }
+{
+    StateEntry {
+        raster: state.raster,
+        scissor: state.scissor,
+        depth_stencil: state.depth_stencil,
+        reference: state.reference,
+        blend: state.blend,
+        issues,
+    }
+}
+
+/// The entry of the state, which is new where the state has none.
+fn current_entry<A: Allocator + Copy>(
+    compiling: &mut Compiling<A>,
+    state: &State<'_>,
+    issues: u64,
+) -> Result<Current, AllocError>
+    requires current { IsCurrent compiling.old (state_value state.now) issues }
+    requires states { length compiling.old.states.items < 65536 }
+    requires triangles { length compiling.old.triangles.items ≤ 65536 }
+    ensures bins { length compiling.new.lists.bins ≡ length compiling.old.lists.bins }
+    ensures enters { IfOk result (λ s. Enters (entry_of (state_value state.now) issues) s compiling.old compiling.new) }
+{
+    if let Some(current) = compiling.current {
+        return Ok(current);
+    }
+    let current = Current {
+        entry: compiling.states.len() as u16,
+        first: compiling.triangles.len() as u32,
+        counted: issues != 0,
+    };
+    compiling.states.push(entry(state, issues))?;
+    compiling.current = Some(current);
+    Ok(current)
+}
+
+/// Adds a triangle under an entry.
+fn add_setup<A: Allocator + Copy>(
+    compiling: &mut Compiling<A>,
+    setup: TriSetup,
+    current: Current,
+) -> Result<(), AllocError>
+    requires sound { IsSound compiling.old }
+    requires room { HasRoom compiling.old }
+    requires triangles { length compiling.old.triangles.items < 65536 }
+    ensures bins { length compiling.new.lists.bins ≡ length compiling.old.lists.bins }
+    ensures added { OnOk result (AddsSetup setup current compiling.old compiling.new) }
+{
+    let number = compiling.triangles.len() as u16;
+    add_to_tiles(&mut compiling.lists, &setup, current, number)?;
+    compiling.triangles.push(setup)?;
+    Ok(())
+}
+
+/// Clears the colour.
+fn add_color<A: Allocator + Copy>(
+    compiling: &mut Compiling<A>,
+    rgba: [u8; 4],
+) -> Result<(), AllocError>
+    requires sound { IsSound compiling.old }
+    requires room { HasRoom compiling.old }
+    requires colors { length compiling.old.colors.items < 65536 }
+    ensures bins { length compiling.new.lists.bins ≡ length compiling.old.lists.bins }
+    ensures added { OnOk result (AddsColor rgba compiling.old compiling.new) }
+{
+    let number = compiling.colors.len() as u16;
+    compiling.colors.push(rgba)?;
+    add_to_all(&mut compiling.lists, Word::ClearC(number))
+}
+
+/// Clears depth and stencil.
+fn add_depth<A: Allocator + Copy>(
+    compiling: &mut Compiling<A>,
+    value: DepthStencil,
+) -> Result<(), AllocError>
+    requires sound { IsSound compiling.old }
+    requires room { HasRoom compiling.old }
+    requires depths { length compiling.old.depths.items < 65536 }
+    ensures bins { length compiling.new.lists.bins ≡ length compiling.old.lists.bins }
+    ensures added { OnOk result (AddsDepth value compiling.old compiling.new) }
+{
+    let number = compiling.depths.len() as u16;
+    compiling.depths.push(value)?;
+    add_to_all(&mut compiling.lists, Word::ClearDs(number))
+}
+
+/// Adds the triangles of a draw.
+fn add_draw<A: Allocator + Copy>(
+    compiling: &mut Compiling<A>,
+    draw: &Draw<'_>,
+    state: &State<'_>,
+    issues: u64,
+) -> Result<(), AllocError>
+    requires sound { IsSound compiling.old }
+    requires current { IsCurrent compiling.old (state_value state.now) issues }
+    requires states { length compiling.old.states.items < 65536 }
+    requires triangles { length compiling.old.triangles.items + length (triangles_of draw.now) ≤ 65536 }
+    requires clears { length compiling.old.colors.items + length compiling.old.depths.items ≤ 65536 }
+    requires range { IsInRange draw.now }
+    requires vertices { IsTrue (list_all is_in_range draw.now.vertices.now) }
+    ensures bins { length compiling.new.lists.bins ≡ length compiling.old.lists.bins }
+    ensures sound { OnOk result (IsSound compiling.new) }
+    ensures current { OnOk result (IsCurrent compiling.new (state_value state.now) issues) }
+    ensures grows { OnOk result (Grows (length (triangles_of draw.now)) compiling.old compiling.new) }
+    ensures means { (items : List Item) (opened : List ℕ) → AreBits issues opened → HasCompiled compiling.old items
+        → OnOk result (HasCompiled compiling.new (items ++ drawn_items (state_value state.now) opened (triangles_of draw.now))) }
+{
+    let current = current_entry(compiling, state, issues)?;
+    for tri in triangles(draw) {
+        if let Some(setup) = prepared(&tri.v, state, compiling.lists.size) {
+            add_setup(compiling, setup, current)?;
+        }
+    }
+    Ok(())
+}
+
+/// Adds the triangles of a draw without indices.
+fn add_plain<A: Allocator + Copy>(
+    compiling: &mut Compiling<A>,
+    count: u32,
+    start: u32,
+    state: &State<'_>,
+    issues: u64,
+) -> Result<(), AllocError>
+    requires drawable { IsDrawable (state_value state.now) (DrawCall count start) }
+    requires sound { IsSound compiling.old }
+    requires current { IsCurrent compiling.old (state_value state.now) issues }
+    requires states { length compiling.old.states.items < 65536 }
+    requires triangles { length compiling.old.triangles.items + count_of (state_value state.now) (DrawCall count start) ≤ 65536 }
+    requires clears { length compiling.old.colors.items + length compiling.old.depths.items < 65536 }
+    ensures bins { length compiling.new.lists.bins ≡ length compiling.old.lists.bins }
+    ensures drawn { OnOk result (Draws (state_value state.now) issues (DrawCall count start) compiling.old compiling.new) }
+{
+    let Some(topology) = state.topology else {
+        return Ok(());
+    };
+    let draw = Draw {
+        topology,
+        vertices: state.vertices,
+        indices: None,
+        count,
+        start,
+        base: 0,
+    };
+    add_draw(compiling, &draw, state, issues)
+}
+
+/// Adds the triangles of a draw by indices.
+fn add_indexed<A: Allocator + Copy>(
+    compiling: &mut Compiling<A>,
+    count: u32,
+    start: u32,
+    base: i32,
+    state: &State<'_>,
+    issues: u64,
+) -> Result<(), AllocError>
+    requires drawable { IsDrawable (state_value state.now) (IndexedCall count start base) }
+    requires sound { IsSound compiling.old }
+    requires current { IsCurrent compiling.old (state_value state.now) issues }
+    requires states { length compiling.old.states.items < 65536 }
+    requires triangles { length compiling.old.triangles.items + count_of (state_value state.now) (IndexedCall count start base) ≤ 65536 }
+    requires clears { length compiling.old.colors.items + length compiling.old.depths.items < 65536 }
+    ensures bins { length compiling.new.lists.bins ≡ length compiling.old.lists.bins }
+    ensures drawn { OnOk result (Draws (state_value state.now) issues (IndexedCall count start base) compiling.old compiling.new) }
+{
+    let Some(topology) = state.topology else {
+        return Ok(());
+    };
+    let draw = Draw {
+        topology,
+        vertices: state.vertices,
+        indices: Some(state.indices),
+        count,
+        start,
+        base,
+    };
+    add_draw(compiling, &draw, state, issues)
+}
+
+/// Adds what a command draws or clears under a state, with the open issues as bits.
+pub fn add_command<A: Allocator + Copy>(
+    compiling: &mut Compiling<A>,
+    command: &Command<A>,
+    state: &State<'_>,
+    issues: u64,
+) -> Result<(), AllocError>
+    requires drawable { IsDrawable (state_value state.now) (command_value command.now) }
+    requires sound { IsSound compiling.old }
+    requires current { IsCurrent compiling.old (state_value state.now) issues }
+    requires states { length compiling.old.states.items < 65536 }
+    requires triangles { length compiling.old.triangles.items + count_of (state_value state.now) (command_value command.now) ≤ 65536 }
+    requires clears { length compiling.old.colors.items + length compiling.old.depths.items < 65536 }
+    ensures bins { length compiling.new.lists.bins ≡ length compiling.old.lists.bins }
+    ensures drawn { OnOk result (Draws (state_value state.now) issues (command_value command.now) compiling.old compiling.new) }
+{
+    match command {
+        Command::Draw(count, start) => add_plain(compiling, *count, *start, state, issues),
+        Command::DrawIndexed(count, start, base) => {
+            add_indexed(compiling, *count, *start, *base, state, issues)
+        }
+        Command::ClearColor(rgba) => add_color(compiling, *rgba),
+        Command::ClearDepthStencil(depth, stencil) => {
+            let value = DepthStencil {
+                depth: *depth,
+                stencil: *stencil,
+            };
+            add_depth(compiling, value)
+        }
+        _ => Ok(()),
+    }
+}
+
+/// Whether a command leaves what entries are made of as it is.
+fn keeps_entry<A: Allocator>(command: &Command<A>) -> bool
+    ensures { IsTrue result → (s : Settings) (issues : ℕ) → entry_of (settings_with (command_value command.now) s) issues ≡ entry_of s issues }
+{
+    match command {
+        Command::SetVertices(_) => true,
+        Command::SetIndices(_) => true,
+        Command::SetTopology(_) => true,
+        Command::Draw(_, _) => true,
+        Command::DrawIndexed(_, _, _) => true,
+        Command::ClearColor(_) => true,
+        Command::ClearDepthStencil(_, _) => true,
+        _ => false,
+    }
+}
+
+/// Has no entry for the state that comes next, unless the last one still is its entry.
+fn forget_unless<A: Allocator>(compiling: &mut Compiling<A>, kept: bool, before: u64, after: u64)
+    ensures rest { SameTables compiling.old compiling.new }
+    ensures current { (n : Current) → compiling.new.current ≡ Some n → IsTrue kept × (before ≡ after) × (compiling.old.current ≡ Some n) }
+{
+    if !kept || before != after {
+        compiling.current = None;
+    }
+}
+
+/// Adds what the commands of a list draw and clear, from the default state on, and tells how many issues they begin.
+pub fn add_commands<A: Allocator + Copy>(
+    compiling: &mut Compiling<A>,
+    commands: &[Command<A>],
+) -> Result<u32, AllocError>
+    requires accepted { AreAccepted (map command_value commands.now) }
+    requires fresh { IsFresh compiling.old }
+    ensures bins { length compiling.new.lists.bins ≡ length compiling.old.lists.bins }
+    ensures compiled { IfOk result (λ issues. IsWhole (map command_value commands.now) issues compiling.old compiling.new) }
+{
+    let mut state = State::new();
+    let mut bits = 0_u64;
+    let mut begun = 0_u32;
+    let mut of_query = nothing_begun();
+    for command in commands {
+        add_command(compiling, command, &state, bits)?;
+        let before = bits;
+        note(&mut bits, &mut begun, &mut of_query, command);
+        let kept = keeps_entry(command);
+        forget_unless(compiling, kept, before, bits);
+        state.change(command);
+    }
+    Ok(begun)
+}

@@ -1,0 +1,35 @@
+//! Triangles, ready to be drawn in any tile.
+
+ghost use Rattle.std.specs.Prelude.{◌≡◌, ◌≤◌, false, min, max};
+ghost use Rattle.gfxspec.specs.Raster.{is_empty};
+ghost use Rattle.depthplane.specs.Height.{AreDepths};
+
+use depthplane::Plane;
+use edges::EdgeSet;
+use gfxspec::PixelRect;
+use std::mem::size_of;
+
+// What a list keeps for each of up to 65,536 triangles.
+const _: () = prove!(size_of::<TriSetup>() <= 256);
+
+/// A triangle that is not dropped. No pixel outside of `bounds` is reached.
+#[derive(Drop)]
+pub struct TriSetup {
+    pub edges: EdgeSet,
+    pub plane: Plane,
+    pub bounds: PixelRect,
+    /// Whether it uses the front operations.
+    pub front: bool,
+    /// The leading vertex's colour.
+    pub rgba: [u8; 4],
+    /// The least and the greatest depth of its vertices.
+    pub least_depth: u32,
+    pub greatest_depth: u32,
+    pub ghost same: { plane.triangle ≡ edges },
+    pub ghost solid: { is_empty edges ≡ false },
+    pub ghost deep: { AreDepths plane },
+    pub ghost least: { least_depth ≡ min (min plane.z0 plane.z1) plane.z2 },
+    pub ghost greatest: { greatest_depth ≡ max (max plane.z0 plane.z1) plane.z2 },
+    pub ghost right: { bounds.right ≤ 4096 },
+    pub ghost bottom: { bounds.bottom ≤ 4096 },
+}

@@ -1,0 +1,124 @@
+//! The surface that both kinds of context have.
+
+ghost use Rattle.std.specs.Prelude.{◌≡◌, ◌++◌, ◌∷◌, [], List};
+ghost use Rattle.gfxspec.specs.Commands.{Command, SetVertices, SetIndices, SetTopology, SetRaster, SetScissor, SetDepthStencil, SetBlend, Draw, DrawIndexed, ClearColor, ClearDepthStencil, Begin, End};
+ghost use Rattle.cmdlist.specs.Calls.{call_value, RecordsCall};
+
+use crate::call::Call;
+use gfxspec::{GfxError, PixelRect, Topology, Vertex};
+use states::{BlendState, DepthStencilState, RasterState};
+
+/// A context that records calls (Microsoft Learn, ID3D11DeviceContext): deferred or immediate.
+///
+/// A call is answered by its rows, looked at in their order; it is one command more where it is accepted, and changes
+/// nothing where it is refused. Any call may be refused with OutOfMemory, behind its other rows.
+pub trait DeviceContext {
+    /// The commands of the list that the context is recording.
+    ghost recorded: { Self → List Command };
+
+    /// The context with one command more, and nothing else changed.
+    ghost with: { Self → Command → Self };
+
+    /// Records a call.
+    fn record(&mut self, call: &Call<'_>) -> Result<(), GfxError>
+        ensures { RecordsCall recorded with self.old (call_value call.now) self.new result };
+
+    ghost appends: { (context : Self) (c : Command) → recorded (with context c) ≡ recorded context ++ c ∷ [] };
+
+    /// Sets the vertices. Refused with VertexCount, VertexRange, ListTooLong.
+    final fn ia_set_vertices(&mut self, vertices: &[Vertex]) -> Result<(), GfxError>
+        ensures { RecordsCall recorded with self.old (SetVertices vertices.now) self.new result }
+    {
+        self.record(&Call::SetVertices(vertices))
+    }
+
+    /// Sets the indices. Refused with VertexCount, ListTooLong.
+    final fn ia_set_indices(&mut self, indices: &[u16]) -> Result<(), GfxError>
+        ensures { RecordsCall recorded with self.old (SetIndices indices.now) self.new result }
+    {
+        self.record(&Call::SetIndices(indices))
+    }
+
+    /// Sets the topology. Refused with ListTooLong.
+    final fn ia_set_topology(&mut self, topology: Topology) -> Result<(), GfxError>
+        ensures { RecordsCall recorded with self.old (SetTopology topology) self.new result }
+    {
+        self.record(&Call::SetTopology(topology))
+    }
+
+    /// Sets the rasterizer state. Refused with ListTooLong.
+    final fn rs_set_state(&mut self, raster: RasterState) -> Result<(), GfxError>
+        ensures { RecordsCall recorded with self.old (SetRaster raster) self.new result }
+    {
+        self.record(&Call::SetRaster(raster))
+    }
+
+    /// Sets the scissor rectangle, in pixels. Refused with ScissorRect, ListTooLong.
+    final fn rs_set_scissor(&mut self, scissor: PixelRect) -> Result<(), GfxError>
+        ensures { RecordsCall recorded with self.old (SetScissor scissor) self.new result }
+    {
+        self.record(&Call::SetScissor(scissor))
+    }
+
+    /// Sets the depth-stencil state with its reference. Refused with ListTooLong.
+    final fn om_set_depth_stencil(
+        &mut self,
+        depth_stencil: DepthStencilState,
+        reference: u8,
+    ) -> Result<(), GfxError>
+        ensures { RecordsCall recorded with self.old (SetDepthStencil depth_stencil reference) self.new result }
+    {
+        self.record(&Call::SetDepthStencil(depth_stencil, reference))
+    }
+
+    /// Sets the blend state. Refused with ListTooLong.
+    final fn om_set_blend(&mut self, blend: BlendState) -> Result<(), GfxError>
+        ensures { RecordsCall recorded with self.old (SetBlend blend) self.new result }
+    {
+        self.record(&Call::SetBlend(blend))
+    }
+
+    /// Draws vertices: a count, and the first place. Refused with TopologyUnset, DrawRange, ListTooLong.
+    final fn draw(&mut self, count: u32, start: u32) -> Result<(), GfxError>
+        ensures { RecordsCall recorded with self.old (Draw count start) self.new result }
+    {
+        self.record(&Call::Draw(count, start))
+    }
+
+    /// Draws vertices by indices: a count, the first place in the indices, and what is added to each index. Refused with
+    /// TopologyUnset, DrawRange, IndexRange, ListTooLong.
+    final fn draw_indexed(&mut self, count: u32, start: u32, base: i32) -> Result<(), GfxError>
+        ensures { RecordsCall recorded with self.old (DrawIndexed count start base) self.new result }
+    {
+        self.record(&Call::DrawIndexed(count, start, base))
+    }
+
+    /// Clears the colour of every pixel of the target, whatever the state is. Refused with ListTooLong.
+    final fn clear_color(&mut self, rgba: [u8; 4]) -> Result<(), GfxError>
+        ensures { RecordsCall recorded with self.old (ClearColor rgba) self.new result }
+    {
+        self.record(&Call::ClearColor(rgba))
+    }
+
+    /// Clears depth and stencil of every pixel of the target, whatever the state is. Refused with VertexRange for a depth
+    /// above 16,777,215, ListTooLong.
+    final fn clear_depth_stencil(&mut self, depth: u32, stencil: u8) -> Result<(), GfxError>
+        ensures { RecordsCall recorded with self.old (ClearDepthStencil depth stencil) self.new result }
+    {
+        self.record(&Call::ClearDepthStencil(depth, stencil))
+    }
+
+    /// Begins a query, 0 to 63. Refused with QueryNumber, QueryOpen, TooManyIssues, ListTooLong.
+    final fn begin(&mut self, query: u32) -> Result<(), GfxError>
+        ensures { RecordsCall recorded with self.old (Begin query) self.new result }
+    {
+        self.record(&Call::Begin(query))
+    }
+
+    /// Ends a query that is open. Refused with QueryNumber, QueryNotOpen, ListTooLong.
+    final fn end(&mut self, query: u32) -> Result<(), GfxError>
+        ensures { RecordsCall recorded with self.old (End query) self.new result }
+    {
+        self.record(&Call::End(query))
+    }
+}

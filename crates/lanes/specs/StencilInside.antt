@@ -1,0 +1,17 @@
+-- What a stencil test keeps.
+use Rattle.std.specs.Prelude.{◌≡◌, bit_and, if◌then◌else◌}
+use Rattle.lanes.specs.declared.stencil.StencilTest.TheInside.{Inside}
+use Rattle.lanes.specs.ByteChange.{IsChange}
+use Rattle.lanes.specs.Stencil.{StencilRule}
+
+abbrev pub rule_of : Inside → StencilRule
+rule_of t = record { setting = t.state; face = if t.front then t.state.front else t.state.back; reference = t.reference }
+
+pub record IsTest (t : Inside) : Type 0 where
+  pub func : t.func ≡ (rule_of t).face.func
+  pub compared : t.compared ≡ bit_and t.reference t.state.read_mask
+  pub read_mask : t.read_mask ≡ t.state.read_mask
+  pub write_mask : t.write_mask ≡ t.state.write_mask
+  pub fail : IsChange t.fail (rule_of t).face.fail t.reference
+  pub depth_fail : IsChange t.depth_fail (rule_of t).face.depth_fail t.reference
+  pub pass : IsChange t.pass (rule_of t).face.pass t.reference

@@ -1,0 +1,198 @@
+//! The stencil test of eight pixels.
+
+ghost use Rattle.std.specs.Prelude.{◌≡◌, ℕ, ◌<◌, ◌==◌, bit_and, slice_index, if◌then◌else◌};
+ghost use Rattle.std.specs.Int.{bit_at};
+ghost use Rattle.gfxspec.specs.DepthStencil.{compares, masked};
+ghost use Rattle.lanes.specs.Stencil.{has, reference_passes, stencil_after};
+ghost use Rattle.lanes.specs.ByteChange.{IsChange, changed};
+
+use gfxspec::{Compare, StencilOp};
+use states::DepthStencilState;
+use std::marker::Model;
+use std::simd::prelude::*;
+
+/// What an operation does to a stored value, without a case: it goes up by `raise`, no further than 255, then down by
+/// `lower`, no further than 0, then up by `turn`, round from 255 to 0, and then the bits of `flip` turn over.
+#[derive(Clone, Copy, Debug)]
+struct ByteChange {
+    raise: u8,
+    lower: u8,
+    turn: u8,
+    flip: u8,
+}
+
+impl ByteChange {
+    /// The change of an operation by a reference.
+    fn of(op: StencilOp, reference: u8) -> ByteChange
+        ensures { IsChange result op reference }
+    {
+        let (raise, lower, turn, flip) = match op {
+            StencilOp::Keep => (0, 0, 0, 0),
+            StencilOp::Zero => (0, 255, 0, 0),
+            StencilOp::Replace => (0, 255, reference, 0),
+            StencilOp::IncrSat => (1, 0, 0, 0),
+            StencilOp::DecrSat => (0, 1, 0, 0),
+            StencilOp::Invert => (0, 0, 0, 255),
+            StencilOp::Incr => (0, 0, 1, 0),
+            StencilOp::Decr => (0, 0, 255, 0),
+        };
+        ByteChange {
+            raise,
+            lower,
+            turn,
+            flip,
+        }
+    }
+
+    /// One value changed.
+    #[inline]
+    fn onto(&self, stored: u8) -> u8
+        ensures { result ≡ changed self.now stored }
+    {
+        let raised = stored.saturating_add(self.raise);
+        raised.saturating_sub(self.lower).wrapping_add(self.turn) ^ self.flip
+    }
+
+    /// Eight values changed.
+    #[inline]
+    fn onto_each(&self, stored: &[u8; 8]) -> [u8; 8]
+        ensures { (j : ℕ) → j < 8 → slice_index result j ≡ changed self.now (slice_index stored.now j) }
+    {
+        let mut after = [0; 8];
+        for j in 0..8usize {
+            after[j] = self.onto(stored[j]);
+        }
+        after
+    }
+}
+
+/// The stencil test of a depth-stencil state, of one face and with one reference, made once for many pixels. Contracts
+/// see it as these three.
+#[derive(Debug, Drop)]
+pub struct StencilTest {
+    state: DepthStencilState,
+    front: bool,
+    reference: u8,
+    func: Compare,
+    compared: u8,
+    read_mask: u8,
+    write_mask: u8,
+    fail: ByteChange,
+    depth_fail: ByteChange,
+    pass: ByteChange,
+}
+
+impl Model for StencilTest {
+    ghost use Rattle.lanes.specs.Stencil.{StencilRule};
+    ghost use Rattle.lanes.specs.StencilInside.{rule_of, IsTest};
+
+    ghost Value = { StencilRule };
+
+    ghost view = { rule_of };
+
+    ghost invariant = { IsTest };
+}
+
+impl StencilTest {
+    /// The test of a state for front-facing or back-facing triangles.
+    pub fn of(state: &DepthStencilState, front: bool, reference: u8) -> StencilTest
+        ensures { result ≡ record { setting = state.now; face = if front then state.now.front else state.now.back; reference = reference } }
+    {
+        let face = if front { state.front() } else { state.back() };
+        StencilTest {
+            state: *state,
+            front,
+            reference,
+            func: face.func,
+            compared: reference & state.read_mask(),
+            read_mask: state.read_mask(),
+            write_mask: state.write_mask(),
+            fail: ByteChange::of(face.fail, reference),
+            depth_fail: ByteChange::of(face.depth_fail, reference),
+            pass: ByteChange::of(face.pass, reference),
+        }
+    }
+
+    /// Bit j is set where the test passes at stored value j
+    /// (Direct3D 11.3 Functional Specification, "Output Merger Stage", depth and stencil state).
+    #[inline]
+    pub fn passes(&self, stored: &[u8; 8]) -> u8
+        ensures { (j : ℕ) → j < 8 → (bit_at result j == 1) ≡ reference_passes self.now (slice_index stored.now j) }
+    {
+        byte_mask(
+            self.func,
+            &[self.compared; 8],
+            &under(self.read_mask, stored),
+        )
+    }
+
+    /// What is stored after the tests, where bit j of `passing` says whether the stencil test passes at value j, and
+    /// bit j of `deep` whether the depth test does.
+    #[inline]
+    pub fn after(&self, stored: &[u8; 8], passing: u8, deep: u8) -> [u8; 8]
+        ensures { (j : ℕ) → j < 8 → slice_index result j ≡ stencil_after self.now (has passing j) (has deep j) (slice_index stored.now j) }
+    {
+        let passed = select_bytes8(
+            deep,
+            &self.pass.onto_each(stored),
+            &self.depth_fail.onto_each(stored),
+        );
+        let new = select_bytes8(passing, &passed, &self.fail.onto_each(stored));
+        masked_each(self.write_mask, &new, stored)
+    }
+}
+
+/// The bits of a mask in each of eight values.
+#[inline]
+fn under(mask: u8, stored: &[u8; 8]) -> [u8; 8]
+    ensures { (j : ℕ) → j < 8 → slice_index result j ≡ bit_and (slice_index stored.now j) mask }
+{
+    let mut bits = [0; 8];
+    for j in 0..8usize {
+        bits[j] = stored[j] & mask;
+    }
+    bits
+}
+
+/// The bits of new values where the mask has ones, and else those of the old.
+#[inline]
+fn masked_each(mask: u8, new: &[u8; 8], old: &[u8; 8]) -> [u8; 8]
+    ensures { (j : ℕ) → j < 8 → slice_index result j ≡ masked mask (slice_index new.now j) (slice_index old.now j) }
+{
+    let mut bits = [0; 8];
+    for j in 0..8usize {
+        bits[j] = (new[j] & mask) | (old[j] & !mask);
+    }
+    bits
+}
+
+/// Bit j is set where the comparison holds of new value j, on the left, and old value j.
+#[inline]
+fn byte_mask(func: Compare, new: &[u8; 8], old: &[u8; 8]) -> u8
+    ensures { (j : ℕ) → j < 8 → (bit_at result j == 1) ≡ compares func (slice_index new.now j) (slice_index old.now j) }
+{
+    let new = u8x8::from_array(*new);
+    let old = u8x8::from_array(*old);
+    match func {
+        Compare::Never => 0,
+        Compare::Less => new.simd_lt(old).to_bitmask() as u8,
+        Compare::Equal => new.simd_eq(old).to_bitmask() as u8,
+        Compare::LessEqual => new.simd_le(old).to_bitmask() as u8,
+        Compare::Greater => new.simd_gt(old).to_bitmask() as u8,
+        Compare::NotEqual => new.simd_ne(old).to_bitmask() as u8,
+        Compare::GreaterEqual => new.simd_ge(old).to_bitmask() as u8,
+        Compare::Always => 255,
+    }
+}
+
+/// Byte j of `a` where bit j is set, and else of `b`.
+#[inline]
+pub fn select_bytes8(bits: u8, a: &[u8; 8], b: &[u8; 8]) -> [u8; 8]
+    ensures { (j : ℕ) → j < 8 → slice_index result j ≡ (if bit_at bits j == 1 then slice_index a.now j else slice_index b.now j) }
+{
+    let places = u8x8::from_array([1, 2, 4, 8, 16, 32, 64, 128]);
+    let picked = (u8x8::splat(bits) & places).simd_eq(places);
+    picked
+        .select(u8x8::from_array(*a), u8x8::from_array(*b))
+        .to_array()
+}

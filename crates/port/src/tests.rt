@@ -1,0 +1,171 @@
+//! A worked row with command lists, a full queue, four threads, and refused growths.
+
+ghost use Rattle.std.specs.Prelude.{◌≡◌};
+
+use crate::ports::apart;
+use crate::{DrainPass, PortPass, Ports, Submission};
+use cmdlist::{Command, CommandList, DeferredContext};
+use gfxspec::GfxError;
+use refusing::Refusing;
+use std::alloc::Global;
+use std::sync::Wait;
+use std::test::*;
+use std::thread;
+
+type List = CommandList<Global>;
+
+// A list that clears to one value.
+fn clearing(alloc: Global, value: u8) -> Result<List, GfxError> {
+    let mut context = DeferredContext::new(alloc);
+    context.clear_color([value; 4])?;
+    context.finish(false)
+}
+
+// Port and number of the next submission, and what its list clears to.
+fn take<R: Wait>(
+    rt: &R,
+    ports: &Ports<List, Global>,
+    drain: &mut DrainPass<List>,
+) -> Option<(u32, u64, u8)>
+    requires { drain.old.queue ≡ ports.now.queue }
+    ensures { drain.new.queue ≡ ports.now.queue }
+{
+    let Submission { port, number, list } = ports.next(rt, drain)?;
+    match list.commands() {
+        [Command::ClearColor(rgba)] => Some((port, number, rgba[0])),
+        _ => None,
+    }
+}
+
+#[test]
+fn two_ports(rt: HostRuntime) -> Result<(), Fail> {
+    let a = clearing(rt.alloc(), 7)?;
+    let b = clearing(rt.alloc(), 8)?;
+    let c = clearing(rt.alloc(), 9)?;
+    let made = Ports::<List, Global>::new(rt.alloc())?;
+    let passes = made.1;
+    let ports = made.0;
+    let mut drain = made.2;
+    let (mut zero, mut one, two, three) = apart(passes);
+    assert!(rt; ports.submit(&rt, &mut zero, a).is_ok());
+    assert!(rt; ports.submit(&rt, &mut zero, b).is_ok());
+    assert!(rt; ports.submit(&rt, &mut one, c).is_ok());
+    assert_eq!(rt; (zero.port(), zero.sent()), (0, 2));
+    assert_eq!(rt; (one.port(), one.sent()), (1, 1));
+    assert_eq!(rt; take(&rt, &ports, &mut drain), Some((0, 0, 7)));
+    assert_eq!(rt; take(&rt, &ports, &mut drain), Some((0, 1, 8)));
+    let back = match ports.settle([zero, one, two, three], drain) {
+        Ok(_) => panic!(rt; "one is left"),
+        Err(back) => back,
+    };
+    let passes = back.2;
+    let ports = back.1;
+    let mut drain = back.3;
+    let (zero, one, two, three) = apart(passes);
+    assert_eq!(rt; take(&rt, &ports, &mut drain), Some((1, 0, 9)));
+    assert_eq!(rt; take(&rt, &ports, &mut drain), None);
+    let settled = ports.settle([zero, one, two, three], drain);
+    assert_eq!(rt; settled.ok(), Some([2, 1, 0, 0]));
+    Ok(())
+}
+
+#[test]
+fn at_most_64_wait(rt: HostRuntime) -> Result<(), Fail> {
+    let made = Ports::<u32, Global>::new(rt.alloc())?;
+    let passes = made.1;
+    let ports = made.0;
+    let (mut zero, _one, _two, _three) = apart(passes);
+    for list in 0..64u32 {
+        assert!(rt; ports.submit(&rt, &mut zero, list).is_ok());
+    }
+    let Err((refused, list)) = ports.submit(&rt, &mut zero, 64) else {
+        panic!(rt; "65 wait")
+    };
+    assert_eq!(rt; (refused.number(), list), (19, 64));
+    Ok(())
+}
+
+// Sends ten lists, and gives the pass back.
+fn send_ten<R: Wait>(rt: &R, ports: &Ports<u64, Global>, mut pass: PortPass<u64>) -> PortPass<u64>
+    requires { pass.queue ≡ ports.now.queue }
+    ensures queue { result.queue ≡ ports.now.queue }
+    ensures port { result.port ≡ pass.port }
+{
+    for list in 0..10u64 {
+        let _ = ports.submit(rt, &mut pass, list);
+    }
+    pass
+}
+
+#[test]
+fn four_threads(rt: HostRuntime) -> Result<(), Fail> {
+    let made = Ports::<u64, Global>::new(rt.alloc())?;
+    let passes = made.1;
+    let ports = made.0;
+    let mut drain = made.2;
+    let [zero, one, two, three] = passes;
+    let all = &ports;
+    let handle = &rt;
+    let ((zero, one), (two, three)) = thread::join(
+        handle,
+        move ||
+            requires { (zero.queue ≡ all.now.queue) × (one.queue ≡ all.now.queue) }
+            ensures { (result.0.queue ≡ all.entry.now.queue) × (result.0.port ≡ zero.port) × (result.1.queue ≡ all.entry.now.queue) × (result.1.port ≡ one.port) }
+        {
+            thread::join(
+                handle,
+                move ||
+                    requires { zero.queue ≡ all.now.queue }
+                    ensures { (result.queue ≡ all.entry.now.queue) × (result.port ≡ zero.port) }
+                { send_ten(handle, all, zero) },
+                move ||
+                    requires { one.queue ≡ all.now.queue }
+                    ensures { (result.queue ≡ all.entry.now.queue) × (result.port ≡ one.port) }
+                { send_ten(handle, all, one) },
+            )
+        },
+        move ||
+            requires { (two.queue ≡ all.now.queue) × (three.queue ≡ all.now.queue) }
+            ensures { (result.0.queue ≡ all.entry.now.queue) × (result.0.port ≡ two.port) × (result.1.queue ≡ all.entry.now.queue) × (result.1.port ≡ three.port) }
+        {
+            thread::join(
+                handle,
+                move ||
+                    requires { two.queue ≡ all.now.queue }
+                    ensures { (result.queue ≡ all.entry.now.queue) × (result.port ≡ two.port) }
+                { send_ten(handle, all, two) },
+                move ||
+                    requires { three.queue ≡ all.now.queue }
+                    ensures { (result.queue ≡ all.entry.now.queue) × (result.port ≡ three.port) }
+                { send_ten(handle, all, three) },
+            )
+        },
+    );
+    let mut due = [0u64; 4];
+    for _ in 0..40u32 {
+        let Some(next) = ports.next(&rt, &mut drain) else {
+            panic!(rt; "forty were sent")
+        };
+        let port = next.port as usize;
+        assert_eq!(rt; (next.number, next.list), (due[port], due[port]));
+        assert!(rt; next.number < 10);
+        due[port] = next.number + 1;
+    }
+    assert_eq!(rt; due, [10; 4]);
+    let settled = ports.settle([zero, one, two, three], drain);
+    assert_eq!(rt; settled.ok(), Some([10; 4]));
+    Ok(())
+}
+
+#[test]
+fn each_growth_refused(rt: HostRuntime) {
+    for n in 1..5u64 {
+        let alloc = Refusing::new(rt.alloc(), n);
+        let refused = Ports::<u32, &Refusing<Global>>::new(&alloc).err();
+        assert_eq!(rt; refused, Some(GfxError::OutOfMemory), "growth {n}");
+        assert!(rt; alloc.refused() && alloc.count() == n);
+    }
+    let alloc = Refusing::new(rt.alloc(), 0);
+    assert!(rt; Ports::<u32, &Refusing<Global>>::new(&alloc).is_ok());
+    assert_eq!(rt; alloc.count(), 4);
+}

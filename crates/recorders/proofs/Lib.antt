@@ -1,0 +1,9 @@
+pub mod Recordings
+pub mod Made
+pub mod OneContext
+pub mod PairLemmas
+pub mod Growing
+pub mod Fours
+pub mod DeskLemmas
+pub mod ReceivedLemmas
+pub mod EndingLemmas

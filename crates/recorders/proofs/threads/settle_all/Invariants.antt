@@ -1,0 +1,12 @@
+use Rattle.std.proofs.Common.{◌≡◌, ◌++◌, ◌∷◌, [], List}
+use Rattle.gfxspec.specs.Commands.{Command}
+use Rattle.port.specs.declared.submission.Submission.{Submission}
+use Rattle.recorders.proofs.threads.settle_all.Given as goal
+
+abbrev pub invariant-loop : goal.invariant-loop
+invariant-loop g l = record {
+  ports : l.ports.queue ≡ l.fn.ports.queue;
+  passes : l.passes ≡ l.fn.handed.zero.pass ∷ l.fn.handed.one.pass ∷ l.fn.handed.two.pass ∷ l.fn.handed.three.pass ∷ [];
+  drain : l.drain.queue ≡ l.fn.ports.queue;
+  more : (rest : List (Submission (List Command))) × (l.drain.taken ≡ l.fn.drain.taken ++ rest);
+}

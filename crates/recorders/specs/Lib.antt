@@ -1,0 +1,11 @@
+pub mod Lists
+pub mod Recording
+pub mod Calls
+pub mod Apart
+pub mod Keeping
+pub mod Pairs
+pub mod Fours
+pub mod Desks
+pub mod Asking
+pub mod Receiving
+pub mod Ending

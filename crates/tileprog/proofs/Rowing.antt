@@ -1,0 +1,59 @@
+-- A span of a column, and one row more of it.
+use Rattle.std.proofs.Common.{◌≡◌, ◌∙◌, ap, sym, subst, refl, arith, ℕ, ◌+◌, ◌*◌, ◌<◌, ◌≤◌, true, ◌&&◌, nat_lt, List}
+use Rattle.std.specs.Prelude.{nat_le, slice_index}
+use Rattle.gfxspec.specs.declared.pixel.Pixel.{Pixel}
+use Rattle.gfxspec.specs.Raster.{Triangle, centre}
+use Rattle.edges.specs.Walk.{EdgePlace}
+use Rattle.gfxspec.specs.Tiles.{IsIn}
+use Rattle.lanes.specs.Stencil.{has}
+use Rattle.tileblock.specs.Block.{Block, pixel_at}
+use Rattle.tileblock.specs.SpanStored.{SpanStored, lane_pixel}
+use Rattle.tileprog.specs.Columns.{RowDrew}
+use Rattle.tileprog.specs.Counting.{eight, one_if, stroke_count}
+use Rattle.tileprog.specs.Edges.{passes_edges}
+use Rattle.tileprog.specs.SpanDrawn.{drawn_lane, ArePassed}
+use Rattle.tileprog.specs.Strokes.{Stroke, IsNamed, IsWithin, reached, depth_there}
+use Rattle.tileprog.proofs.Ones.{eight_same, eight_none}
+use Rattle.tileprog.proofs.Reaching.{lane_drawn, lane_missed, lane_missed_count, lane_counted}
+use Rattle.tileprog.proofs.Spanning.{unchanged}
+use Rattle.tileprog.proofs.Stroking.{one_span, rows_from}
+
+-- the lanes that are left, in the words of the stroke
+pub lanes_at : (e : EdgePlace) (t : Triangle) (x y mask left right cover : ℕ) → e ≡ record { triangle = t; x = x; y = y }
+    → ((j : ℕ) → j < 8 → has cover j ≡ ((nat_le left (x + j) && nat_lt (x + j) right) && passes_edges mask e.triangle (centre (x + j) e.y)))
+    → (j : ℕ) → j < 8 → has cover j ≡ ((nat_le left (x + j) && nat_lt (x + j) right) && passes_edges mask t (centre (x + j) y))
+lanes_at e t x y mask left right cover is h =
+    let P : EdgePlace → Type 0 = λ e. (j : ℕ) → j < 8 → has cover j ≡ ((nat_le left (x + j) && nat_lt (x + j) right) && passes_edges mask e.triangle (centre (x + j) e.y)) in
+    subst P is h
+
+module _ (s : Stroke) (old : Block) (span row x y cover : ℕ) (x_is : old.rect.left + 8 * span ≡ x) (y_is : old.rect.top + row ≡ y) (sound : IsNamed s.plane s.mask old.rect) (within : IsWithin s.clip old.rect)
+    (lanes : (j : ℕ) → j < 8 → has cover j ≡ ((nat_le s.clip.left (x + j) && nat_lt (x + j) s.clip.right) && passes_edges s.mask s.plane.triangle (centre (x + j) y)))
+    (top : s.clip.top ≤ y) (bottom : y < s.clip.bottom) where
+  abbrev same : ℕ → Pixel → Pixel
+  same j p = p
+
+  at_least : y ≤ y
+  at_least = omega arith
+
+  -- a span of which nothing is left
+  pub row_missed : cover ≡ 0 → RowDrew s old old x y 0
+  row_missed none =
+      record {
+        drew = one_span s old old old span row x y y same x_is y_is at_least (rows_from s old x y y refl) (unchanged old span row same (λ j h. refl))
+            (λ j h is p. lane_missed s old.rect x y cover sound lanes top bottom none j h p);
+        count = sym (eight_none (λ j. stroke_count s old (x + j) y) (λ j h. ap one_if (lane_missed_count s old.rect x y cover sound lanes top bottom none j h (pixel_at old (x + j) y))));
+        few = omega arith;
+      }
+
+  -- a span that is drawn, with the depths that its lanes bring
+  pub row_drawn : (new : Block) (moved : List ℕ) (bits n : ℕ)
+      → ((j : ℕ) → j < 8 → IsIn old.rect (x + j) y → reached s (x + j) y ≡ true → slice_index moved j ≡ depth_there s (x + j) y)
+      → SpanStored old new span row (drawn_lane s.brush cover moved) → ArePassed s.brush old span row cover moved bits → n ≡ eight (λ j. one_if (has bits j)) → n ≤ 8 → RowDrew s old new x y n
+  row_drawn new moved bits n depth_is stored passed is few =
+      record {
+        drew = one_span s old old new span row x y y (drawn_lane s.brush cover moved) x_is y_is at_least (rows_from s old x y y refl) stored
+            (lane_drawn s old.rect x y cover sound lanes top bottom moved depth_is);
+        count = is ∙ eight_same _ _ (λ j h. ap one_if (lane_counted s old.rect x y cover sound lanes top bottom moved depth_is within (lane_pixel old span row) (λ j. pixel_at old (x + j) y)
+            (λ j h. λ i. pixel_at old (x_is i + j) (y_is i)) bits passed.each j h));
+        few = few;
+      }

@@ -1,0 +1,38 @@
+-- Columns of spans of a tile, under a clip rectangle.
+use Rattle.std.specs.Prelude.{ℕ, ◌≡◌, ◌+◌, ◌-◌, ◌*◌, ◌<◌, ◌≤◌}
+use Rattle.gfxspec.specs.declared.geometry.PixelRect.{PixelRect}
+use Rattle.gfxspec.specs.Raster.{Triangle}
+use Rattle.gfxspec.specs.Tiles.{IsInTile}
+use Rattle.edges.specs.Walk.{StepRight}
+use Rattle.tileblock.specs.Block.{Block}
+use Rattle.tileprog.specs.declared.column.Column.{Column}
+use Rattle.tileprog.specs.Counting.{eight, column_sum, stroke_count}
+use Rattle.tileprog.specs.Strokes.{Stroke, Drew, IsWithin}
+use Rattle.tileprog.specs.Within.{in_box}
+
+-- a column of a rectangle in a tile, with what one pixel to the right adds to the edges of t
+pub record IsColumn (c : Column) (t : Triangle) (r : PixelRect) : Type 0 where
+  pub span : c.span < 4
+  pub x : c.x ≡ r.left + 8 * c.span
+  pub within : IsWithin c.clip r
+  pub tile : IsInTile r
+  pub wide : r.left + 32 ≤ 4096
+  pub high : r.top + 32 ≤ 4096
+  pub steps : StepRight t c.steps
+
+-- a row of the clip rectangle, counted within the tile
+pub record IsRow (c : Column) (r : PixelRect) (row : ℕ) : Type 0 where
+  pub top : c.clip.top ≤ r.top + row
+  pub bottom : r.top + row < c.clip.bottom
+
+-- the eight pixels from (x, y) on have had the stroke, and n of them passed
+pub record RowDrew (s : Stroke) (old new : Block) (x y n : ℕ) : Type 0 where
+  pub drew : Drew s old new (in_box x (x + 8) y (y + 1))
+  pub count : n ≡ eight (λ j. stroke_count s old (x + j) y)
+  pub few : n ≤ 8
+
+-- the clip's pixels in the eight columns from x on have
+pub record ColumnDrew (s : Stroke) (old new : Block) (x n : ℕ) : Type 0 where
+  pub drew : Drew s old new (in_box x (x + 8) s.clip.top s.clip.bottom)
+  pub count : n ≡ column_sum x s.clip.top (s.clip.bottom - s.clip.top) (stroke_count s old)
+  pub few : n ≤ 256

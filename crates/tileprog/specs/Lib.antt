@@ -1,0 +1,13 @@
+pub mod Edges
+pub mod Kinds
+pub mod Painting
+pub mod Brushes
+pub mod SpanDrawn
+pub mod Strokes
+pub mod Within
+pub mod Counting
+pub mod Sums
+pub mod Columns
+pub mod Passing
+pub mod Runs
+pub mod Programs

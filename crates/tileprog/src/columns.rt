@@ -1,0 +1,179 @@
+//! A triangle over a tile, in columns of spans.
+
+ghost use Rattle.std.specs.Prelude.{◌≡◌, ◌<◌, ◌≤◌, ◌+◌, ◌*◌};
+ghost use Rattle.tileprog.specs.Strokes.{IsNamed};
+ghost use Rattle.tileprog.specs.Kinds.{tests_of};
+ghost use Rattle.tileprog.specs.declared.kind.Tests.TheVariants.{Open, Depth, Stencil};
+ghost use Rattle.tileprog.specs.Columns.{IsColumn, ColumnDrew};
+
+use crate::brush::Brush;
+use crate::column::Column;
+use crate::kind::Tests;
+use crate::rows::{depth_row, open_row, stencil_row};
+use depthplane::{Plane, Walks};
+use edges::EdgeWalk;
+use gfxspec::Compare;
+use lanes::StencilTest;
+use std::alloc::Allocator;
+use tileblock::TileBlock;
+
+/// A column under a brush without tests; the answer is how many pixels pass.
+#[inline(never)]
+fn open_column<A: Allocator>(
+    block: &mut TileBlock<A>,
+    column: &Column,
+    mut edges: EdgeWalk<'_>,
+    plane: &Plane,
+    brush: Brush,
+) -> u32
+    requires column { IsColumn column.now plane.now.triangle block.old.rect }
+    requires edges { edges ≡ record { triangle = plane.now.triangle; x = column.now.x; y = column.now.clip.top } }
+    requires named { IsNamed plane.now column.now.mask block.old.rect }
+    requires kind { tests_of brush.state ≡ Open }
+    ensures { ColumnDrew (record { brush = brush; plane = plane.now; mask = column.now.mask; clip = column.now.clip }) block.old block.new column.now.x result }
+{
+    let column = *column;
+    let rect = block.rect();
+    let mut passed = 0u32;
+    for row in column.clip.top - rect.top..column.clip.bottom - rect.top {
+        let more = open_row(block, &column, row, &edges, plane, &brush);
+        passed += more;
+        edges.down();
+    }
+    passed
+}
+
+/// A column under a brush that tests depth alone; the answer is how many pixels pass.
+#[inline(always)]
+fn depth_rows<A: Allocator, W: Walks>(
+    block: &mut TileBlock<A>,
+    column: &Column,
+    mut edges: EdgeWalk<'_>,
+    mut walk: W,
+    func: Compare,
+    write: bool,
+    brush: Brush,
+) -> u32
+    requires column { IsColumn column.now (W.place walk).plane.triangle block.old.rect }
+    requires edges { edges ≡ record { triangle = (W.place walk).plane.triangle; x = column.now.x; y = column.now.clip.top } }
+    requires walk { W.place walk ≡ record (W.place walk) { x = column.now.x; y = column.now.clip.top } }
+    requires left { block.old.rect.left ≤ (W.place walk).left }
+    requires top { block.old.rect.top ≤ (W.place walk).top }
+    requires named { IsNamed (W.place walk).plane column.now.mask block.old.rect }
+    requires kind { tests_of brush.state ≡ Depth func write }
+    ensures { ColumnDrew (record { brush = brush; plane = (W.place walk).plane; mask = column.now.mask; clip = column.now.clip }) block.old block.new column.now.x result }
+{
+    let column = *column;
+    let rect = block.rect();
+    let mut passed = 0u32;
+    for row in column.clip.top - rect.top..column.clip.bottom - rect.top {
+        let more = depth_row(block, &column, row, &edges, &walk, func, write, &brush);
+        passed += more;
+        edges.down();
+        walk.next();
+    }
+    passed
+}
+
+/// The same, with the comparison known to each of the loops.
+#[inline(never)]
+fn depth_column<A: Allocator, W: Walks>(
+    block: &mut TileBlock<A>,
+    column: &Column,
+    edges: EdgeWalk<'_>,
+    walk: W,
+    func: Compare,
+    write: bool,
+    brush: Brush,
+) -> u32
+    requires column { IsColumn column.now (W.place walk).plane.triangle block.old.rect }
+    requires edges { edges ≡ record { triangle = (W.place walk).plane.triangle; x = column.now.x; y = column.now.clip.top } }
+    requires walk { W.place walk ≡ record (W.place walk) { x = column.now.x; y = column.now.clip.top } }
+    requires left { block.old.rect.left ≤ (W.place walk).left }
+    requires top { block.old.rect.top ≤ (W.place walk).top }
+    requires named { IsNamed (W.place walk).plane column.now.mask block.old.rect }
+    requires kind { tests_of brush.state ≡ Depth func write }
+    ensures { ColumnDrew (record { brush = brush; plane = (W.place walk).plane; mask = column.now.mask; clip = column.now.clip }) block.old block.new column.now.x result }
+{
+    match func {
+        Compare::Never => depth_rows(block, column, edges, walk, Compare::Never, write, brush),
+        Compare::Less => depth_rows(block, column, edges, walk, Compare::Less, write, brush),
+        Compare::Equal => depth_rows(block, column, edges, walk, Compare::Equal, write, brush),
+        Compare::LessEqual => {
+            depth_rows(block, column, edges, walk, Compare::LessEqual, write, brush)
+        }
+        Compare::Greater => depth_rows(block, column, edges, walk, Compare::Greater, write, brush),
+        Compare::NotEqual => {
+            depth_rows(block, column, edges, walk, Compare::NotEqual, write, brush)
+        }
+        Compare::GreaterEqual => {
+            depth_rows(
+                block,
+                column,
+                edges,
+                walk,
+                Compare::GreaterEqual,
+                write,
+                brush,
+            )
+        }
+        Compare::Always => depth_rows(block, column, edges, walk, Compare::Always, write, brush),
+    }
+}
+
+/// A column under a brush with a stencil test; the answer is how many pixels pass.
+#[inline(never)]
+fn stencil_column<A: Allocator, W: Walks>(
+    block: &mut TileBlock<A>,
+    column: &Column,
+    mut edges: EdgeWalk<'_>,
+    mut walk: W,
+    brush: Brush,
+) -> u32
+    requires column { IsColumn column.now (W.place walk).plane.triangle block.old.rect }
+    requires edges { edges ≡ record { triangle = (W.place walk).plane.triangle; x = column.now.x; y = column.now.clip.top } }
+    requires walk { W.place walk ≡ record (W.place walk) { x = column.now.x; y = column.now.clip.top } }
+    requires left { block.old.rect.left ≤ (W.place walk).left }
+    requires top { block.old.rect.top ≤ (W.place walk).top }
+    requires named { IsNamed (W.place walk).plane column.now.mask block.old.rect }
+    requires kind { tests_of brush.state ≡ Stencil }
+    ensures { ColumnDrew (record { brush = brush; plane = (W.place walk).plane; mask = column.now.mask; clip = column.now.clip }) block.old block.new column.now.x result }
+{
+    let column = *column;
+    let rect = block.rect();
+    let test = StencilTest::of(&brush.state, brush.front, brush.reference);
+    let mut passed = 0u32;
+    for row in column.clip.top - rect.top..column.clip.bottom - rect.top {
+        let more = stencil_row(block, &column, row, &edges, &walk, &test, &brush);
+        passed += more;
+        edges.down();
+        walk.next();
+    }
+    passed
+}
+
+/// One column of spans, in the rows of the clip rectangle.
+pub(crate) fn draw_column<A: Allocator, W: Walks>(
+    block: &mut TileBlock<A>,
+    column: &Column,
+    edges: EdgeWalk<'_>,
+    plane: &Plane,
+    walk: W,
+    brush: &Brush,
+) -> u32
+    requires column { IsColumn column.now plane.now.triangle block.old.rect }
+    requires edges { edges ≡ record { triangle = plane.now.triangle; x = column.now.x; y = column.now.clip.top } }
+    requires walk { W.place walk ≡ record (W.place walk) { plane = plane.now; x = column.now.x; y = column.now.clip.top } }
+    requires left { block.old.rect.left ≤ (W.place walk).left }
+    requires top { block.old.rect.top ≤ (W.place walk).top }
+    requires named { IsNamed plane.now column.now.mask block.old.rect }
+    ensures { ColumnDrew (record { brush = brush.now; plane = plane.now; mask = column.now.mask; clip = column.now.clip }) block.old block.new column.now.x result }
+{
+    match brush.tests {
+        Tests::Open => open_column(block, column, edges, plane, *brush),
+        Tests::Depth(func, write) => {
+            depth_column(block, column, edges, walk, func, write, *brush)
+        }
+        Tests::Stencil => stencil_column(block, column, edges, walk, *brush),
+    }
+}

@@ -1,0 +1,99 @@
+//! A triangle over a tile.
+
+ghost use Rattle.std.specs.Prelude.{◌≡◌, ◌<◌, ◌≤◌, ◌+◌, ◌*◌};
+ghost use Rattle.gfxspec.specs.Tiles.{IsInTile};
+ghost use Rattle.edges.specs.Walk.{StepRight};
+ghost use Rattle.meaning.specs.Over.{sum_over};
+ghost use Rattle.tileprog.specs.Counting.{stroke_count};
+ghost use Rattle.tileprog.specs.Strokes.{IsWithin, IsNamed, Stroked};
+
+use crate::brush::Brush;
+use crate::column::column_of;
+use crate::columns::draw_column;
+use binner::TriSetup;
+use depthplane::{Plane, Walks};
+use edges::EdgeWalk;
+use gfxspec::PixelRect;
+use std::alloc::Allocator;
+use tileblock::TileBlock;
+
+/// A triangle over the pixels of a clip rectangle in a tile, from span `first` on and before span `past`, where its
+/// walks begin; the answer is how many pass.
+fn draw_spans<A: Allocator, W: Walks>(
+    block: &mut TileBlock<A>,
+    plane: &Plane,
+    mut edges: EdgeWalk<'_>,
+    mut walk: W,
+    steps: [i64; 3],
+    mask: u8,
+    brush: &Brush,
+    clip: PixelRect,
+    first: u32,
+    past: u32,
+) -> u32
+    requires within { IsWithin clip block.old.rect }
+    requires tile { IsInTile block.old.rect }
+    requires wide { block.old.rect.left + 32 ≤ 4096 }
+    requires high { block.old.rect.top + 32 ≤ 4096 }
+    requires named { IsNamed plane.now mask block.old.rect }
+    requires steps { StepRight plane.now.triangle steps }
+    requires begun { block.old.rect.left + 8 * first ≤ clip.left }
+    requires begins { clip.left < block.old.rect.left + 8 * first + 8 }
+    requires ends { block.old.rect.left + 8 * past < clip.right + 8 }
+    requires ended { clip.right ≤ block.old.rect.left + 8 * past }
+    requires few { past ≤ 4 }
+    requires edges { edges ≡ record { triangle = plane.now.triangle; x = block.old.rect.left + 8 * first; y = clip.top } }
+    requires walk { W.place walk ≡ record { plane = plane.now; left = block.old.rect.left + 8 * first; top = clip.top; x = block.old.rect.left + 8 * first; y = clip.top } }
+    ensures drew { Stroked (record { brush = brush.now; plane = plane.now; mask = mask; clip = clip }) block.old block.new }
+    ensures count { result ≡ sum_over block.old.rect (stroke_count (record { brush = brush.now; plane = plane.now; mask = mask; clip = clip }) block.old) }
+    ensures few { result ≤ 1024 }
+{
+    let rect = block.rect();
+    let mut passed = 0u32;
+    for span in first..past {
+        let column = column_of(rect.left + 8 * span, span, clip, mask, steps);
+        let more = draw_column(block, &column, edges.copied(), plane, walk.copied(), brush);
+        passed += more;
+        edges.eight_right();
+        walk.eight_right();
+    }
+    passed
+}
+
+/// A triangle over the pixels of a clip rectangle in a tile; the answer is how many pass.
+pub(crate) fn draw<A: Allocator>(
+    block: &mut TileBlock<A>,
+    triangle: &TriSetup,
+    mask: u8,
+    brush: &Brush,
+    clip: PixelRect,
+) -> u32
+    requires within { IsWithin clip block.old.rect }
+    requires tile { IsInTile block.old.rect }
+    requires wide { block.old.rect.left + 32 ≤ 4096 }
+    requires high { block.old.rect.top + 32 ≤ 4096 }
+    requires named { IsNamed triangle.now.plane mask block.old.rect }
+    ensures drew { Stroked (record { brush = brush.now; plane = triangle.now.plane; mask = mask; clip = clip }) block.old block.new }
+    ensures count { result ≡ sum_over block.old.rect (stroke_count (record { brush = brush.now; plane = triangle.now.plane; mask = mask; clip = clip }) block.old) }
+    ensures few { result ≤ 1024 }
+{
+    let rect = block.rect();
+    let first = (clip.left - rect.left) / 8;
+    let past = (clip.right - rect.left + 7) / 8;
+    let left = rect.left + 8 * first;
+    let steps = triangle.edges.steps();
+    let edges = triangle.edges.walk(left, clip.top);
+    let walk = triangle.plane.walk_eight(left, clip.top);
+    draw_spans(
+        block,
+        &triangle.plane,
+        edges,
+        walk,
+        steps,
+        mask,
+        brush,
+        clip,
+        first,
+        past,
+    )
+}

@@ -1,0 +1,121 @@
+//! The spans of a column, one by one.
+
+ghost use Rattle.std.specs.Prelude.{◌≡◌, ◌<◌, ◌≤◌, ◌+◌, ◌&&◌, nat_le, nat_lt, ℕ, if◌then◌else◌};
+ghost use Rattle.gfxspec.specs.Raster.{centre};
+ghost use Rattle.edges.specs.Walk.{StepRight};
+ghost use Rattle.lanes.specs.Stencil.{has};
+ghost use Rattle.tileprog.specs.declared.kind.Tests.TheVariants.{Open, Depth, Stencil};
+ghost use Rattle.tileprog.specs.Columns.{IsColumn, IsRow, RowDrew};
+ghost use Rattle.tileprog.specs.Edges.{passes_edges};
+ghost use Rattle.tileprog.specs.Kinds.{tests_of};
+ghost use Rattle.tileprog.specs.Strokes.{IsNamed};
+
+use crate::brush::Brush;
+use crate::column::Column;
+use crate::spans::{blend_depths, blend_open, blend_stencils, cover, lanes_in, moved8};
+use depthplane::{Plane, Walks};
+use edges::EdgeWalk;
+use gfxspec::Compare;
+use lanes::StencilTest;
+use std::alloc::Allocator;
+use tileblock::TileBlock;
+
+/// The pixels of a span that the clip's columns and the named edges leave.
+#[inline]
+fn lanes_left(column: &Column, edges: &EdgeWalk<'_>) -> u8
+    requires place { column.now.x ≡ edges.now.x }
+    requires x { edges.now.x < 4096 }
+    requires y { edges.now.y < 4096 }
+    requires steps { StepRight edges.now.triangle column.now.steps }
+    ensures { (j : ℕ) → j < 8 → has result j ≡ ((nat_le column.now.clip.left (column.now.x + j) && nat_lt (column.now.x + j) column.now.clip.right)
+        && passes_edges column.now.mask edges.now.triangle (centre (column.now.x + j) edges.now.y)) }
+{
+    column.within & cover(edges, column.steps, column.mask)
+}
+
+/// A span under a brush without tests; the answer is how many pixels pass.
+#[inline]
+pub(crate) fn open_row<A: Allocator>(
+    block: &mut TileBlock<A>,
+    column: &Column,
+    row: u32,
+    edges: &EdgeWalk<'_>,
+    plane: &Plane,
+    brush: &Brush,
+) -> u32
+    requires column { IsColumn column.now plane.now.triangle block.old.rect }
+    requires row { IsRow column.now block.old.rect row }
+    requires edges { edges.now ≡ record { triangle = plane.now.triangle; x = column.now.x; y = block.old.rect.top + row } }
+    requires named { IsNamed plane.now column.now.mask block.old.rect }
+    requires kind { tests_of brush.now.state ≡ Open }
+    ensures { RowDrew (record { brush = brush.now; plane = plane.now; mask = column.now.mask; clip = column.now.clip }) block.old block.new column.now.x (block.old.rect.top + row) result }
+{
+    let cover = lanes_left(column, edges);
+    if cover == 0 {
+        return 0;
+    }
+    blend_open(block, column.span, row, cover, brush);
+    lanes_in(cover)
+}
+
+/// A span under a brush that tests depth alone; the answer is how many pixels pass.
+#[inline]
+pub(crate) fn depth_row<A: Allocator, W: Walks>(
+    block: &mut TileBlock<A>,
+    column: &Column,
+    row: u32,
+    edges: &EdgeWalk<'_>,
+    walk: &W,
+    func: Compare,
+    write: bool,
+    brush: &Brush,
+) -> u32
+    requires column { IsColumn column.now (W.place walk.now).plane.triangle block.old.rect }
+    requires row { IsRow column.now block.old.rect row }
+    requires edges { edges.now ≡ record { triangle = (W.place walk.now).plane.triangle; x = column.now.x; y = block.old.rect.top + row } }
+    requires walk { W.place walk.now ≡ record (W.place walk.now) { x = column.now.x; y = block.old.rect.top + row } }
+    requires left { block.old.rect.left ≤ (W.place walk.now).left }
+    requires top { block.old.rect.top ≤ (W.place walk.now).top }
+    requires named { IsNamed (W.place walk.now).plane column.now.mask block.old.rect }
+    requires kind { tests_of brush.now.state ≡ Depth func write }
+    ensures { RowDrew (record { brush = brush.now; plane = (W.place walk.now).plane; mask = column.now.mask; clip = column.now.clip }) block.old block.new column.now.x (block.old.rect.top + row) result }
+{
+    let cover = lanes_left(column, edges);
+    if cover == 0 {
+        return 0;
+    }
+    let depths = moved8(walk.depths(), brush.bias);
+    let bits = blend_depths(block, column.span, row, cover, &depths, func, write, brush);
+    lanes_in(bits)
+}
+
+/// A span under a brush with a stencil test; the answer is how many pixels pass.
+#[inline]
+pub(crate) fn stencil_row<A: Allocator, W: Walks>(
+    block: &mut TileBlock<A>,
+    column: &Column,
+    row: u32,
+    edges: &EdgeWalk<'_>,
+    walk: &W,
+    test: &StencilTest,
+    brush: &Brush,
+) -> u32
+    requires column { IsColumn column.now (W.place walk.now).plane.triangle block.old.rect }
+    requires row { IsRow column.now block.old.rect row }
+    requires edges { edges.now ≡ record { triangle = (W.place walk.now).plane.triangle; x = column.now.x; y = block.old.rect.top + row } }
+    requires walk { W.place walk.now ≡ record (W.place walk.now) { x = column.now.x; y = block.old.rect.top + row } }
+    requires left { block.old.rect.left ≤ (W.place walk.now).left }
+    requires top { block.old.rect.top ≤ (W.place walk.now).top }
+    requires named { IsNamed (W.place walk.now).plane column.now.mask block.old.rect }
+    requires kind { tests_of brush.now.state ≡ Stencil }
+    requires test { test.now ≡ record { setting = brush.now.state; face = if brush.now.front then brush.now.state.front else brush.now.state.back; reference = brush.now.reference } }
+    ensures { RowDrew (record { brush = brush.now; plane = (W.place walk.now).plane; mask = column.now.mask; clip = column.now.clip }) block.old block.new column.now.x (block.old.rect.top + row) result }
+{
+    let cover = lanes_left(column, edges);
+    if cover == 0 {
+        return 0;
+    }
+    let depths = moved8(walk.depths(), brush.bias);
+    let bits = blend_stencils(block, column.span, row, cover, &depths, test, brush);
+    lanes_in(bits)
+}

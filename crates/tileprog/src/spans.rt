@@ -1,0 +1,265 @@
+//! One span of eight pixels.
+
+ghost use Rattle.std.specs.Prelude.{◌≡◌, ◌<◌, ◌≤◌, ◌+◌, ◌==◌, ◌&&◌, ◌||◌, not, ℕ, List, slice_index, if◌then◌else◌};
+ghost use Rattle.std.specs.Int.{bit_at};
+ghost use Rattle.gfxspec.specs.Raster.{centre};
+ghost use Rattle.gfxspec.specs.Depth.{biased};
+ghost use Rattle.gfxspec.specs.DepthStencil.{compares};
+ghost use Rattle.edges.specs.Walk.{StepRight};
+ghost use Rattle.lanes.specs.Stencil.{has};
+ghost use Rattle.tileblock.specs.SpanStored.{SpanStored, lane_pixel};
+ghost use Rattle.tileprog.specs.Edges.{passes_edges};
+ghost use Rattle.tileprog.specs.Kinds.{tests_of};
+ghost use Rattle.tileprog.specs.declared.kind.Tests.TheVariants.{Open, Depth, Stencil};
+ghost use Rattle.tileprog.specs.Counting.{eight, one_if};
+ghost use Rattle.tileprog.specs.SpanDrawn.{painted_lane, tested_lane, drawn_lane, deepened_lane, stenciled_lane, ArePassed};
+
+use crate::brush::Brush;
+use edges::EdgeWalk;
+use gfxspec::{Compare, DEPTH_MAX};
+use lanes::{StencilTest, cover_mask, depth_mask, write8};
+use std::alloc::Allocator;
+use tileblock::TileBlock;
+
+/// The pixels of a span, which begins at the walk's pixel, where the edges of the mask hold.
+#[inline]
+pub(crate) fn cover(walk: &EdgeWalk<'_>, steps: [i64; 3], mask: u8) -> u8
+    requires x { walk.now.x < 4096 }
+    requires y { walk.now.y < 4096 }
+    requires steps { StepRight walk.now.triangle steps }
+    ensures { (j : ℕ) → j < 8 → has result j ≡ passes_edges mask walk.now.triangle (centre (walk.now.x + j) walk.now.y) }
+{
+    cover_mask(walk.values(), steps, mask, 8)
+}
+
+/// A depth moved by a bias, within the range of depths.
+#[inline]
+fn moved(depth: u32, bias: i32) -> u32
+    ensures { result ≡ biased bias depth }
+{
+    (i64::from(depth) + i64::from(bias)).clamp(0, i64::from(DEPTH_MAX)) as u32
+}
+
+/// Depths moved by a bias, each within the range of depths.
+#[inline]
+pub(crate) fn moved8(depths: [u32; 8], bias: i32) -> [u32; 8]
+    ensures { (j : ℕ) → j < 8 → slice_index depths j ≤ 16777215 → slice_index result j ≡ biased bias (slice_index depths j) }
+{
+    if bias == 0 {
+        return depths;
+    }
+    let mut all = [0; 8];
+    for j in 0..8usize {
+        all[j] = moved(depths[j], bias);
+    }
+    all
+}
+
+/// Writes the colours of the span's pixels whose bits are set.
+#[inline]
+fn paint_span<A: Allocator>(block: &mut TileBlock<A>, span: u32, row: u32, bits: u8, brush: &Brush)
+    requires span { span < 4 }
+    requires row { row < 32 }
+    ensures { SpanStored block.old block.new span row (painted_lane brush.now bits) }
+{
+    let write = brush.write;
+    let old = block.color_span(span, row);
+    if bits == 0 {
+        return;
+    }
+    if write.keep == u32::MAX && write.flip == 0 {
+        return;
+    }
+    if bits == 255 && write.keep == 0 {
+        block.set_color_span(span, row, [write.flip; 8]);
+        return;
+    }
+    let new = write8(write, &old);
+    if bits == 255 {
+        block.set_color_span(span, row, new);
+    } else {
+        block.set_color_lanes(span, row, bits, new);
+    }
+}
+
+/// Stores depths where bits are set.
+#[inline]
+fn put_depths<A: Allocator>(block: &mut TileBlock<A>, span: u32, row: u32, bits: u8, new: &[u32; 8])
+    requires span { span < 4 }
+    requires row { row < 32 }
+    ensures { SpanStored block.old block.new span row (deepened_lane bits new.now) }
+{
+    if bits == 255 {
+        block.set_depth_span(span, row, *new);
+    } else if bits != 0 {
+        block.set_depth_lanes(span, row, bits, *new);
+    }
+}
+
+/// Stores stencil values where bits are set.
+#[inline]
+fn put_stencils<A: Allocator>(
+    block: &mut TileBlock<A>,
+    span: u32,
+    row: u32,
+    bits: u8,
+    new: &[u8; 8],
+)
+    requires span { span < 4 }
+    requires row { row < 32 }
+    ensures { SpanStored block.old block.new span row (stenciled_lane bits new.now) }
+{
+    if bits == 255 {
+        block.set_stencil_span(span, row, *new);
+    } else {
+        block.set_stencil_lanes(span, row, bits, *new);
+    }
+}
+
+/// Tests depth at the span's covered pixels. Where it passes the depth is stored, if it is to be.
+#[inline]
+fn test_depths<A: Allocator>(
+    block: &mut TileBlock<A>,
+    span: u32,
+    row: u32,
+    cover: u8,
+    new: &[u32; 8],
+    func: Compare,
+    write: bool,
+    brush: &Brush,
+) -> u8
+    requires span { span < 4 }
+    requires row { row < 32 }
+    requires kind { tests_of brush.now.state ≡ Depth func write }
+    ensures block { SpanStored block.old block.new span row (tested_lane brush.now cover new.now) }
+    ensures bits { ArePassed brush.now block.old span row cover new.now result }
+{
+    let passed = cover & depth_mask(func, new, &block.depth_span(span, row));
+    if write {
+        put_depths(block, span, row, passed, new);
+    }
+    passed
+}
+
+/// Bit j is set where depth passes at pixel j, or isn't tested.
+#[inline]
+fn deep_mask<A: Allocator>(
+    block: &TileBlock<A>,
+    span: u32,
+    row: u32,
+    new: &[u32; 8],
+    brush: &Brush,
+) -> u8
+    requires span { span < 4 }
+    requires row { row < 32 }
+    ensures { (j : ℕ) → j < 8 → has result j
+        ≡ (not brush.now.state.depth || compares brush.now.state.func (slice_index new.now j) (lane_pixel block.now span row j).ds.depth) }
+{
+    if brush.state.depth() {
+        depth_mask(brush.state.func(), new, &block.depth_span(span, row))
+    } else {
+        255
+    }
+}
+
+/// Tests stencil and depth at the span's covered pixels, and stores what the tests leave.
+#[inline]
+fn test_stencils<A: Allocator>(
+    block: &mut TileBlock<A>,
+    span: u32,
+    row: u32,
+    cover: u8,
+    new: &[u32; 8],
+    test: &StencilTest,
+    brush: &Brush,
+) -> u8
+    requires span { span < 4 }
+    requires row { row < 32 }
+    requires kind { tests_of brush.now.state ≡ Stencil }
+    requires test { test.now ≡ record { setting = brush.now.state; face = if brush.now.front then brush.now.state.front else brush.now.state.back; reference = brush.now.reference } }
+    ensures block { SpanStored block.old block.new span row (tested_lane brush.now cover new.now) }
+    ensures bits { ArePassed brush.now block.old span row cover new.now result }
+{
+    let stored = block.stencil_span(span, row);
+    let passing = test.passes(&stored);
+    let deep = deep_mask(block, span, row, new, brush);
+    let passed = cover & (passing & deep);
+    put_stencils(block, span, row, cover, &test.after(&stored, passing, deep));
+    if brush.state.depth() && brush.state.write() {
+        put_depths(block, span, row, passed, new);
+    }
+    passed
+}
+
+/// Draws the span's covered pixels under a brush without tests.
+#[inline]
+pub(crate) fn blend_open<A: Allocator>(
+    block: &mut TileBlock<A>,
+    span: u32,
+    row: u32,
+    cover: u8,
+    brush: &Brush,
+)
+    requires span { span < 4 }
+    requires row { row < 32 }
+    requires kind { tests_of brush.now.state ≡ Open }
+    ensures block { (new : List ℕ) → SpanStored block.old block.new span row (drawn_lane brush.now cover new) }
+    ensures bits { (new : List ℕ) → ArePassed brush.now block.old span row cover new cover }
+{
+    paint_span(block, span, row, cover, brush);
+}
+
+/// Draws the span's covered pixels under a brush that tests depth alone; the answer has a bit for each that passes.
+#[inline]
+pub(crate) fn blend_depths<A: Allocator>(
+    block: &mut TileBlock<A>,
+    span: u32,
+    row: u32,
+    cover: u8,
+    new: &[u32; 8],
+    func: Compare,
+    write: bool,
+    brush: &Brush,
+) -> u8
+    requires span { span < 4 }
+    requires row { row < 32 }
+    requires kind { tests_of brush.now.state ≡ Depth func write }
+    ensures block { SpanStored block.old block.new span row (drawn_lane brush.now cover new.now) }
+    ensures bits { ArePassed brush.now block.old span row cover new.now result }
+{
+    let passed = test_depths(block, span, row, cover, new, func, write, brush);
+    paint_span(block, span, row, passed, brush);
+    passed
+}
+
+/// Draws the span's covered pixels under a brush with a stencil test; the answer has a bit for each that passes.
+#[inline]
+pub(crate) fn blend_stencils<A: Allocator>(
+    block: &mut TileBlock<A>,
+    span: u32,
+    row: u32,
+    cover: u8,
+    new: &[u32; 8],
+    test: &StencilTest,
+    brush: &Brush,
+) -> u8
+    requires span { span < 4 }
+    requires row { row < 32 }
+    requires kind { tests_of brush.now.state ≡ Stencil }
+    requires test { test.now ≡ record { setting = brush.now.state; face = if brush.now.front then brush.now.state.front else brush.now.state.back; reference = brush.now.reference } }
+    ensures block { SpanStored block.old block.new span row (drawn_lane brush.now cover new.now) }
+    ensures bits { ArePassed brush.now block.old span row cover new.now result }
+{
+    let passed = test_stencils(block, span, row, cover, new, test, brush);
+    paint_span(block, span, row, passed, brush);
+    passed
+}
+
+/// How many bits a mask of eight lanes has.
+#[inline]
+pub(crate) fn lanes_in(bits: u8) -> u32
+    ensures value { result ≡ eight (λ j. one_if (has bits j)) }
+    ensures few { result ≤ 8 }
+{
+    bits.count_ones()
+}

@@ -1,0 +1,121 @@
+//! The words of a tile, in order.
+
+ghost use Rattle.std.specs.Prelude.{◌≡◌, ◌<◌, ◌≤◌, ◌+◌, ◌^◌, ◌==◌, ℕ, None, Some, length, if◌then◌else◌};
+ghost use Rattle.std.specs.Int.{bit_at};
+ghost use Rattle.gfxspec.specs.Tiles.{IsIn, tile_count, tile_rect};
+ghost use Rattle.tileblock.specs.Block.{pixel_at};
+ghost use Rattle.meaning.specs.Over.{sum_over};
+ghost use Rattle.binner.specs.Program.{after_word, force_after};
+ghost use Rattle.binner.specs.Meaning.{WordFits};
+ghost use Rattle.tileprog.specs.Passing.{shown, word_passed, is_open, NamesState, HasGrown, AtMost, IsTile};
+ghost use Rattle.tileprog.specs.Runs.{RunsTo};
+
+use crate::triangles::run_triangle;
+use binner::{Compiled, StateEntry};
+use std::alloc::Allocator;
+use tileblock::TileBlock;
+use tileword::{Word, decode};
+
+/// What passed, if the issue is open.
+#[inline]
+fn share(issues: u64, issue: usize, passed: u32) -> u32
+    requires { issue < 64 }
+    ensures { result ≡ (if bit_at issues issue == 1 then passed else 0) }
+{
+    if issues >> issue & 1 == 1 { passed } else { 0 }
+}
+
+/// Adds a number to the count of each open issue.
+fn add_counts(counts: &mut [u32; 64], issues: u64, passed: u32)
+    requires room { AtMost counts.old (2 ^ 31) }
+    requires few { passed ≤ 1024 }
+    ensures { HasGrown counts.old counts.new (λ k. if bit_at issues k == 1 then passed else 0) }
+{
+    for k in 0..64usize {
+        counts[k] += share(issues, k, passed);
+    }
+}
+
+/// Adds what passed to the counts of the issues that are open in the entry in force.
+fn count_word(counts: &mut [u32; 64], force: Option<&StateEntry>, passed: u32)
+    requires room { AtMost counts.old (2 ^ 31) }
+    requires few { passed ≤ 1024 }
+    ensures { HasGrown counts.old counts.new (λ k. if is_open (shown force.entry) k then passed else 0) }
+{
+    if let Some(entry) = force {
+        add_counts(counts, entry.issues, passed);
+    }
+}
+
+/// The entry in force behind a word.
+#[inline]
+fn next_force<'a, A: Allocator + Copy>(
+    compiled: &'a Compiled<A>,
+    force: Option<&'a StateEntry>,
+    word: Word,
+) -> Option<&'a StateEntry>
+    requires { NamesState compiled.now.tables word }
+    ensures { shown result ≡ force_after compiled.now.tables (shown force.entry) word }
+{
+    match word {
+        Word::State(number) => Some(compiled.state(number)),
+        Word::Tri(_, _) | Word::ClearC(_) | Word::ClearDs(_) => force,
+    }
+}
+
+/// Runs one word on a block; the answer is how many pixels pass.
+#[inline]
+fn run_word<A: Allocator + Copy>(
+    compiled: &Compiled<A>,
+    force: Option<&StateEntry>,
+    word: Word,
+    block: &mut TileBlock<A>,
+) -> u32
+    requires tile { IsTile block.old.rect }
+    requires fits { WordFits compiled.now.tables block.old.rect (shown force) word }
+    ensures rect { block.new.rect ≡ block.old.rect }
+    ensures pixels { (u v : ℕ) → IsIn block.old.rect u v → pixel_at block.new u v ≡ after_word compiled.now.tables (shown force.entry) word u v (pixel_at block.old u v) }
+    ensures passed { result ≡ sum_over block.old.rect (word_passed compiled.now.tables (shown force.entry) word block.old) }
+{
+    match word {
+        Word::State(_) => 0,
+        Word::Tri(number, mask) => match force {
+            Some(entry) => run_triangle(block, compiled.tri(number), mask, entry),
+            None => unreachable!(),
+        },
+        Word::ClearC(number) => {
+            block.clear_color(compiled.color(number));
+            0
+        }
+        Word::ClearDs(number) => {
+            block.clear_depth_stencil(compiled.depth_stencil(number));
+            0
+        }
+    }
+}
+
+/// Runs the program of a tile on its block; the answer has the count of each issue.
+pub(crate) fn run_words<A: Allocator + Copy>(
+    compiled: &Compiled<A>,
+    tile: u32,
+    block: &mut TileBlock<A>,
+) -> [u32; 64]
+    requires tile { tile < tile_count compiled.now.size }
+    requires rect { block.old.rect ≡ tile_rect compiled.now.size tile }
+    ensures { RunsTo compiled.now tile block.old block.new result }
+{
+    let _size = compiled.size();
+    let mut counts = [0; 64];
+    let mut force: Option<&StateEntry> = None;
+    for number in compiled.words(tile) {
+        let Some(word) = decode(number) else {
+            unreachable!()
+        };
+        let passed = run_word(compiled, force, word, block);
+        if passed != 0 {
+            count_word(&mut counts, force, passed);
+        }
+        force = next_force(compiled, force, word);
+    }
+    counts
+}

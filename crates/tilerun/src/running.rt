@@ -1,0 +1,156 @@
+//! The tiles of a target go to a board, and come back.
+
+ghost use Rattle.std.specs.Prelude.{◌≡◌, ◌<◌, ◌≤◌, ℕ, length, true, false};
+ghost use Rattle.std.specs.List.{Contains};
+ghost use denote.Param.Send.{IsSync};
+ghost use mathlib.Core.Option.{some};
+ghost use lib.ListN.{get_elem?};
+ghost use Rattle.gfxspec.specs.declared.pixel.Pixel.{Pixel};
+ghost use Rattle.gfxspec.specs.Tiles.{tile_rect};
+ghost use Rattle.tileblock.specs.Surface.{IsWhole, pixel_of};
+ghost use Rattle.board.specs.declared.view.Hand.TheVariants.{Empty};
+ghost use Rattle.board.specs.Known.{IsSeatOf, IsReady, AreNew};
+ghost use Rattle.board.specs.Views.{handed};
+ghost use Rattle.tilerun.specs.Touched.{AreTiles, ShowsBlocks};
+ghost use Rattle.tilerun.specs.Drawn.{IsDrawn, AreCounts};
+ghost use Rattle.tilerun.specs.Moving.{AreOut, AreBack, IsOut, MayComeBack, HaveRun, Opens};
+
+use crate::block_job::BlockJob;
+use arrayvec::ArrayVec;
+use board::{Board, Finished, Seat};
+use std::alloc::Allocator;
+use std::thread::Threads;
+use tileblock::{OpenTile, Target, TileBlock};
+use workers::{Gate, drain_alone, run_all};
+
+// Takes the job's tiles out of the target, and places them.
+fn place_all<'a, A: Allocator, J: BlockJob<Block = TileBlock<A>>>(
+    board: &Board<'a, J, A>,
+    seat: &mut Seat<J>,
+    target: &mut Target<A>,
+    job: &J,
+)
+    requires shown { ShowsBlocks J.shown }
+    requires own { IsSeatOf board.now seat.old × (job.now ≡ board.now.job) }
+    requires first { (seat.old.view.weight ≡ 16) × (seat.old.view.hand ≡ Empty) × (length seat.old.view.placed ≡ 0) }
+    requires whole { IsWhole target.old × (J.target_size job.now ≡ target.old.size) }
+    ensures own { IsSeatOf board.now seat.new }
+    ensures ready { IsReady J.tile_count board.now seat.new × (seat.new.view.weight ≡ 16) }
+    ensures out { AreOut J.tile_number J.open_block (J.touched job.now) target.old target.new seat.new.view.placed }
+    ensures tiles { AreTiles (J.target_size job.now) (J.touched job.now) }
+{
+    for (place, tile) in job.touched().iter().enumerate() {
+        let OpenTile { number, block } = target.take(*tile);
+        board.place(seat, job.open(place as u32, number, block));
+    }
+}
+
+// Puts the results back where their tiles were.
+fn put_back<'a, A: Allocator, J: BlockJob<Block = TileBlock<A>>>(
+    finished: &mut Finished<'a, J, A>,
+    target: &mut Target<A>,
+    job: &J,
+)
+    requires shown { ShowsBlocks J.shown }
+    requires fresh { (finished.old.next ≡ 0) × (length finished.old.results ≡ length (J.touched job.now)) }
+    requires out { (t : ℕ) → Contains (J.touched job.now) t → IsOut target.old t }
+    requires rects { (p : ℕ) (d : J.Done) (t : ℕ) → get_elem? finished.old.results p ≡ some d
+        → get_elem? (J.touched job.now) p ≡ some t → (J.done_block d).rect ≡ tile_rect target.old.size t }
+    ensures counts { finished.new.counts ≡ finished.old.counts }
+    ensures back { AreBack J.done_block (J.touched job.now) target.old target.new finished.old.results }
+{
+    for tile in job.touched() {
+        let Some(done) = finished.next_tile() else {
+            unreachable!()
+        };
+        target.put(*tile, J::into_block(done));
+    }
+}
+
+// The counts of all issues.
+fn counts_of<'a, A: Allocator, J: BlockJob<Block = TileBlock<A>>>(
+    finished: &Finished<'a, J, A>,
+    issues: u32,
+) -> ArrayVec<u64, 64>
+    requires { (length finished.now.counts ≡ issues) × (issues ≤ 64) }
+    ensures { result.items ≡ finished.now.counts }
+{
+    let mut counts = ArrayVec::new();
+    for issue in 0..issues {
+        counts.push(finished.count(issue));
+    }
+    counts
+}
+
+// Closes the board, puts the results back, and gives the counts.
+fn finish<'a, A: Allocator, J: BlockJob<Block = TileBlock<A>>>(
+    board: Board<'a, J, A>,
+    seat: Seat<J>,
+    target: &mut Target<A>,
+    job: &J,
+) -> ArrayVec<u64, 64>
+    requires shown { ShowsBlocks J.shown }
+    requires own { IsSeatOf board seat × (job.now ≡ board.job) }
+    requires all { handed seat.view ≡ J.tile_count job.now }
+    requires placed { MayComeBack J.tile_number J.open_block (J.touched job.now) target.old seat.view.placed }
+    ensures run { HaveRun J.open_block (J.drawn job.now) (J.touched job.now) target.old target.new seat.view.placed }
+    ensures counts { (opening : ℕ → ℕ → Pixel) → Opens J.open_block seat.view.placed opening
+        → AreCounts (J.counted job.now) (J.issue_count job.now) (J.touched job.now) opening result.items }
+{
+    let Ok(mut finished) = board.close(seat) else {
+        unreachable!()
+    };
+    put_back(&mut finished, target, job);
+    counts_of(&finished, job.issues())
+}
+
+/// Runs a job over its tiles of a target, in the order of their places, on the caller's thread, with a new board in order
+/// and its seat. It waits for nobody, takes no memory, and gives the count of each issue.
+pub fn run_alone<'a, A: Allocator, J: BlockJob<Block = TileBlock<A>>>(
+    board: Board<'a, J, A>,
+    seat: Seat<J>,
+    target: &mut Target<A>,
+    job: &J,
+) -> ArrayVec<u64, 64>
+    requires shown { ShowsBlocks J.shown }
+    requires new { AreNew J.tile_count J.issue_count job.now false board seat }
+    requires target { IsWhole target.old × (J.target_size job.now ≡ target.old.size) }
+    ensures drawn { IsDrawn (J.drawn job.now) (J.touched job.now) target.old target.new }
+    ensures counts { AreCounts (J.counted job.now) (J.issue_count job.now) (J.touched job.now) (pixel_of target.old)
+        result.items }
+{
+    let mut seat = seat;
+    place_all(&board, &mut seat, target, job);
+    let seat = drain_alone(&board, seat, job);
+    finish(board, seat, target, job)
+}
+
+/// The same with as many threads beside the caller, over a new board by number and its seat.
+pub fn run_with_workers<
+    'a,
+    A: Allocator + Sync,
+    J: BlockJob<Block = TileBlock<A>> + Sync,
+    G: Gate + Sync,
+    R: Threads + Sync,
+>(
+    rt: &R,
+    board: Board<'a, J, A>,
+    seat: Seat<J>,
+    target: &mut Target<A>,
+    job: &J,
+    workers: u32,
+    gate: &G,
+) -> ArrayVec<u64, 64>
+    requires shown { ShowsBlocks J.shown }
+    requires new { AreNew J.tile_count J.issue_count job.now true board seat }
+    requires target { IsWhole target.old × (J.target_size job.now ≡ target.old.size) }
+    requires workers { workers ≤ 15 }
+    ensures drawn { IsDrawn (J.drawn job.now) (J.touched job.now) target.old target.new }
+    ensures counts { AreCounts (J.counted job.now) (J.issue_count job.now) (J.touched job.now) (pixel_of target.old)
+        result.items }
+{
+    let mut seat = seat;
+    place_all(&board, &mut seat, target, job);
+    let seat = run_all(rt, &board, seat, job, workers, gate);
+    finish(board, seat, target, job)
+}
