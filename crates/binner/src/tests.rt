@@ -5,7 +5,7 @@ ghost use Rattle.gfxspec.specs.Tiles.{tile_count};
 
 use super::*;
 use binmem::Bins;
-use cmdlist::{CommandList, DeferredContext};
+use cmdlist::{CommandList, DeferredContext, DeviceContext};
 use gfxspec::{DepthStencil, GfxError, Size, Topology, Vertex, tile_count};
 use refusing::Refusing;
 use std::alloc::Allocator;

@@ -1,6 +1,6 @@
 //! Lists of triangles at random places.
 
-use cmdlist::{CommandList, DeferredContext};
+use cmdlist::{CommandList, DeferredContext, DeviceContext};
 use gfxspec::{Cull, GfxError, Topology, Vertex};
 use states::{RasterDesc, RasterState};
 use std::alloc::Global;

@@ -6,6 +6,7 @@
 #![tactic(auto)]
 
 mod reach;
+mod walk;
 
 ghost use Rattle.std.specs.Prelude.{◌≡◌, ◌≢◌, ◌↔◌, ℕ, ◌≤◌, ◌<◌, ◌^◌, ◌+◌, pos, ◌≤ℤ◌, ◌+ℤ◌, unsigned_abs, IsNone, IfSome, IsTrue};
 ghost use Rattle.gfxspec.specs.Raster.{Point, area, centre, covers, edge, edge_holds};
@@ -22,6 +23,7 @@ use gfxspec::PixelRect;
 use snap::SnapTri;
 use snap::corner::{Corner, between, corner_at, cross, negated_if, whole_pixel};
 use std::marker::Model;
+pub use walk::EdgeWalk;
 
 /// An edge's value at the centre of pixel (0, 0), and what a pixel to the right or down adds to it.
 #[derive(Clone, Copy, Debug)]

@@ -5,7 +5,7 @@ ghost use Rattle.gfxspec.specs.Raster.{area};
 ghost use Rattle.gfxspec.specs.Vertices.{IsDepth};
 ghost use Rattle.snap.specs.Corners.{triangle_of};
 
-use depthplane::Plane;
+use depthplane::{Plane, Walks};
 use edges::EdgeSet;
 use gfxspec::{Compare, LogicOp};
 use lanes::{cover_mask, depth_mask, logic8, select8};

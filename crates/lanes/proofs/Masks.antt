@@ -1,35 +1,36 @@
 -- Bits of masks of eight lanes, and lists that are stored lane by lane.
-use Rattle.std.proofs.Common.{◌≡◌, ◌∙◌, ap, sym, refl, arith, ℕ, zero, suc, ◌+◌, ◌-◌, ◌*◌, ◌/◌, ◌%◌, ◌^◌, ◌<◌, ◌≤◌, ◌⊎◌, inl, inr, Bool, true, false, cond, lit<, List, [], ◌∷◌, length, get_or, map, Fits, w8, w32, min}
+use Rattle.std.proofs.Common.{◌≡◌, ◌∙◌, ap, sym, refl, arith, ℕ, zero, suc, ◌+◌, ◌-◌, ◌*◌, ◌/◌, ◌%◌, ◌^◌, ◌<◌, ◌≤◌, ◌⊎◌, inl, inr, Bool, true, false, cond, lit<, List, [], ◌∷◌, length, get_or, map, eqb, Fits, w8, min}
 use Rattle.std.specs.Prelude.{◌==◌, ◌&&◌, nat_lt, if◌then◌else◌, bit_and}
 use Rattle.std.proofs.Math.Nat.{pow-le-pow_right}
 use Rattle.std.proofs.lemmas.Bool.Decides.{nat_tests}
-use Rattle.std.proofs.lemmas.Nat.Bits.{bit_at-lt, bit_at_and, bit_at_ones, bit_at_ones_above, shr_and_one}
-use Rattle.std.specs.Int.{bit_at}
-use Rattle.std.specs.Simd.Lanes.{zip2, mask_l, top}
+use Rattle.std.proofs.lemmas.Nat.Bits.{and_pow, bit_at-lt, bit_at_and, bit_at_ones, bit_at_ones_above, shr_and_one}
+use Rattle.std.specs.Int.{bit_at, Width}
+use mir.Val.{bits, hbits}
+use Rattle.std.specs.Simd.Lanes.{zip2, mask_l, sel_l, top}
 use Rattle.std.proofs.Math.ListN.{set}
 use Rattle.std.proofs.lemmas.List.{get_or-set_same, get_or-set_other}
-use Rattle.std.proofs.lemmas.Simd.{tops_compared, length-zip2, mask_l-mod, mask_l-lt, bit_mask_l, get_or-zip2}
+use Rattle.std.proofs.lemmas.Simd.{get_or-sel_l, tops_compared, length-zip2, mask_l-mod, mask_l-lt, bit_mask_l, get_or-zip2}
 
 one_is : (b : Bool) → (cond b 1 0 == 1) ≡ b
 one_is true = refl
 one_is false = refl
 
 -- bit j of a comparison of eight lanes
-pub bit_at-compared : (test : ℕ → ℕ → Bool) (xs ys : List ℕ) (j : ℕ) → length xs ≡ 8 → length ys ≡ 8 → j < 8 →
-    (bit_at (mask_l (map (top 31) (zip2 (λ a b. cond (test a b) (2 ^ 32 - 1) 0) xs ys)) % 2 ^ 64) j == 1) ≡ test (get_or xs j 0) (get_or ys j 0)
-bit_at-compared test xs ys j lx ly h =
+pub bit_at-compared : (w : Width) (test : ℕ → ℕ → Bool) (xs ys : List ℕ) (j : ℕ) → length xs ≡ 8 → length ys ≡ 8 → j < 8 →
+    (bit_at (mask_l (map (top (hbits w)) (zip2 (λ a b. cond (test a b) (2 ^ bits w - 1) 0) xs ys)) % 2 ^ 64) j == 1) ≡ test (get_or xs j 0) (get_or ys j 0)
+bit_at-compared w test xs ys j lx ly h =
     let tests = zip2 test xs ys in
     let long = length-zip2 test xs ys (lx ∙ sym ly) in
-    ap (λ n. bit_at n j == 1) (ap (λ ms. mask_l ms % 2 ^ 64) (tops_compared w32 test xs ys) ∙ mask_l-mod tests 64 (omega arith))
+    ap (λ n. bit_at n j == 1) (ap (λ ms. mask_l ms % 2 ^ 64) (tops_compared w test xs ys) ∙ mask_l-mod tests 64 (omega arith))
     ∙ ap (λ n. n == 1) (bit_mask_l tests j ∙ ap (λ b. cond b 1 0) (get_or-zip2 test xs ys j 0 0 false (omega arith) (omega arith)))
     ∙ one_is (test (get_or xs j 0) (get_or ys j 0))
 
-pub compared_fits : (test : ℕ → ℕ → Bool) (xs ys : List ℕ) → length xs ≡ 8 → length ys ≡ 8 → Fits w8 (mask_l (map (top 31) (zip2 (λ a b. cond (test a b) (2 ^ 32 - 1) 0) xs ys)) % 2 ^ 64)
-compared_fits test xs ys lx ly =
+pub compared_fits : (w : Width) (test : ℕ → ℕ → Bool) (xs ys : List ℕ) → length xs ≡ 8 → length ys ≡ 8 → Fits w8 (mask_l (map (top (hbits w)) (zip2 (λ a b. cond (test a b) (2 ^ bits w - 1) 0) xs ys)) % 2 ^ 64)
+compared_fits w test xs ys lx ly =
     let tests = zip2 test xs ys in
     let long = length-zip2 test xs ys (lx ∙ sym ly) ∙ lx in
     let small = mask_l-lt tests in
-    let is = ap (λ ms. mask_l ms % 2 ^ 64) (tops_compared w32 test xs ys) ∙ mask_l-mod tests 64 (omega arith) in
+    let is = ap (λ ms. mask_l ms % 2 ^ 64) (tops_compared w test xs ys) ∙ mask_l-mod tests 64 (omega arith) in
     let power = ap (λ n. 2 ^ n) long in
     record { fits = omega arith }
 
@@ -118,13 +119,46 @@ bit_at-span n x y z j p q r few hx hy hz =
           ap (λ m. m == 1) zero_bit ∙ ap (λ b. b && p && q && r) lt
     ]
 
--- what the code picks by a bit
-pub picked_set : (bits j x y v : ℕ) → bit_and (bits / 2 ^ j) 1 ≡ 1 → v ≡ x → v ≡ (if bit_at bits j == 1 then x else y)
-picked_set bits j x y v set is = is ∙ ap (λ n. if n == 1 then x else y) (sym set ∙ shr_and_one bits j)
+-- a bit by its place's number
+pub has_place : (w k p : ℕ) → p ≡ 2 ^ k → eqb (bit_and w p) p ≡ (bit_at w k == 1)
+has_place w k p is = ap (λ n. eqb (bit_and w n) n) is ∙ ap (λ n. eqb n (2 ^ k)) (and_pow w k) ∙ by (bit_at w k) (bit_at-lt w k)
+  where
+    positive : 0 < 2 ^ k
+    positive = let low : 0 ≤ k = omega arith in let p : 2 ^ 0 ≤ 2 ^ k = pow-le-pow_right {n = 2} (lit< tt) low in omega arith
 
-pub picked_clear : (bits j x y v : ℕ) → (bit_and (bits / 2 ^ j) 1 ≡ 1 → ⊥) → v ≡ y → v ≡ (if bit_at bits j == 1 then x else y)
-picked_clear bits j x y v clear is =
-    is ∙ ap (λ b. if b then x else y) (sym (not_one (bit_at bits j) (bit_at-lt bits j) (λ e. clear (shr_and_one bits j ∙ e))))
+    by : (b : ℕ) → b < 2 → eqb (b * 2 ^ k) (2 ^ k) ≡ (b == 1)
+    by zero h = grind (arith, nat_tests, positive)
+    by (suc zero) h = grind (arith, nat_tests)
+    by (suc (suc b)) h = absurd (omega arith)
+
+abbrev pub places : List ℕ
+places = 1 ∷ 2 ∷ 4 ∷ 8 ∷ 16 ∷ 32 ∷ 64 ∷ 128 ∷ []
+
+-- the lanes that a mask picks
+abbrev pub picks : Width → ℕ → List Bool
+picks v w =
+    let wide = w ∷ w ∷ w ∷ w ∷ w ∷ w ∷ w ∷ w ∷ [] in
+    map (top (hbits v)) (zip2 (λ a b. cond (eqb a b) (2 ^ bits v - 1) 0) (zip2 bit_and wide places) places)
+
+pub pick_is : (v : Width) (w j : ℕ) → j < 8 → get_or (picks v w) j false ≡ (bit_at w j == 1)
+pick_is v w j h =
+    let wide = w ∷ w ∷ w ∷ w ∷ w ∷ w ∷ w ∷ w ∷ [] in
+    ap (λ ms. get_or ms j false) (tops_compared v eqb (zip2 bit_and wide places) places) ∙ by j h
+  where
+    by : (j : ℕ) → j < 8 → get_or (zip2 eqb (zip2 bit_and (w ∷ w ∷ w ∷ w ∷ w ∷ w ∷ w ∷ w ∷ []) places) places) j false ≡ (bit_at w j == 1)
+    by zero h = has_place w 0 1 refl
+    by (suc zero) h = has_place w 1 2 refl
+    by (suc (suc zero)) h = has_place w 2 4 refl
+    by (suc (suc (suc zero))) h = has_place w 3 8 refl
+    by (suc (suc (suc (suc zero)))) h = has_place w 4 16 refl
+    by (suc (suc (suc (suc (suc zero))))) h = has_place w 5 32 refl
+    by (suc (suc (suc (suc (suc (suc zero)))))) h = has_place w 6 64 refl
+    by (suc (suc (suc (suc (suc (suc (suc zero))))))) h = has_place w 7 128 refl
+    by (suc (suc (suc (suc (suc (suc (suc (suc j)))))))) h = absurd (omega arith)
+
+pub picked_is : (v : Width) (w j : ℕ) (xs ys : List ℕ) → j < 8 → length xs ≡ 8 → length ys ≡ 8 → get_or (sel_l (picks v w) xs ys) j 0 ≡ (if bit_at w j == 1 then get_or xs j 0 else get_or ys j 0)
+picked_is v w j xs ys h lx ly =
+    get_or-sel_l (picks v w) xs ys j 0 h (omega arith) (omega arith) ∙ ap (λ b. cond b (get_or xs j 0) (get_or ys j 0)) (pick_is v w j h)
 
 below_or_last : (j k : ℕ) → k < j + 1 → (k < j) ⊎ (k ≡ j)
 below_or_last j k h = grind arith

@@ -1,3 +1,3 @@
 pub mod Block
+pub mod SpanStored
 pub mod Surface
-pub mod EachPixelOnce

@@ -1,6 +1,7 @@
 //! A tile's block: what its pixels hold.
 
 use gfxspec::{DEPTH_MAX, DepthStencil, Pixel, PixelRect};
+use lanes::{select_bytes8, select8};
 use std::alloc::{AllocError, Allocator};
 use std::marker::Model;
 
@@ -71,11 +72,14 @@ pub struct OpenTile<A: Allocator> {
 }
 
 impl<A: Allocator> TileBlock<A> {
-    ghost use Rattle.std.specs.Prelude.{◌≡◌, ◌≢◌, ◌<◌, ◌⊎◌, ◌+◌, ◌*◌, ℕ, IfOk, slice_index};
+    ghost use Rattle.std.specs.Prelude.{◌≡◌, ◌≢◌, ◌<◌, ◌⊎◌, ◌+◌, ◌*◌, ℕ, IfOk, slice_index, if◌then◌else◌};
     ghost use Rattle.std.specs.Int.{w32, to_le_bytes};
     ghost use Rattle.gfxspec.specs.Tiles.{IsIn};
     ghost use Rattle.gfxspec.specs.Items.{opening, after_item, ColorCleared, DepthStencilCleared};
-    ghost use Rattle.tileblock.specs.Block.{Block, IsInTile, pixel_at};
+    ghost use Rattle.gfxspec.specs.Tiles.{IsInTile};
+    ghost use Rattle.tileblock.specs.Block.{Block, pixel_at};
+    ghost use Rattle.lanes.specs.Stencil.{has};
+    ghost use Rattle.tileblock.specs.SpanStored.{SpanStored};
 
     /// A tile of a new target.
     pub(crate) fn new(alloc: A, rect: PixelRect) -> Result<TileBlock<A>, AllocError>
@@ -119,6 +123,7 @@ impl<A: Allocator> TileBlock<A> {
 
     /// The colours of eight pixels side by side, which are a span of a row; both are counted within the tile. A
     /// colour is one number, red in its low byte and alpha in its high one.
+    #[inline]
     pub fn color_span(&self, span: u32, row: u32) -> [u32; 8]
         requires span { span < 4 }
         requires row { row < 32 }
@@ -126,6 +131,94 @@ impl<A: Allocator> TileBlock<A> {
             ≡ (pixel_at self.now (self.now.rect.left + 8 * span + j) (self.now.rect.top + row)).rgba }
     {
         self.spans.colors[(4 * row + span) as usize]
+    }
+
+    /// The depths of eight pixels side by side, which are a span of a row; both are counted within the tile.
+    #[inline]
+    pub fn depth_span(&self, span: u32, row: u32) -> [u32; 8]
+        requires span { span < 4 }
+        requires row { row < 32 }
+        ensures { (j : ℕ) → j < 8 → slice_index result j
+            ≡ (pixel_at self.now (self.now.rect.left + 8 * span + j) (self.now.rect.top + row)).ds.depth }
+    {
+        self.spans.depths[(4 * row + span) as usize]
+    }
+
+    /// The stencil values of such eight pixels.
+    #[inline]
+    pub fn stencil_span(&self, span: u32, row: u32) -> [u8; 8]
+        requires span { span < 4 }
+        requires row { row < 32 }
+        ensures { (j : ℕ) → j < 8 → slice_index result j
+            ≡ (pixel_at self.now (self.now.rect.left + 8 * span + j) (self.now.rect.top + row)).ds.stencil }
+    {
+        self.spans.stencils[(4 * row + span) as usize]
+    }
+
+    /// Stores the colours of such eight pixels.
+    #[inline]
+    pub fn set_color_span(&mut self, span: u32, row: u32, colors: [u32; 8])
+        requires span { span < 4 }
+        requires row { row < 32 }
+        ensures { SpanStored self.old self.new span row (λ j old. record old { rgba = to_le_bytes w32 (slice_index colors j) }) }
+    {
+        let at = (4 * row + span) as usize;
+        self.spans.colors[at] = colors;
+    }
+
+    /// Stores the colours of those of the eight pixels whose bits are set.
+    #[inline]
+    pub fn set_color_lanes(&mut self, span: u32, row: u32, bits: u8, colors: [u32; 8])
+        requires span { span < 4 }
+        requires row { row < 32 }
+        ensures { SpanStored self.old self.new span row (λ j old. if has bits j then record old { rgba = to_le_bytes w32 (slice_index colors j) } else old) }
+    {
+        let old = self.color_span(span, row);
+        self.set_color_span(span, row, select8(bits, &colors, &old));
+    }
+
+    /// Stores the depths of such eight pixels.
+    #[inline]
+    pub fn set_depth_span(&mut self, span: u32, row: u32, depths: [u32; 8])
+        requires span { span < 4 }
+        requires row { row < 32 }
+        ensures { SpanStored self.old self.new span row (λ j old. record old { ds = record { depth = slice_index depths j; stencil = old.ds.stencil } }) }
+    {
+        let at = (4 * row + span) as usize;
+        self.spans.depths[at] = depths;
+    }
+
+    /// Stores the depths of those of the eight pixels whose bits are set.
+    #[inline]
+    pub fn set_depth_lanes(&mut self, span: u32, row: u32, bits: u8, depths: [u32; 8])
+        requires span { span < 4 }
+        requires row { row < 32 }
+        ensures { SpanStored self.old self.new span row (λ j old. if has bits j then record old { ds = record { depth = slice_index depths j; stencil = old.ds.stencil } } else old) }
+    {
+        let old = self.depth_span(span, row);
+        self.set_depth_span(span, row, select8(bits, &depths, &old));
+    }
+
+    /// Stores the stencil values of such eight pixels.
+    #[inline]
+    pub fn set_stencil_span(&mut self, span: u32, row: u32, stencils: [u8; 8])
+        requires span { span < 4 }
+        requires row { row < 32 }
+        ensures { SpanStored self.old self.new span row (λ j old. record old { ds = record { depth = old.ds.depth; stencil = slice_index stencils j } }) }
+    {
+        let at = (4 * row + span) as usize;
+        self.spans.stencils[at] = stencils;
+    }
+
+    /// Stores the stencil values of those of the eight pixels whose bits are set.
+    #[inline]
+    pub fn set_stencil_lanes(&mut self, span: u32, row: u32, bits: u8, stencils: [u8; 8])
+        requires span { span < 4 }
+        requires row { row < 32 }
+        ensures { SpanStored self.old self.new span row (λ j old. if has bits j then record old { ds = record { depth = old.ds.depth; stencil = slice_index stencils j } } else old) }
+    {
+        let old = self.stencil_span(span, row);
+        self.set_stencil_span(span, row, select_bytes8(bits, &stencils, &old));
     }
 
     /// Stores all of a pixel of the rectangle.
