@@ -4,7 +4,7 @@ ghost use Rattle.std.specs.Prelude.{◌≡◌};
 
 use crate::ports::apart;
 use crate::{DrainPass, PortPass, Ports, Submission};
-use cmdlist::{Command, CommandList, DeferredContext};
+use cmdlist::{Command, CommandList, DeferredContext, DeviceContext};
 use gfxspec::GfxError;
 use refusing::Refusing;
 use std::alloc::Global;
