@@ -1,25 +1,35 @@
 #!/usr/bin/env python3
-"""Times the built program over the benchmark scenes, and prints a table: bench/run.py [SCENE ..].
+"""Times the built program over the benchmark scenes, and prints a table.
+
+    bench/run.py [--workers N] [--runs N] [SCENE ..]
 
 First build the program: cd crates/tiledraw && rt run -- ../gallery/data/fan.txt /tmp/fan.tga
-Each scene is drawn once. The time is that of the whole run; peak memory is the largest resident set of the program.
+
+A frame is one more execution: a scene is drawn with one frame and with 1 + m frames, in turns, and the difference of the
+medians is divided by m. The table also has the time of the whole run with one frame, reading and writing included, and
+its peak memory, the largest resident set of the program.
 """
 
+import argparse
 import os
 import pathlib
 import platform
+import statistics
 import subprocess
 import sys
 import tempfile
 import time
 
+import scenes
+
 HERE = pathlib.Path(__file__).resolve().parent
-SCENES = HERE / "scenes.py"
-ALL = [
-    "clear", "largest-target", "long-script", "large-triangles", "small-triangles", "executed-lists", "idle-pixels",
-    "indexed-strip",
-]
 PROGRAM = HERE.parent / "crates" / "tiledraw" / "out" / "tiledraw"
+
+# how many frames more, so that the difference is some tenths of a second on a fast machine
+MORE = {
+    "large-triangles": 8, "small-triangles": 16, "executed-lists": 8, "clears": 10, "large-xor": 8, "shadow-volumes": 8, "ten-tiles": 20,
+    "clear": 100, "largest-target": 40, "indexed-strip": 8, "idle-pixels": 1, "long-script": 1,
+}
 
 
 def machine():
@@ -30,29 +40,51 @@ def machine():
     return platform.machine()
 
 
-def run(script, image):
+def run(script, image, words):
     """Runs the program and gives its seconds, its peak memory in MB and its answers."""
     before = time.monotonic()
-    child = subprocess.Popen([PROGRAM, script, image], stdout=subprocess.PIPE, text=True)
+    child = subprocess.Popen([PROGRAM, script, image, *words], stdout=subprocess.PIPE, text=True)
     answers = child.stdout.read()
-    _, _, usage = os.wait4(child.pid, 0)
+    _, status, usage = os.wait4(child.pid, 0)
+    if status:
+        sys.exit(f"the program ended with status {status >> 8} on {script}: {answers[-200:]}")
     return time.monotonic() - before, usage.ru_maxrss / 1024, answers
 
 
 def main():
-    names = sys.argv[1:] or ALL
-    print(f"On {machine()}:\n\n| Scene | Script | Time | Peak memory | Answers | Image (SHA-256 begins) |\n|---|---|---|---|---|---|")
+    parser = argparse.ArgumentParser(description=__doc__, formatter_class=argparse.RawDescriptionHelpFormatter)
+    parser.add_argument("scenes", metavar="SCENE", nargs="*", help=f"of {', '.join(scenes.SCENES)}; without one, all")
+    parser.add_argument("--workers", type=int, help="how many workers draw beside the caller")
+    parser.add_argument("--runs", type=int, default=5, help="how many runs a median is of (5)")
+    given = parser.parse_args()
+    unknown = [it for it in given.scenes if it not in scenes.SCENES]
+    if unknown:
+        parser.error(f"no scene {' '.join(unknown)}")
+    if not PROGRAM.exists():
+        parser.error(f"{PROGRAM} is not built")
+    words = [] if given.workers is None else ["--workers", str(given.workers)]
+    print(f"On {machine()}, medians of {given.runs} runs{'' if given.workers is None else f', {given.workers} workers'}:\n")
+    print("| Scene | Script | Frame | Whole run | Peak memory | Answers | Image (SHA-256 begins) |\n|---|---|---|---|---|---|---|")
     with tempfile.TemporaryDirectory() as room:
-        for name in names:
-            script, image = pathlib.Path(room, f"{name}.txt"), pathlib.Path(room, "out.tga")
-            # (written by a process of its own: a child's peak memory begins with that of its parent)
-            with open(script, "wb") as out:
-                subprocess.run([sys.executable, SCENES, name], stdout=out, check=True)
-            seconds, memory, answers = run(script, image)
+        for name in given.scenes or scenes.SCENES:
+            files = {frames: pathlib.Path(room, f"{name}-{frames}.txt") for frames in (1, 1 + MORE[name])}
+            for frames, file in files.items():
+                # (written by a process of its own: a child's peak memory begins with that of its parent)
+                with open(file, "wb") as out:
+                    subprocess.run([sys.executable, HERE / "scenes.py", name, str(frames)], stdout=out, check=True)
+            image = pathlib.Path(room, "out.tga")
+            times = {frames: [] for frames in files}
+            for _ in range(given.runs):
+                for frames in reversed(files):
+                    seconds, memory, answers = run(files[frames], image, words)
+                    times[frames].append(seconds)
             digest = subprocess.run(["sha256sum", image], capture_output=True, text=True, check=True).stdout[:16]
-            size = script.stat().st_size / 1e6
-            print(f"| {name} | {size:.1f} MB | {seconds:.2f} s | {memory:.0f} MB | {answers.count(chr(10))} | {digest} |", flush=True)
-            script.unlink()
+            whole = statistics.median(times[1])
+            frame = 1000 * (statistics.median(times[1 + MORE[name]]) - whole) / MORE[name]
+            size = files[1].stat().st_size / 1e6
+            print(f"| {name} | {size:.1f} MB | {frame:.2f} ms | {whole:.2f} s | {memory:.0f} MB | {answers.count(chr(10))} | {digest} |", flush=True)
+            for file in files.values():
+                file.unlink()
 
 
 if __name__ == "__main__":

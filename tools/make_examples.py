@@ -6,6 +6,7 @@ scripts hold; depths are whole numbers from 0 to 16,777,215. A face is towards t
 clockwise on the target, whose y goes down.
 """
 
+import argparse
 import colorsys
 import math
 import pathlib
@@ -207,12 +208,185 @@ def bowl():
     return lines + ["i exec d0 0 0", "i exec d1 0 0", "i pixel 96 40", "i pixel 96 120"]
 
 
+# ---- the output merger
+
+
+def crossed(a, b):
+    return (a[1] * b[2] - a[2] * b[1], a[2] * b[0] - a[0] * b[2], a[0] * b[1] - a[1] * b[0])
+
+
+def inner(a, b):
+    return sum(p * q for p, q in zip(a, b))
+
+
+def looked_at(point):
+    """A point of the room as the target sees it: turned, tilted and moved, with its depth."""
+    x, y, z = point
+    x, z = x * math.cos(0.7) - z * math.sin(0.7), x * math.sin(0.7) + z * math.cos(0.7)
+    y, z = y * math.cos(0.6) + z * math.sin(0.6), z * math.cos(0.6) - y * math.sin(0.6)
+    return 96 + 22 * x, 116 - 22 * y, round((z + 12) / 24 * DEEPEST)
+
+
+# the direction to the viewer
+VIEW = (-math.cos(0.6) * math.sin(0.7), math.sin(0.6), -math.cos(0.6) * math.cos(0.7))
+
+LIGHT = (0.45, -1.0, 0.25)
+
+# corners of a cube by the signs of x, y, z, and its six faces with their normals
+CUBE = [(x, y, z) for x in (-1, 1) for y in (-1, 1) for z in (-1, 1)]
+FACES = [(tuple(sign if k == axis else 0 for k in range(3)), [at for at, it in enumerate(CUBE) if it[axis] == sign]) for axis in range(3) for sign in (-1, 1)]
+
+
+def around(face):
+    """The four corners of a face in their order round it."""
+    _, (a, b, c, d) = face
+    return [a, b, d, c]
+
+
+def triangles_of(corners, is_front):
+    """The triangles of a flat polygon, turned so that they face the viewer or not, as asked."""
+    seen = [looked_at(it) for it in corners]
+    found = []
+    for at in range(1, len(seen) - 1):
+        three = clockwise(seen[0], seen[at], seen[at + 1])
+        found += three if is_front else [three[0], three[2], three[1]]
+    return found
+
+
+def boxes():
+    """Three boxes of the room, each as its eight corners."""
+    for middle, half in (((-1.6, 0.9, 0.6), 0.9), ((1.3, 0.6, -0.9), 0.6), ((1.0, 1.9, 1.6), 0.5)):
+        yield [tuple(m + half * c for m, c in zip(middle, corner)) for corner in CUBE]
+
+
+def room_faces():
+    """Each visible polygon of the room with its colour in the light."""
+    floor = [(-4, 0, -4), (4, 0, -4), (4, 0, 4), (-4, 0, 4)]
+    yield floor, (150, 170, 150)
+    for number, box in enumerate(boxes()):
+        for face in FACES:
+            if inner(face[0], VIEW) > 0:
+                light = 0.45 + 0.55 * max(0.0, -inner(face[0], LIGHT) / math.sqrt(inner(LIGHT, LIGHT)))
+                yield [box[at] for at in around(face)], shade(colour(number / 3, 0.5), light)
+
+
+def volume_faces(box):
+    """The faces of the shadow of a box, as (corners, whether the face is turned to the viewer)."""
+    away = [tuple(p + 9 * l for p, l in zip(point, LIGHT)) for point in box]
+    lit = [inner(face[0], LIGHT) < 0 for face in FACES]
+    for face, is_lit in zip(FACES, lit):
+        yield [(box if is_lit else away)[at] for at in around(face)], inner(face[0], VIEW) > 0
+    for one, other in ((a, b) for a in range(6) for b in range(6) if lit[a] and not lit[b]):
+        edge = [at for at in FACES[one][1] if at in FACES[other][1]]
+        if len(edge) == 2:
+            a, b = edge
+            normal = crossed(tuple(q - p for p, q in zip(box[a], box[b])), LIGHT)
+            middle = tuple(sum(point[k] for point in box) / 8 for k in range(3))
+            outwards = inner(normal, tuple(p - m for p, m in zip(box[a], middle))) > 0
+            yield [box[a], box[b], away[b], away[a]], (inner(normal, VIEW) > 0) == outwards
+
+
+def shadow_volumes():
+    """Boxes and their shadows by the stencil: behind a volume's back faces up, behind its front faces down, on both faces at
+    once where the depth test fails; then the light where the stencil is 0."""
+    dark, bright = [], []
+    for corners, rgba in room_faces():
+        dark += [(*it, shade(rgba, 0.4)) for it in triangles_of(corners, True)]
+        bright += [(*it, shade(rgba, 1.0)) for it in triangles_of(corners, True)]
+    volume = [(*it, (0, 0, 0, 0)) for box in boxes() for corners, is_front in volume_faces(box) for it in triangles_of(corners, is_front)]
+    return begin(192, 192) + [
+        "i topology 4", buffer(dark), f"i draw {len(dark)} 0",
+        "i raster 1 0 0", "i blend 0 4 0", "i ds 1 0 2 1 255 255 1 8 1 8 1 7 1 8 0", buffer(volume), f"i draw {len(volume)} 0",
+        "i raster 3 0 0", "i blend 0 4 15", "i ds 1 0 3 1 255 255 1 1 1 3 1 1 1 3 0", buffer(bright), "i begin 0", f"i draw {len(bright)} 0", "i end 0",
+        "i query 0", "i pixel 96 120", "i pixel 60 60",
+    ]
+
+
+def disc(x, y, size, z, rgba, is_front, parts=24):
+    """A disc of triangles round its middle."""
+    rim = [(x + size * math.cos(math.tau * k / parts), y + size * math.sin(math.tau * k / parts)) for k in range(parts)]
+    corners = []
+    for k in range(parts):
+        three = clockwise((x, y), rim[k], rim[(k + 1) % parts])
+        corners += [(px, py, z, rgba) for px, py in (three if is_front else [three[0], three[2], three[1]])]
+    return corners
+
+
+def two_faced_count():
+    """Discs that face the viewer count up and discs that don't count down, under one state; then each count has a colour of its
+    own, and a query tells how many pixels have it."""
+    chance, counted = random.Random(11), []
+    for at in range(14):
+        counted += disc(chance.uniform(30, 162), chance.uniform(30, 162), chance.uniform(20, 55), 0, (0, 0, 0, 0), at % 3 != 2)
+    lines = begin(192, 192) + [
+        "i cleards 16777215 2", "i raster 1 0 0", "i blend 0 4 0", "i ds 0 0 8 1 255 255 1 1 4 8 1 1 5 8 0",
+        buffer(counted), "i topology 4", f"i draw {len(counted)} 0", "i topology 5",
+    ]
+    for level in range(7):
+        quad = [(x, y, 0, colour(level / 7, 0.7, 0.35 + 0.1 * level)) for x, y in ((0, 0), (192, 0), (0, 192), (192, 192))]
+        lines += [
+            "i blend 0 4 15", f"i ds 0 0 8 1 255 255 1 1 1 3 1 1 1 3 {level}", buffer(quad), f"i begin {level}", "i draw 4 0", f"i end {level}",
+        ]
+    return lines + [f"i query {level}" for level in range(7)] + ["i pixel 96 96"]
+
+
+def logic_operations():
+    """The sixteen logic operations, each of a disc onto a ramp, with the green channel masked in the lower half of each."""
+    lines, ramp = begin(192, 192, (0, 0, 0, 255)), []
+    for column in range(48):
+        rgba = (5 * column, 255 - 5 * column, 96 + 3 * column, 255)
+        for a, b, c in (((0, 0), (4, 0), (0, 192)), ((4, 0), (4, 192), (0, 192))):
+            ramp += [(4 * column + x, y, 0, rgba) for x, y in (a, b, c)]
+    lines += ["i ds 0 0 8 0 255 255 1 1 1 8 1 1 1 8 0", "i raster 1 0 1", "i topology 4", "i scissor 0 0 192 192", buffer(ramp), f"i draw {len(ramp)} 0"]
+    for operation in range(16):
+        left, top = 48 * (operation % 4), 48 * (operation // 4)
+        round_ = disc(left + 24, top + 24, 20, 0, (90, 165, 60, 255), True)
+        for mask, upper in ((15, top), (13, top + 24)):
+            lines += [
+                f"i blend 1 {operation} {mask}", f"i scissor {left} {upper} {left + 48} {upper + 24}", buffer(round_),
+                f"i begin {operation}", f"i draw {len(round_)} 0", f"i end {operation}",
+            ]
+    return lines + [f"i query {operation}" for operation in (0, 10, 15)] + ["i pixel 24 24", "i pixel 120 130"]
+
+
+def eight_contexts():
+    """Eight deferred contexts, each with two lists under states of its own; the second keeps the state of the first."""
+    lines = begin(192, 192)
+    for context in range(8):
+        actor, angle = f"d{context}", math.tau * context / 8
+        x, y = 96 + 52 * math.cos(angle), 96 + 52 * math.sin(angle)
+        petal = disc(x, y, 38, DEEPEST // 9 * (context + 1), colour(context / 8), True)
+        heart = disc(96, 96, 40 - 4 * context, DEEPEST // 2, colour((context + 4) / 8, 0.4), True)
+        lines += [
+            f"{actor} raster 3 0 1", f"{actor} scissor {8 * context} 0 192 {192 - 6 * context}", f"{actor} topology 4",
+            f"{actor} blend {context % 2} {6 if context % 4 == 1 else 10} {15 if context < 6 else 11}",
+            buffer(petal, actor), f"{actor} begin {context}", f"{actor} draw {len(petal)} 0", f"{actor} end {context}", f"{actor} finish 1",
+            buffer(heart, actor), f"{actor} begin 8", f"{actor} draw {len(heart)} 0", f"{actor} end 8", f"{actor} finish 0",
+        ]
+    lines += [f"i exec d{context} 0 0" for context in range(8)]
+    lines += [f"i exec d{context} 1 1" for context in (6, 3, 0)]
+    return lines + [f"i query {context}" for context in range(9)] + ["i pixel 96 96", "i pixel 150 96"]
+
+
 EXAMPLES = {
     "fan": fan, "shared-edges": shared_edges, "pile": pile, "slivers": slivers, "far": far, "large": large,
-    "ribbon": ribbon, "mesh": mesh, "bowl": bowl,
+    "ribbon": ribbon, "mesh": mesh, "bowl": bowl, "shadow-volumes": shadow_volumes, "two-faced-count": two_faced_count,
+    "logic-operations": logic_operations, "eight-contexts": eight_contexts,
 }
 
+
+def main():
+    parser = argparse.ArgumentParser(description=__doc__, formatter_class=argparse.RawDescriptionHelpFormatter)
+    parser.add_argument("names", metavar="NAME", nargs="*", help=f"of {', '.join(EXAMPLES)}; without one, all")
+    parser.add_argument("--folder", type=pathlib.Path, default=FOLDER, help="where the scripts are written")
+    given = parser.parse_args()
+    unknown = [it for it in given.names if it not in EXAMPLES]
+    if unknown:
+        parser.error(f"no example {' '.join(unknown)}")
+    for name in given.names or EXAMPLES:
+        (given.folder / f"{name}.txt").write_text("\n".join(EXAMPLES[name]()) + "\n", encoding="ascii")
+        print(given.folder / f"{name}.txt")
+
+
 if __name__ == "__main__":
-    for name, make in EXAMPLES.items():
-        (FOLDER / f"{name}.txt").write_text("\n".join(make()) + "\n", encoding="ascii")
-        print(f"{name}.txt")
+    main()
