@@ -35,6 +35,8 @@ PARTS = ("src", "specs", "proofs")
 CLAUSE = re.compile(r"(?:requires|ensures|ghost)\*?\s*[\w-]*\s*:?\s*\Z")
 LITERAL = re.compile(r'//[^\n]*|/\*.*?\*/|b?"(?:\\.|[^"\\])*"|b?\'(?:\\.[^\']*|[^\'\\])\'', re.S)
 ITEM = re.compile(r"\b(fn|impl|trait|mod)\b")
+# a method of a type is named by the module in which the type stands, and not by that of its impl
+METHOD = r"(?:\w+::)*"
 
 
 class Edit:
@@ -124,7 +126,13 @@ def impl_pattern(header):
     base = named[-1] if named else r"\w+"
     if subject:
         return base + re.findall(r"[A-Za-z_]\w*", trait)[-1] + r"\w*"
-    return base
+    return METHOD + base
+
+
+def pattern_of(path):
+    """The pattern of a function's name, from the names of its crate, modules and impls."""
+    method = [at for at, name in enumerate(path) if name.startswith(METHOD)]
+    return path[0] + "::" + "::".join(path[method[-1]:]) if method else "::".join(path)
 
 
 def functions_in(text, path):
@@ -147,7 +155,7 @@ def functions_in(text, path):
                 if CLAUSE.search(text[at:brace]):
                     at = end
                     continue
-                found.append(("::".join([*path, name[1]]), brace, end))
+                found.append((pattern_of([*path, name[1]]), brace, end))
                 at = end
                 break
             continue
