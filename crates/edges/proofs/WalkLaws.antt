@@ -1,15 +1,12 @@
 -- Steps of a walk over an edge's values.
 use Rattle.std.proofs.Common.{◌≡◌, ◌∙◌, ap, sym, subst, arith, ℕ, zero, suc, ◌+◌, ◌<◌, ◌≤◌, ◌^◌, [], ◌∷◌, get_or, w64, FitsSigned}
 use Rattle.std.specs.Prelude.{unsigned_abs, slice_index_or, ℤ, pos, negsuc, ◌+ℤ◌, ◌*ℤ◌, ◌≤ℤ◌, ◌↔◌, IsTrue}
-use Rattle.std.proofs.lemmas.Int.{ints, to_z-of_z}
-use Rattle.edges.specs.declared.EdgeFunction.{EdgeFunction}
-use Rattle.edges.specs.Function.{IsFunctionOf}
+use Rattle.std.proofs.lemmas.Int.{ints}
 use Rattle.edges.specs.Value.{edge_value}
 use Rattle.gfxspec.specs.Raster.{Edge, Triangle, edge, edge_holds, centre}
 use Rattle.edges.specs.Walk.{EdgePlace, IsWalked}
 use Rattle.edges.specs.WalkInside.{place_of, IsAt}
 use Rattle.edges.specs.declared.walk.EdgeWalk.TheInside.{Inside}
-use Rattle.edges.proofs.FunctionLaws.{down_adds, value_small}
 
 pub small_fits : (v : ℤ) → unsigned_abs v ≤ 2 ^ 45 → FitsSigned w64 v
 small_fits (pos n) h = record { sfits = omega (arith, ints) }

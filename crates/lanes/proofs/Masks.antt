@@ -1,10 +1,11 @@
 -- Bits of masks of eight lanes, and lists that are stored lane by lane.
-use Rattle.std.proofs.Common.{◌≡◌, ◌∙◌, ap, sym, refl, arith, ℕ, zero, suc, ◌+◌, ◌-◌, ◌*◌, ◌/◌, ◌%◌, ◌^◌, ◌<◌, ◌≤◌, ◌⊎◌, inl, inr, Bool, true, false, cond, lit<, List, [], ◌∷◌, length, get_or, map, eqb, Fits, w8, min}
+use Rattle.std.proofs.Common.{◌≡◌, ◌∙◌, ap, sym, refl, arith, ℕ, zero, suc, ◌+◌, ◌-◌, ◌*◌, ◌%◌, ◌^◌, ◌<◌, ◌≤◌, ◌⊎◌, inl, inr, Bool, true, false, cond, lit<, List, [], ◌∷◌, length, get_or, map, eqb, Fits, w8, min}
 use Rattle.std.specs.Prelude.{◌==◌, ◌&&◌, nat_lt, if◌then◌else◌, bit_and}
 use Rattle.std.proofs.Math.Nat.{pow-le-pow_right}
 use Rattle.std.proofs.lemmas.Bool.Decides.{nat_tests}
-use Rattle.std.proofs.lemmas.Nat.Bits.{and_pow, bit_at-lt, bit_at_and, bit_at_ones, bit_at_ones_above, shr_and_one}
+use Rattle.std.proofs.lemmas.Nat.Bits.{and_pow, bit_at-lt, bit_at_and, bit_at_ones, bit_at_ones_above}
 use Rattle.std.specs.Int.{bit_at, Width}
+use Rattle.gfxspec.proofs.Integers.{below_or_last}
 use mir.Val.{bits, hbits}
 use Rattle.std.specs.Simd.Lanes.{zip2, mask_l, sel_l, top}
 use Rattle.std.proofs.Math.ListN.{set}
@@ -159,9 +160,6 @@ pick_is v w j h =
 pub picked_is : (v : Width) (w j : ℕ) (xs ys : List ℕ) → j < 8 → length xs ≡ 8 → length ys ≡ 8 → get_or (sel_l (picks v w) xs ys) j 0 ≡ (if bit_at w j == 1 then get_or xs j 0 else get_or ys j 0)
 picked_is v w j xs ys h lx ly =
     get_or-sel_l (picks v w) xs ys j 0 h (omega arith) (omega arith) ∙ ap (λ b. cond b (get_or xs j 0) (get_or ys j 0)) (pick_is v w j h)
-
-below_or_last : (j k : ℕ) → k < j + 1 → (k < j) ⊎ (k ≡ j)
-below_or_last j k h = grind arith
 
 -- the step of a loop that stores f of each lane
 pub stored_next : (f : ℕ → ℕ) (xs : List ℕ) (j v : ℕ) → j < length xs → v ≡ f j → ((k : ℕ) → k < j → get_or xs k 0 ≡ f k) → (k : ℕ) → k < j + 1 → get_or (set xs j v) k 0 ≡ f k

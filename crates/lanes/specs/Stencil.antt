@@ -1,7 +1,6 @@
 -- The stencil test of one face with one reference, at one stored value (Direct3D 11.3 Functional Specification, "Output Merger Stage": depth and stencil state).
-use Rattle.std.specs.Prelude.{ℕ, ◌≡◌, ◌+◌, ◌-◌, ◌%◌, ◌<◌, ◌==◌, Bool, min, bit_and, bit_xor}
+use Rattle.std.specs.Prelude.{ℕ, ◌==◌, Bool, bit_and}
 use Rattle.std.specs.Int.{bit_at}
-use Rattle.gfxspec.specs.declared.state.StencilOp.{StencilOp}
 use Rattle.gfxspec.specs.DepthStencil.{DepthStencilSetting, FaceSetting, compares, stencil_result, masked, chosen_op}
 
 pub record StencilRule : Type 0 where

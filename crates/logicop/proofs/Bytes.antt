@@ -1,9 +1,10 @@
 -- Bits of numbers that are made of bits or of bytes.
-use Rattle.std.proofs.Common.{◌≡◌, ◌∙◌, ap, sym, arith, ℕ, zero, suc, ◌+◌, ◌-◌, ◌*◌, ◌/◌, ◌%◌, ◌^◌, ◌<◌, ◌⊎◌, inl, inr, [], ◌∷◌}
+use Rattle.std.proofs.Common.{◌≡◌, ◌∙◌, ap, sym, arith, ℕ, zero, suc, ◌+◌, ◌-◌, ◌*◌, ◌/◌, ◌%◌, ◌^◌, ◌<◌, inl, inr, [], ◌∷◌}
 use Rattle.std.proofs.Math.Nat.{pow-suc}
 use Rattle.std.proofs.lemmas.Nat.{mul-le}
 use Rattle.std.proofs.lemmas.Nat.Bits.{bit_at_cat_low, bit_at_cat_high}
 use Rattle.std.specs.Int.{bit_at, from_le_bytes, w32}
+use Rattle.gfxspec.proofs.Integers.{below_or_last}
 use Rattle.gfxspec.specs.Color.{number_of_bits}
 
 pub number_of_bits-lt : (n : ℕ) (bit : ℕ → ℕ) → ((k : ℕ) → bit k < 2) → number_of_bits n bit < 2 ^ n
@@ -15,16 +16,13 @@ number_of_bits-lt (suc n) bit small =
     let double = pow-suc 2 n in
     omega arith
 
-below_or_last : (n i : ℕ) → i < suc n → (i < n) ⊎ (i ≡ n)
-below_or_last n i h = grind arith
-
 pub bit_at-number_of_bits : (n : ℕ) (bit : ℕ → ℕ) → ((k : ℕ) → bit k < 2) → (i : ℕ) → i < n → bit_at (number_of_bits n bit) i ≡ bit i
 bit_at-number_of_bits zero bit small i h = absurd (omega arith)
 bit_at-number_of_bits (suc n) bit small i h =
     let low = number_of_bits n bit in
     let swapped : low + bit n * 2 ^ n ≡ bit n * 2 ^ n + low = omega arith in
     ap (λ m. bit_at m i) swapped
-    ∙ elim (below_or_last n i h) [
+    ∙ elim (below_or_last n i (omega arith)) [
       | inl below ↦ bit_at_cat_low (bit n) n low i below ∙ bit_at-number_of_bits n bit small i below
       | inr last ↦
           let b = small i in

@@ -1,4 +1,4 @@
-use Rattle.std.proofs.Common.{rules, ◌≡◌, ◌∙◌, ap, ℕ, ◌+◌, w64, FitsSigned, subst}
+use Rattle.std.proofs.Common.{rules, ◌∙◌, ap, ℕ, ◌+◌, w64, FitsSigned, subst}
 use Rattle.std.proofs.lemmas.Int.{to_z-of_z}
 use Rattle.std.specs.Prelude.{ℤ, ◌-ℤ◌}
 use Rattle.gfxspec.specs.Raster.{centre}
