@@ -7,7 +7,8 @@ First build the program: cd crates/tiledraw && rt run -- ../gallery/data/fan.txt
 
 A frame is one more execution: a scene is drawn with one frame and with 1 + m frames, in turns, and the difference of the
 medians is divided by m. The table also has the time of the whole run with one frame, reading and writing included, and
-its peak memory, the largest resident set of the program.
+its peak memory, the largest resident set of the program. With --workers N the program is told to draw with N workers beside
+the caller, 0 to 15, and the table's heading says so; the image's digest is the same for every N.
 """
 
 import argparse
@@ -54,8 +55,8 @@ def run(script, image, words):
 def main():
     parser = argparse.ArgumentParser(description=__doc__, formatter_class=argparse.RawDescriptionHelpFormatter)
     parser.add_argument("scenes", metavar="SCENE", nargs="*", help=f"of {', '.join(scenes.SCENES)}; without one, all")
-    parser.add_argument("--workers", type=int, help="how many workers draw beside the caller")
-    parser.add_argument("--runs", type=int, default=5, help="how many runs a median is of (5)")
+    parser.add_argument("--workers", metavar="N", type=int, help="how many workers draw beside the caller, 0 to 15; passed to the program")
+    parser.add_argument("--runs", metavar="N", type=int, default=5, help="how many runs a median is of (5)")
     given = parser.parse_args()
     unknown = [it for it in given.scenes if it not in scenes.SCENES]
     if unknown:

@@ -1,8 +1,15 @@
+#!/usr/bin/env python3
 """A plain evaluation of the words that the program `bintimes` counts and sums, in Python's own integers.
+
+    tools/bin_sums.py
+
+It prints a line for each scene, as crates/bintimes/stdout has them.
 
 Each triangle is put into each tile that its bounds meet, unless an edge holds at no centre of the tile; the mask names
 the edges that fail at some centre. An edge is linear, so a tile's corner centres decide.
 """
+
+import argparse
 
 M = 1 << 32
 SIDE = 2048
@@ -98,9 +105,15 @@ def words(draws, triangles, triangle):
     return sum(map(len, tiles)), total
 
 
-for name, *scene in (
-    ("60,000 small triangles", 3, 20_000, small),
-    ("300 large triangles", 1, 300, large),
-    ("one small triangle", 1, 1, small),
-):
-    print("%s: %d words, sum %d" % (name, *words(*scene)))
+def main():
+    argparse.ArgumentParser(description=__doc__, formatter_class=argparse.RawDescriptionHelpFormatter).parse_args()
+    for name, *scene in (
+        ("60,000 small triangles", 3, 20_000, small),
+        ("300 large triangles", 1, 300, large),
+        ("one small triangle", 1, 1, small),
+    ):
+        print("%s: %d words, sum %d" % (name, *words(*scene)))
+
+
+if __name__ == "__main__":
+    main()

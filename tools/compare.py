@@ -140,7 +140,7 @@ def main():
     parser = argparse.ArgumentParser(description=__doc__, formatter_class=argparse.RawDescriptionHelpFormatter)
     parser.add_argument("scenes", metavar="SCENES", nargs="?", type=int, default=100)
     parser.add_argument("seed", metavar="SEED", nargs="?", type=int, default=1)
-    parser.add_argument("--workers", type=int, help="how many workers draw beside the caller")
+    parser.add_argument("--workers", metavar="N", type=int, help="how many workers draw beside the caller, 0 to 15; passed to the program")
     parser.add_argument("--without", metavar="WORD", nargs="*", default=[], help="words of scripts to leave out")
     given = parser.parse_args()
     chance, refused = random.Random(given.seed), 0

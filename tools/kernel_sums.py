@@ -1,4 +1,12 @@
-"""A plain evaluation of the sums that the program `kernels` prints, in Python's own integers."""
+#!/usr/bin/env python3
+"""A plain evaluation of the sums that the program `kernels` prints, in Python's own integers.
+
+    tools/kernel_sums.py
+
+It prints a line for each kernel, as crates/kernels/stdout has them.
+"""
+
+import argparse
 
 CALLS = 1000
 M = 1 << 32
@@ -84,13 +92,19 @@ def setups():
     return sum(depth(LEG + 256 * (call & 255), (5, 16_000_000, 900_000), 1, 1) for call in range(CALLS))
 
 
-for name, value in [
-    ("cover of a crossed span", covers(0)),
-    ("cover of an uncrossed span", covers(1000)),
-    ("comparison of eight depths", comparisons()),
-    ("logic operation on eight colours", logic()),
-    ("choice among eight colours", choices()),
-    ("eight depths and a step", walks()),
-    ("setup of a triangle", setups()),
-]:
-    print(f"{name}: sum {value}")
+def main():
+    argparse.ArgumentParser(description=__doc__, formatter_class=argparse.RawDescriptionHelpFormatter).parse_args()
+    for name, value in [
+        ("cover of a crossed span", covers(0)),
+        ("cover of an uncrossed span", covers(1000)),
+        ("comparison of eight depths", comparisons()),
+        ("logic operation on eight colours", logic()),
+        ("choice among eight colours", choices()),
+        ("eight depths and a step", walks()),
+        ("setup of a triangle", setups()),
+    ]:
+        print(f"{name}: sum {value}")
+
+
+if __name__ == "__main__":
+    main()

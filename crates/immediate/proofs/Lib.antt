@@ -1,6 +1,6 @@
-pub mod Covering
-pub mod Drawing
-pub mod Preparing
-pub mod Readying
-pub mod Adding
-pub mod Flushing
+mod Settled
+mod Issued
+mod Storing
+mod Ran
+mod Idle
+mod Runs

@@ -1,3 +1,4 @@
-pub mod Works
-pub mod Pending
-pub mod Ready
+pub mod Held
+pub mod Next
+pub mod Issues
+pub mod Outputs

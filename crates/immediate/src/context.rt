@@ -1,81 +1,95 @@
 //! The immediate context.
 
-ghost use Rattle.std.specs.Prelude.{true, false, ◌≡◌, ◌<◌, [], ℕ, map, IfOk, IfErr, OnOk, OnErr};
-ghost use Rattle.gfxspec.specs.Items.{opening};
-ghost use Rattle.gfxspec.specs.Recorded.{items, queries_open, after_finish};
-ghost use Rattle.gfxspec.specs.Refusals.{AnswersBy, AreAccepted, some_open, flush_rows, pixel_rows};
-ghost use Rattle.tileblock.specs.Surface.{IsWhole, IsSurface, pixel_of, size_rows};
+ghost use Rattle.std.specs.Prelude.{true, false, ◌≡◌, ◌<◌, ◌≤◌, [], ◌∷◌, ◌++◌, ℕ, length, is_none, not, IfOk, IfErr, OnOk, OnErr, Some, None, map, replicate, nat_le, nat_lt, unwrap_or, if◌then◌else◌};
+ghost use Rattle.std.specs.List.{list_any};
+ghost use Rattle.gfxspec.specs.declared.TheConstants.{QUERY_LIMIT};
+ghost use Rattle.gfxspec.specs.declared.error.GfxError.TheVariants.{OutOfMemory};
+ghost use Rattle.gfxspec.specs.Recorded.{queries_open, is_drawing};
+ghost use Rattle.gfxspec.specs.Refusals.{AnswersBy, flush_rows, pixel_rows, query_rows, flush_rows_by, pixel_rows_by, query_rows_by, worker_rows};
+ghost use Rattle.tileblock.specs.Surface.{IsWhole, pixel_of, size_rows};
+ghost use Rattle.meaning.specs.Standing.{IsNew};
+ghost use Rattle.meaning.specs.Contexts.{result_at};
 ghost use Rattle.cmdlist.specs.Seen.{command_value};
-ghost use Rattle.immediate.specs.Pending.{shown, RunsPending};
-ghost use Rattle.immediate.specs.Works.{after_works};
+ghost use Rattle.immediate.specs.Issues.{begins};
+ghost use Rattle.immediate.specs.Next.{ExecutesNext};
+ghost use Rattle.immediate.specs.Held.{Ran, held_of, context_of, shown, answered, Runs};
 
-use crate::plain_job::PlainJob;
-use crate::prepare::add_commands;
-use crate::work::Work;
-use cmdlist::{Call, Command, CommandList, DeferredContext, DeviceContext};
-use gfxspec::{GfxError, Pixel, Size};
+use crate::counts::some_begins;
+use crate::output::Output;
+use cmdlist::{Call, CommandList, DeferredContext, DeviceContext};
+use gfxspec::{GfxError, Pixel, QUERY_LIMIT, Size, WORKER_LIMIT};
+use port::{DrainPass, Ports, Submission};
 use std::alloc::Allocator;
 use std::marker::Model;
+use std::sync::Wait;
+use std::thread::Threads;
 use tileblock::Target;
-use tilecore::TileJob;
+use workers::Gate;
 
-/// Runs work over a target: each tile is taken, run and put back, in the order of their numbers. Where there is no work,
-/// no tile is touched.
-fn run<A: Allocator + Send>(target: &mut Target<A>, works: &Vec<Work, A>)
-    requires { IsWhole target.old }
-    ensures was_sound { IsSurface target.old }
-    ensures whole { IsWhole target.new }
-    ensures size { target.new.size ≡ target.old.size }
-    ensures pixels { (x y : ℕ) → x < target.old.size.width → y < target.old.size.height → pixel_of target.new x y ≡ after_works works.now.items x y (pixel_of target.old x y) }
+/// Runs the pending commands on the caller's thread, and begins their list anew with the kept state. Where that is all that
+/// is pending, nothing is done.
+fn run_pending_alone<A: Allocator + Copy + Send>(
+    output: &mut Output<A>,
+    pending: &mut DeferredContext<A>,
+) -> Result<(), GfxError>
+    ensures ok { OnOk result (Ran [] true (held_of output.old pending.old) (held_of output.new pending.new)) }
+    ensures memory { IfErr result (λ e. e ≡ OutOfMemory) }
+    ensures same { OnErr result ((output.new ≡ output.old) × (pending.new ≡ pending.old)) }
 {
-    let size = target.size();
-    if works.is_empty() {
-        return;
+    if pending.is_kept_state_alone() {
+        return Ok(());
     }
-    let job = PlainJob {
-        size,
-        tiles: target.tiles(),
-        works,
-    };
-    for tile in 0..job.tiles() {
-        let done = job.run(target.take(tile));
-        target.put(tile, done.block);
-    }
+    let next = pending.next(true)?;
+    output.run_alone(pending.commands())?;
+    *pending = next;
+    Ok(())
 }
 
-/// Begins a list anew whose commands are about to run. An idle one, which holds the kept state alone, takes no memory.
-fn begin_anew<A: Allocator + Copy>(
+/// The same with as many threads beside the caller.
+fn run_pending<A: Allocator + Copy + Send + Sync, R: Threads + Sync, G: Gate + Sync>(
+    output: &mut Output<A>,
     pending: &mut DeferredContext<A>,
-    restore: bool,
+    rt: &R,
+    workers: u32,
+    gate: &G,
 ) -> Result<(), GfxError>
-    requires { some_open (queries_open pending.old) ≡ false }
-    ensures next { OnOk result (pending.new ≡ after_finish restore pending.old) }
-    ensures memory { IfErr result (λ e. e ≡ GfxError.OutOfMemory) }
-    ensures err { OnErr result (pending.new ≡ pending.old) }
+    requires workers { workers ≤ 15 }
+    ensures ok { OnOk result (Ran [] true (held_of output.old pending.old) (held_of output.new pending.new)) }
+    ensures memory { IfErr result (λ e. e ≡ OutOfMemory) }
+    ensures same { OnErr result ((output.new ≡ output.old) × (pending.new ≡ pending.old)) }
 {
-    if !(restore && pending.is_kept_state_alone()) {
-        pending.finish(restore)?;
+    if pending.is_kept_state_alone() {
+        return Ok(());
     }
+    let next = pending.next(true)?;
+    output.run_with_workers(rt, pending.commands(), workers, gate)?;
+    *pending = next;
     Ok(())
+}
+
+/// Begins the pending list anew behind an execution: with the kept state, which it holds already, or with nothing.
+fn begin_anew<A: Allocator + Copy>(alloc: A, pending: &mut DeferredContext<A>, restore: bool)
+    ensures { pending.new ≡ (if restore then pending.old else []) }
+{
+    if !restore {
+        *pending = DeferredContext::new(alloc);
+    }
 }
 
 /// The context that executes and answers.
 #[derive(Drop)]
 pub struct ImmediateContext<A: Allocator> {
     alloc: A,
-    target: Target<A>,
+    output: Output<A>,
     pending: DeferredContext<A>,
 }
 
 impl<A: Allocator> Model for ImmediateContext<A> {
-    ghost use Rattle.immediate.specs.Pending.{Pending};
-    ghost use Rattle.tileblock.specs.Surface.{IsWhole};
+    ghost use Rattle.immediate.specs.Held.{Held};
 
-    ghost Value = { Pending };
+    ghost Value = { Held };
 
-    ghost view = { λ c. record { surface = c.target; pending = c.pending } };
-
-    ghost invariant = { λ c. IsWhole c.target };
+    ghost view = { λ c. record { surface = c.output.surface; results = c.output.results; pending = c.pending } };
 }
 
 impl<A: Allocator + Copy + Send> ImmediateContext<A> {
@@ -83,13 +97,12 @@ impl<A: Allocator + Copy + Send> ImmediateContext<A> {
     pub fn new(alloc: A, width: u32, height: u32) -> Result<Self, GfxError>
         ensures answer { AnswersBy (size_rows (record { width = width; height = height })) result }
         ensures size { IfOk result (λ c. c.surface.size ≡ record { width = width; height = height }) }
-        ensures pending { IfOk result (λ c. c.pending ≡ []) }
-        ensures opening { IfOk result (λ c. (x y : ℕ) → x < width → y < height → shown c x y ≡ opening) }
+        ensures new { IfOk result (λ c. IsNew c.surface.size (context_of c)) }
     {
-        let target = Target::split(alloc, width, height)?;
+        let output = Output::new(alloc, width, height)?;
         Ok(ImmediateContext {
             alloc,
-            target,
+            output,
             pending: DeferredContext::new(alloc),
         })
     }
@@ -98,72 +111,241 @@ impl<A: Allocator + Copy + Send> ImmediateContext<A> {
     pub fn size(&self) -> Size
         ensures { result ≡ self.now.surface.size }
     {
-        self.target.size()
+        self.output.target().size()
     }
 
     /// The stored pixels: what the pixels hold, where no draw or clear is pending.
     pub fn target(&self) -> &Target<A>
         ensures target { result.now ≡ self.now.surface }
         ensures whole { IsWhole result.now }
+        ensures settled { (x y : ℕ) → list_any is_drawing self.now.pending ≡ false → pixel_of result.now x y ≡ shown self.now x y }
     {
-        &self.target
-    }
-
-    /// Runs the pending commands, and then those of a list.
-    fn run_behind(&mut self, more: &[Command<A>], restore: bool) -> Result<(), GfxError>
-        requires { AreAccepted (map command_value more.now) }
-        ensures { RunsPending (flush_rows (queries_open self.old.pending)) (items (map command_value more.now)) restore self.old self.new result }
-    {
-        if self.pending.has_open_queries() {
-            return Err(GfxError::QueryOpen);
-        }
-        let mut works = Vec::new(self.alloc);
-        add_commands(&mut works, self.pending.commands())?;
-        add_commands(&mut works, more)?;
-        begin_anew(&mut self.pending, restore)?;
-        run(&mut self.target, &works);
-        Ok(())
+        self.output.target()
     }
 
     /// Runs the pending commands. It changes no meaning, and leaves the kept state as the one pending command. Refused with
     /// QueryOpen, OutOfMemory.
     pub fn flush_alone(&mut self) -> Result<(), GfxError>
-        ensures { RunsPending (flush_rows (queries_open self.old.pending)) [] true self.old self.new result }
+        ensures { Runs (flush_rows (queries_open self.old.pending)) [] true self.old self.new result }
     {
-        let nothing: [Command<A>; 0] = [];
-        self.run_behind(&nothing, true)
+        if self.pending.has_open_queries() {
+            return Err(GfxError::QueryOpen);
+        }
+        run_pending_alone(&mut self.output, &mut self.pending)
     }
 
     /// Runs the pending commands, and then those of a list, which begins from the default state. With `restore` the
     /// state stays as it was, and without it becomes the default. Refused with QueryOpen, OutOfMemory.
     pub fn execute_alone(&mut self, list: &CommandList<A>, restore: bool) -> Result<(), GfxError>
-        ensures { RunsPending (flush_rows (queries_open self.old.pending)) (items list.now) restore self.old self.new result }
+        ensures { Runs (flush_rows (queries_open self.old.pending)) list.now restore self.old self.new result }
     {
-        self.run_behind(list.commands(), restore)
+        self.flush_alone()?;
+        self.output.run_alone(list.commands())?;
+        begin_anew(self.alloc, &mut self.pending, restore);
+        Ok(())
     }
 
     /// What a pixel holds after all accepted commands; it runs the pending ones. Refused with PixelRange, QueryOpen,
     /// OutOfMemory.
     pub fn pixel_alone(&mut self, x: u32, y: u32) -> Result<Pixel, GfxError>
-        ensures runs { RunsPending (pixel_rows self.old.surface.size (queries_open self.old.pending) x y) [] true self.old self.new result }
+        ensures runs { Runs (pixel_rows self.old.surface.size (queries_open self.old.pending) x y) [] true self.old self.new result }
         ensures value { IfOk result (λ p. p ≡ shown self.old x y) }
     {
-        let size = self.target.size();
+        let size = self.output.target().size();
         if x >= size.width || y >= size.height {
             return Err(GfxError::PixelRange);
         }
         self.flush_alone()?;
-        Ok(self.target.pixel(x, y))
+        Ok(self.output.target().pixel(x, y))
+    }
+
+    /// The count of the last issue of a query that has ended; it runs the pending commands. Refused with QueryNumber,
+    /// QueryOpen, NotIssued, OutOfMemory.
+    pub fn get_data_alone(&mut self, query: u32) -> Result<u64, GfxError>
+        ensures runs { Runs (query_rows (queries_open self.old.pending) (answered self.old query) query) [] true self.old self.new result }
+        ensures value { IfOk result (λ count. Some count ≡ answered self.old query) }
+    {
+        if query >= QUERY_LIMIT {
+            return Err(GfxError::QueryNumber);
+        }
+        if self.pending.has_open_queries() {
+            return Err(GfxError::QueryOpen);
+        }
+        if !self.is_issued(query) {
+            return Err(GfxError::NotIssued);
+        }
+        self.flush_alone()?;
+        Ok(self.counted(query))
+    }
+
+    /// Takes the next submission out of the ports, executes its list on the caller's thread, and names it by port and
+    /// number. It answers None where the queue is empty, and then nothing runs. Refused with QueryOpen, where nothing is
+    /// taken out, and OutOfMemory, where the submission comes back.
+    pub fn execute_next_alone<R: Wait>(
+        &mut self,
+        rt: &R,
+        ports: &Ports<CommandList<A>, A>,
+        drain: &mut DrainPass<CommandList<A>>,
+        restore: bool,
+    ) -> Result<Option<(u32, u64)>, (GfxError, Option<Submission<CommandList<A>>>)>
+        requires { drain.old.queue ≡ ports.now.queue }
+        ensures { ExecutesNext (flush_rows (queries_open self.old.pending)) restore self.old self.new drain.old drain.new result }
+    {
+        if self.pending.has_open_queries() {
+            return Err((GfxError::QueryOpen, None));
+        }
+        let Some(next) = ports.next(rt, drain) else {
+            return Ok(None);
+        };
+        match self.execute_alone(&next.list, restore) {
+            Ok(()) => Ok(Some((next.port, next.number))),
+            Err(refusal) => Err((refusal, Some(next))),
+        }
+    }
+
+    /// The stored count of a query, 0 where it has none.
+    fn counted(&self, query: u32) -> u64
+        ensures { result ≡ unwrap_or (result_at self.now.results query) 0 }
+    {
+        match self.output.result(query) {
+            Some(count) => count,
+            None => 0,
+        }
+    }
+
+    /// Whether a query has an issue, with no query open: one that ran, or a pending one.
+    fn is_issued(&self, query: u32) -> bool
+        ensures { result ≡ not (is_none (answered self.now query)) }
+    {
+        self.output.result(query).is_some() || some_begins(self.pending.commands(), query)
+    }
+}
+
+impl<A: Allocator + Copy + Send + Sync> ImmediateContext<A> {
+    /// `flush_alone` with as many threads beside the caller. Refused with QueryOpen, WorkerCount, OutOfMemory.
+    pub fn flush<R: Threads + Sync, G: Gate + Sync>(
+        &mut self,
+        rt: &R,
+        workers: u32,
+        gate: &G,
+    ) -> Result<(), GfxError>
+        ensures { Runs (flush_rows_by (worker_rows workers) (queries_open self.old.pending)) [] true self.old self.new result }
+    {
+        if self.pending.has_open_queries() {
+            return Err(GfxError::QueryOpen);
+        }
+        if workers > WORKER_LIMIT {
+            return Err(GfxError::WorkerCount);
+        }
+        run_pending(&mut self.output, &mut self.pending, rt, workers, gate)
+    }
+
+    /// `execute_alone` with as many threads beside the caller. Refused with QueryOpen, WorkerCount, OutOfMemory.
+    pub fn execute<R: Threads + Sync, G: Gate + Sync>(
+        &mut self,
+        rt: &R,
+        list: &CommandList<A>,
+        restore: bool,
+        workers: u32,
+        gate: &G,
+    ) -> Result<(), GfxError>
+        ensures { Runs (flush_rows_by (worker_rows workers) (queries_open self.old.pending)) list.now restore self.old self.new result }
+    {
+        self.flush(rt, workers, gate)?;
+        self.output
+            .run_with_workers(rt, list.commands(), workers, gate)?;
+        begin_anew(self.alloc, &mut self.pending, restore);
+        Ok(())
+    }
+
+    /// `pixel_alone` with as many threads beside the caller. Refused with PixelRange, QueryOpen, WorkerCount, OutOfMemory.
+    pub fn pixel<R: Threads + Sync, G: Gate + Sync>(
+        &mut self,
+        rt: &R,
+        x: u32,
+        y: u32,
+        workers: u32,
+        gate: &G,
+    ) -> Result<Pixel, GfxError>
+        ensures runs { Runs (pixel_rows_by (worker_rows workers) self.old.surface.size (queries_open self.old.pending) x y) [] true self.old self.new result }
+        ensures value { IfOk result (λ p. p ≡ shown self.old x y) }
+    {
+        let size = self.output.target().size();
+        if x >= size.width || y >= size.height {
+            return Err(GfxError::PixelRange);
+        }
+        self.flush(rt, workers, gate)?;
+        let target = self.output.target();
+        Ok(target.pixel(x, y))
+    }
+
+    /// `get_data_alone` with as many threads beside the caller. Refused with QueryNumber, QueryOpen, WorkerCount,
+    /// NotIssued, OutOfMemory.
+    pub fn get_data<R: Threads + Sync, G: Gate + Sync>(
+        &mut self,
+        rt: &R,
+        query: u32,
+        workers: u32,
+        gate: &G,
+    ) -> Result<u64, GfxError>
+        ensures runs { Runs (query_rows_by (worker_rows workers) (queries_open self.old.pending) (answered self.old query) query) [] true self.old self.new result }
+        ensures value { IfOk result (λ count. Some count ≡ answered self.old query) }
+    {
+        if query >= QUERY_LIMIT {
+            return Err(GfxError::QueryNumber);
+        }
+        if self.pending.has_open_queries() {
+            return Err(GfxError::QueryOpen);
+        }
+        if workers > WORKER_LIMIT {
+            return Err(GfxError::WorkerCount);
+        }
+        if !self.is_issued(query) {
+            return Err(GfxError::NotIssued);
+        }
+        self.flush(rt, workers, gate)?;
+        let count = self.counted(query);
+        Ok(count)
+    }
+
+    /// Takes the next submission out of the ports, executes its list with as many threads beside the caller, and names it
+    /// by port and number. It answers None where the queue is empty, and then nothing runs. Refused with QueryOpen,
+    /// WorkerCount, where nothing is taken out, and OutOfMemory, where the submission comes back.
+    pub fn execute_next<R: Threads + Wait + Sync, G: Gate + Sync>(
+        &mut self,
+        rt: &R,
+        ports: &Ports<CommandList<A>, A>,
+        drain: &mut DrainPass<CommandList<A>>,
+        restore: bool,
+        workers: u32,
+        gate: &G,
+    ) -> Result<Option<(u32, u64)>, (GfxError, Option<Submission<CommandList<A>>>)>
+        requires { drain.old.queue ≡ ports.now.queue }
+        ensures { ExecutesNext (flush_rows_by (worker_rows workers) (queries_open self.old.pending)) restore self.old self.new drain.old drain.new result }
+    {
+        if self.pending.has_open_queries() {
+            return Err((GfxError::QueryOpen, None));
+        }
+        if workers > WORKER_LIMIT {
+            return Err((GfxError::WorkerCount, None));
+        }
+        let Some(next) = ports.next(rt, drain) else {
+            return Ok(None);
+        };
+        match self.execute(rt, &next.list, restore, workers, gate) {
+            Ok(()) => Ok(Some((next.port, next.number))),
+            Err(refusal) => Err((refusal, Some(next))),
+        }
     }
 }
 
 impl<A: Allocator + Copy + Send> DeviceContext for ImmediateContext<A> {
     ghost use Rattle.std.specs.Prelude.{refl};
-    ghost use Rattle.immediate.specs.Pending.{pending_more};
+    ghost use Rattle.immediate.specs.Held.{held_more};
 
     ghost recorded = { λ context. context.pending };
 
-    ghost with = { pending_more };
+    ghost with = { held_more };
 
     fn record(&mut self, call: &Call<'_>) -> Result<(), GfxError> {
         self.pending.record(call)

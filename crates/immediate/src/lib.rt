@@ -2,17 +2,18 @@
 //! Learn, ID3D11DeviceContext, "Immediate and Deferred Rendering").
 //!
 //! Recorded commands are accepted at once and stay pending until a call runs them. The context stores no past command: it
-//! is seen by contracts as its target and its pending commands, and what a pixel holds by what folding the pending items
-//! onto the stored values gives. A run prepares each triangle once, and then takes each tile of the target, runs it
-//! through the interface of a tile job and puts it back, in the order of their numbers. The job here is the plain one: it
-//! folds the definition pixel by pixel, within each triangle's bounds, and is the slow reference.
+//! is seen by contracts as its target, the count of each query's last issue, and its pending commands; what a pixel holds
+//! and what a query answers is what running the pending commands on these gives.
+//!
+//! A run compiles the commands into a program for each tile that they touch, and hands those tiles out by a board, to the
+//! caller alone or to threads beside it. All that may be refused comes before the first tile is taken. The trick: where
+//! nothing is drawn, cleared or counted, a run touches no tile and compiles nothing, so questions on a settled context
+//! cost nothing.
 #![tactic(auto)]
 
 mod context;
-mod plain_job;
-mod prepare;
-#[cfg(test)]
-mod tests;
-mod work;
+mod counts;
+mod crew;
+mod output;
 
 pub use context::ImmediateContext;

@@ -1,4 +1,4 @@
--- What a player asks for lists of: the lines of a scene, and the queue by which its lists come, if they come by one.
+-- What lists are asked of: the lines of a scene, and the queue by which its lists come, if they come by one.
 use Rattle.std.specs.Prelude.{List, Option}
 use Rattle.atomic_table.specs.Seated.{TableId}
 use Rattle.scenetext.specs.Scene.{Line}

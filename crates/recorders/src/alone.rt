@@ -2,23 +2,23 @@
 
 ghost use Rattle.std.specs.Prelude.{◌≡◌, map, MatchBool};
 ghost use Rattle.scenetext.specs.Seen.{line_value};
-ghost use Rattle.recorders.specs.Apart.{listed};
-ghost use Rattle.recorders.specs.Ending.{AloneHolds, AloneLacks, AreRecorded};
+ghost use Rattle.recorders.specs.Ending.{AloneHolds, AloneLacks};
 
-use crate::ending::{Recorded, least_stop};
+use crate::ending::least_stop;
 use crate::four::Four;
 use crate::pair::record_pair;
-use crate::player::{Player, Shelves};
 use crate::received::port_number;
 use crate::shelf::{Pair, Shelf};
+use crate::shelves::Shelves;
+use crate::stop::Stop;
 use cmdlist::CommandList;
 use scenetext::Line;
 use std::alloc::{AllocError, Allocator};
 use std::marker::Model;
 
-/// The lists of all contexts.
+/// All deferred contexts of a scene, recorded: their lists, and the first line that one of them refused.
 #[derive(Drop)]
-struct Kept<'a, A: Allocator> {
+pub struct Kept<'a, A: Allocator> {
     lines: &'a [Line<A>],
     pairs: Four<Pair<A>>,
 }
@@ -36,9 +36,18 @@ impl<'a, A: Allocator> Model for Kept<'a, A> {
 }
 
 impl<'a, A: Allocator> Kept<'a, A> {
-    ghost use Rattle.std.specs.Prelude.{◌<◌};
+    ghost use Rattle.std.specs.Prelude.{◌<◌, ℕ, Option, MatchOption};
     ghost use Rattle.recorders.specs.Fours.{at_port};
     ghost use Rattle.recorders.specs.Pairs.{port_of, is_second, shelf_of};
+    ghost use Rattle.recorders.specs.Ending.{AloneLacks, AreRecorded};
+
+    /// The first line that a deferred context refused. A list that was missing is not finished before it.
+    pub fn stop(&self) -> Option<Stop>
+        ensures { (missing : Option (ℕ × ℕ)) → MatchOption missing (Unit {0}) (λ name. AloneLacks self.now name.0 name.1) → AreRecorded self.now.lines result missing }
+    {
+        let _ = &self.lines;
+        least_stop(&self.pairs)
+    }
 
     fn shelf(&self, context: u32) -> &Shelf<A>
         requires { context < 8 }
@@ -83,17 +92,11 @@ impl<'a, A: Allocator> Shelves<CommandList<A>> for Kept<'a, A> {
     }
 }
 
-/// Records all deferred contexts, and then lets the player take its lines. This waits for nobody.
-pub fn record_alone<A: Allocator + Copy, P: Player<CommandList<A>>>(
-    alloc: A,
-    lines: &[Line<A>],
-    player: P,
-) -> Recorded<P::Played>
-    requires { P.may_play player (listed (map line_value lines.now)) }
-    ensures recorded { AreRecorded (map line_value lines.now) result.stop (P.missing result.left) }
-    ensures played { P.plays player (listed (map line_value lines.now)) result.left }
+/// Records all deferred contexts. This waits for nobody.
+pub fn record_alone<A: Allocator + Copy>(alloc: A, lines: &[Line<A>]) -> Kept<'_, A>
+    ensures { result.lines ≡ map line_value lines.now }
 {
-    let mut kept = Kept {
+    Kept {
         lines,
         pairs: Four {
             zero: record_pair(alloc, lines, 0),
@@ -101,8 +104,5 @@ pub fn record_alone<A: Allocator + Copy, P: Player<CommandList<A>>>(
             two: record_pair(alloc, lines, 2),
             three: record_pair(alloc, lines, 3),
         },
-    };
-    let left = player.play(&mut kept);
-    let stop = least_stop(&kept.pairs);
-    Recorded { left, stop }
+    }
 }

@@ -27,7 +27,13 @@ fn call_of<A: Allocator>(verb: &Verb<A>) -> Option<Call<'_>>
         Verb::DrawIndexed(count, start, base) => Call::DrawIndexed(*count, *start, *base),
         Verb::ClearColor(rgba) => Call::ClearColor(*rgba),
         Verb::ClearDepthStencil(depth, stencil) => Call::ClearDepthStencil(*depth, *stencil),
-        Verb::Finish(_) | Verb::Flush | Verb::Execute(_, _, _) | Verb::Pixel(_, _) => return None,
+        Verb::Begin(query) => Call::Begin(*query),
+        Verb::End(query) => Call::End(*query),
+        Verb::Finish(_)
+        | Verb::Flush
+        | Verb::Execute(_, _, _)
+        | Verb::Query(_)
+        | Verb::Pixel(_, _) => return None,
     })
 }
 

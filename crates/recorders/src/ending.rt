@@ -8,14 +8,6 @@ use crate::shelf::Pair;
 use crate::stop::{Stop, earlier};
 use std::alloc::Allocator;
 
-/// What a player left, with all deferred contexts recorded.
-#[derive(Drop)]
-pub struct Recorded<T> {
-    pub left: T,
-    /// The first line that a deferred context refused.
-    pub stop: Option<Stop>,
-}
-
 /// The first of the four stops in the order of lines.
 pub(crate) fn least_stop<A: Allocator>(pairs: &Four<Pair<A>>) -> Option<Stop>
     ensures { result ≡ least_of pairs.now }

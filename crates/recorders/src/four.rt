@@ -4,7 +4,7 @@ ghost use Rattle.std.specs.Prelude.{◌≡◌, ◌<◌};
 ghost use Rattle.recorders.specs.Fours.{at_port};
 
 #[derive(Drop)]
-pub(crate) struct Four<T> {
+pub struct Four<T> {
     pub(crate) zero: T,
     pub(crate) one: T,
     pub(crate) two: T,

@@ -18,7 +18,7 @@ use workers::Gate;
 
 /// What a recorder hands over.
 #[derive(Drop)]
-pub(crate) struct Handed<A: Allocator> {
+pub struct Handed<A: Allocator> {
     pub(crate) pass: PortPass<CommandList<A>>,
     pub(crate) pair: Pair<A>,
 }

@@ -13,7 +13,7 @@ ghost use Rattle.recorders.specs.Receiving.{receipt_frame, receipt_right, Receip
 use crate::desk::{Desk, start};
 use crate::four::Four;
 use crate::pair::Handed;
-use crate::player::Shelves;
+use crate::shelves::Shelves;
 use cmdlist::CommandList;
 use port::{DrainPass, PortPass, Ports};
 use scenetext::Line;
@@ -65,7 +65,7 @@ fn join_at<'a, A: Allocator, R: Threads>(rt: &R, desks: &mut Four<Desk<'a, A>>, 
 
 /// Four desks, and what was taken out of the ports.
 #[derive(Drop)]
-pub(crate) struct Received<'a, A: Allocator, R: Threads + Wait> {
+pub struct Received<'a, A: Allocator, R: Threads + Wait> {
     rt: &'a R,
     lines: &'a [Line<A>],
     ports: &'a Ports<CommandList<A>, A>,
@@ -156,7 +156,7 @@ impl<'a, A: Allocator, R: Threads + Wait> Received<'a, A, R> {
     }
 
     /// Joins all recorders, and gives what they handed over.
-    pub(crate) fn close(self) -> (Four<Handed<A>>, DrainPass<CommandList<A>>)
+    pub fn close(self) -> (Four<Handed<A>>, DrainPass<CommandList<A>>)
         ensures handed { AreHanded self.entry.lines self.entry.queue result.0 }
         ensures lacks { (k n : ℕ) → k < 8 → ReceiptLacks self.entry k n → HandedLacks result.0 k n }
         ensures drain { result.1 ≡ drain_history self.entry.queue self.entry.taken }
@@ -231,7 +231,7 @@ impl<'a, A: Allocator, R: Threads + Wait> Shelves<CommandList<A>> for Received<'
 }
 
 /// Starts the four recorders.
-pub(crate) fn receive<
+pub fn receive<
     's,
     E,
     A: Allocator + Copy + Send + Sync + 's,

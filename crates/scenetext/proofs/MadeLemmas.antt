@@ -10,7 +10,7 @@ use Rattle.scenetext.specs.declared.range.Range.{Range}
 use Rattle.scenetext.specs.declared.range.TheConstants.{U32}
 use Rattle.scenetext.specs.declared.command.CommandWord.{CommandWord}
 use Rattle.scenetext.specs.declared.command.CommandWord.TheVariants as words
-use Rattle.scenetext.specs.Scene.{Verb, Call, Finish, Flush, Pixel}
+use Rattle.scenetext.specs.Scene.{Verb, Call, Finish, Flush, Query, Pixel}
 use Rattle.scenetext.specs.Commands.{name, serves, face_ranges, ranges}
 use Rattle.scenetext.specs.Spelling.{flag_number, raster_numbers, face_numbers, depth_stencil_numbers, blend_numbers, verb_words, may_take, IsVerb}
 use Rattle.scenetext.specs.Ranges.{IsIn, AreIn}
@@ -80,6 +80,15 @@ color_cleared ns = Call (gfx.ClearColor ns)
 
 abbrev pub depth_stencil_cleared : List ℕ → Verb
 depth_stencil_cleared ns = Call (gfx.ClearDepthStencil (get_or ns 0 0) (get_or ns 1 0))
+
+abbrev pub begun : List ℕ → Verb
+begun ns = Call (gfx.Begin (get_or ns 0 0))
+
+abbrev pub ended : List ℕ → Verb
+ended ns = Call (gfx.End (get_or ns 0 0))
+
+abbrev pub query_asked : List ℕ → Verb
+query_asked ns = Query (get_or ns 0 0)
 
 abbrev pub finished : List ℕ → Verb
 finished ns = Finish (flag_from (get_or ns 0 0))
@@ -162,6 +171,15 @@ color_made ns h = made_of words.Clearc ns ns (color_cleared ns) refl (λ im. ref
 
 pub clear_made : (ns : List ℕ) → AreIn (ranges words.Cleards) ns → IsMade words.Cleards ns (depth_stencil_cleared ns)
 clear_made ns h = made_plain words.Cleards ns (depth_stencil_cleared ns) refl (λ im. refl) (λ a. a) h
+
+pub begin_made : (ns : List ℕ) → AreIn (ranges words.Begin) ns → IsMade words.Begin ns (begun ns)
+begin_made ns h = made_plain words.Begin ns (begun ns) refl (λ im. refl) (λ a. a) h
+
+pub end_made : (ns : List ℕ) → AreIn (ranges words.End) ns → IsMade words.End ns (ended ns)
+end_made ns h = made_plain words.End ns (ended ns) refl (λ im. refl) (λ a. a) h
+
+pub query_made : (ns : List ℕ) → AreIn (ranges words.Query) ns → IsMade words.Query ns (query_asked ns)
+query_made ns h = made_plain words.Query ns (query_asked ns) refl (λ im. refl) (λ a. a) h
 
 pub finish_made : (ns : List ℕ) → AreIn (ranges words.Finish) ns → IsMade words.Finish ns (finished ns)
 finish_made ns h =

@@ -13,7 +13,7 @@ use Rattle.scenetext.specs.declared.range.Range.{Range}
 use Rattle.scenetext.specs.declared.range.TheConstants.{U32, FLAG}
 use Rattle.scenetext.specs.declared.command.CommandWord.{CommandWord}
 use Rattle.scenetext.specs.declared.command.CommandWord.TheVariants as words
-use Rattle.scenetext.specs.Scene.{Verb, Call, Finish, Flush, Execute, Pixel}
+use Rattle.scenetext.specs.Scene.{Verb, Call, Finish, Flush, Execute, Query, Pixel}
 use Rattle.scenetext.specs.Text.{is_printable, is_word}
 use Rattle.scenetext.specs.Numbers.{context_word, Kind, Context, is_context, fits_kind, fit, i32s}
 use Rattle.scenetext.specs.Commands.{vertex_kinds, OneOf, name, serves, ranges, shape, kinds_of, command_named}
@@ -24,7 +24,7 @@ use Rattle.scenetext.proofs.TextLemmas.{IsWordText, Lacks, and_left, and_right}
 use Rattle.scenetext.proofs.NumberLemmas.{IsWordText-decimal, IsWordText-signed_decimal, IsWordText-context, natural_fits, integer_fits, context_fits, small_signed, value-signed_decimal, value, number, context, value-decimal, natural_between, integer_is, context_is}
 use Rattle.scenetext.proofs.RangeLemmas.{are_small, length-AreIn, naturals_fit, naturals_texts, values_again, naturals_back}
 use Rattle.scenetext.proofs.ChoiceLemmas.{flag_from, flag_back, flag_again, topology_again}
-use Rattle.scenetext.proofs.MadeLemmas.{topology_set, raster_set, scissor_set, depth_stencil_set, blend_set, drawn, color_cleared, depth_stencil_cleared, finished, flushed, pixel_asked, IsMade, topology_made, raster_made, scissor_made, depth_stencil_made, blend_made, draw_made, color_made, clear_made, finish_made, flush_made, pixel_made, raster_again, depth_stencil_again, blend_again}
+use Rattle.scenetext.proofs.MadeLemmas.{topology_set, raster_set, scissor_set, depth_stencil_set, blend_set, drawn, color_cleared, depth_stencil_cleared, begun, ended, finished, flushed, query_asked, pixel_asked, IsMade, topology_made, raster_made, scissor_made, depth_stencil_made, blend_made, draw_made, color_made, clear_made, begin_made, end_made, finish_made, flush_made, query_made, pixel_made, raster_again, depth_stencil_again, blend_again}
 use Rattle.scenetext.proofs.GroupLemmas.{groups_found, vertices_from, vertices_texts, length-vertices, vertices_fit, vertices_again, groups_of, vertices_back, IsIndex, index_ranges, indices_small, indices_in, indices_are, singles_of}
 
 -- the verb of a command with these words
@@ -40,9 +40,12 @@ verb_from words.Draw ws = drawn (map value ws)
 verb_from words.Drawi ws = Call (gfx.DrawIndexed (value (word ws 0)) (value (word ws 1)) (number (word ws 2)))
 verb_from words.Clearc ws = color_cleared (map value ws)
 verb_from words.Cleards ws = depth_stencil_cleared (map value ws)
+verb_from words.Begin ws = begun (map value ws)
+verb_from words.End ws = ended (map value ws)
 verb_from words.Finish ws = finished (map value ws)
 verb_from words.Flush ws = flushed (map value ws)
 verb_from words.Exec ws = Execute (context (word ws 0)) (value (word ws 1)) (flag_from (value (word ws 2)))
+verb_from words.Query ws = query_asked (map value ws)
 verb_from words.Pixel ws = pixel_asked (map value ws)
 
 -- ---- from a verb to its words
@@ -147,9 +150,12 @@ verb_fits (Call (gfx.Draw count start)) h = naturals words.Draw drawn (count ∷
 verb_fits (Call (gfx.DrawIndexed count start base)) h = drawi_fits count start base h.0 h.1
 verb_fits (Call (gfx.ClearColor rgba)) h = naturals words.Clearc color_cleared rgba _ refl (λ im. refl) refl refl (λ ws. refl) refl h
 verb_fits (Call (gfx.ClearDepthStencil depth stencil)) h = naturals words.Cleards depth_stencil_cleared (depth ∷ stencil ∷ []) _ refl (λ im. refl) refl refl (λ ws. refl) refl h
+verb_fits (Call (gfx.Begin query)) h = naturals words.Begin begun (query ∷ []) _ refl (λ im. refl) refl refl (λ ws. refl) refl h
+verb_fits (Call (gfx.End query)) h = naturals words.End ended (query ∷ []) _ refl (λ im. refl) refl refl (λ ws. refl) refl h
 verb_fits (Finish restore) h = naturals words.Finish finished (flag_number restore ∷ []) _ refl (λ im. refl) refl refl (λ ws. refl) (ap Finish (flag_again restore)) h
 verb_fits Flush h = naturals words.Flush flushed [] _ refl (λ im. refl) refl refl (λ ws. refl) refl tt
 verb_fits (Execute context list restore) h = exec_fits context list restore h.0 h.1
+verb_fits (Query query) h = naturals words.Query query_asked (query ∷ []) _ refl (λ im. refl) refl refl (λ ws. refl) refl h
 verb_fits (Pixel x y) h = naturals words.Pixel pixel_asked (x ∷ y ∷ []) _ refl (λ im. refl) refl refl (λ ws. refl) refl h
 verb_fits v h = absurd h
 
@@ -243,11 +249,14 @@ backs words.Drawi ls ws found fits =
     drawi_backs ws g.0 (subst (λ ks. fit ks ws ≡ true) (sym g.1) fits)
 backs words.Clearc ls ws found fits = naturals_backs words.Clearc color_cleared refl refl (λ ws. refl) color_made ls ws found fits
 backs words.Cleards ls ws found fits = naturals_backs words.Cleards depth_stencil_cleared refl refl (λ ws. refl) clear_made ls ws found fits
+backs words.Begin ls ws found fits = naturals_backs words.Begin begun refl refl (λ ws. refl) begin_made ls ws found fits
+backs words.End ls ws found fits = naturals_backs words.End ended refl refl (λ ws. refl) end_made ls ws found fits
 backs words.Finish ls ws found fits = naturals_backs words.Finish finished refl refl (λ ws. refl) finish_made ls ws found fits
 backs words.Flush ls ws found fits = naturals_backs words.Flush flushed refl refl (λ ws. refl) flush_made ls ws found fits
 backs words.Exec ls ws found fits =
     let g = one_of (Context ∷ kinds (ranges words.Exec)) ls (length ws) found in
     exec_backs ws g.0 (subst (λ ks. fit ks ws ≡ true) (sym g.1) fits)
+backs words.Query ls ws found fits = naturals_backs words.Query query_asked refl refl (λ ws. refl) query_made ls ws found fits
 backs words.Pixel ls ws found fits = naturals_backs words.Pixel pixel_asked refl refl (λ ws. refl) pixel_made ls ws found fits
 
 -- ---- the names of commands
@@ -257,6 +266,7 @@ pub command_named-name : (c : CommandWord) (im : Bool) → serves c im ≡ true 
 command_named-name words.Finish im h = rw h refl
 command_named-name words.Flush im h = rw h refl
 command_named-name words.Exec im h = rw h refl
+command_named-name words.Query im h = rw h refl
 command_named-name words.Pixel im h = rw h refl
 command_named-name c im h = refl
 
@@ -280,7 +290,10 @@ IsWordText-name words.Draw = IsWordText-known (codes "draw") refl refl refl
 IsWordText-name words.Drawi = IsWordText-known (codes "drawi") refl refl refl
 IsWordText-name words.Clearc = IsWordText-known (codes "clearc") refl refl refl
 IsWordText-name words.Cleards = IsWordText-known (codes "cleards") refl refl refl
+IsWordText-name words.Begin = IsWordText-known (codes "begin") refl refl refl
+IsWordText-name words.End = IsWordText-known (codes "end") refl refl refl
 IsWordText-name words.Finish = IsWordText-known (codes "finish") refl refl refl
 IsWordText-name words.Flush = IsWordText-known (codes "flush") refl refl refl
 IsWordText-name words.Exec = IsWordText-known (codes "exec") refl refl refl
+IsWordText-name words.Query = IsWordText-known (codes "query") refl refl refl
 IsWordText-name words.Pixel = IsWordText-known (codes "pixel") refl refl refl

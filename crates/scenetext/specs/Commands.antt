@@ -2,14 +2,14 @@
 use Rattle.std.specs.Prelude.{ℕ, ◌==◌, ◌/◌, ◌%◌, Bool, true, ◌&&◌, not, List, [], ◌∷◌, ◌++◌, length, Option, Some, None, bytes_eq, codes, find, replicate, if◌then◌else◌}
 use Rattle.std.specs.List.{flat_map}
 use Rattle.scenetext.specs.declared.command.CommandWord.{CommandWord}
-use Rattle.scenetext.specs.declared.command.CommandWord.TheVariants.{Vb, Ib, Topology, Raster, Scissor, Ds, Blend, Draw, Drawi, Clearc, Cleards, Finish, Flush, Exec, Pixel}
+use Rattle.scenetext.specs.declared.command.CommandWord.TheVariants.{Vb, Ib, Topology, Raster, Scissor, Ds, Blend, Draw, Drawi, Clearc, Cleards, Begin, End, Finish, Flush, Exec, Query, Pixel}
 use Rattle.scenetext.specs.declared.range.Range.{Range}
 use Rattle.scenetext.specs.declared.range.TheConstants.{U32, BYTE, FLAG, INDEX, TOPOLOGY, CULL, COMPARISON, STENCIL_OP, LOGIC_OP, COLOR_MASK}
 use Rattle.scenetext.specs.Numbers.{Kind, Context, i32s}
 use Rattle.scenetext.specs.Ranges.{kinds}
 
 abbrev pub commands : List CommandWord
-commands = Vb ∷ Ib ∷ Topology ∷ Raster ∷ Scissor ∷ Ds ∷ Blend ∷ Draw ∷ Drawi ∷ Clearc ∷ Cleards ∷ Finish ∷ Flush ∷ Exec ∷ Pixel ∷ []
+commands = Vb ∷ Ib ∷ Topology ∷ Raster ∷ Scissor ∷ Ds ∷ Blend ∷ Draw ∷ Drawi ∷ Clearc ∷ Cleards ∷ Begin ∷ End ∷ Finish ∷ Flush ∷ Exec ∷ Query ∷ Pixel ∷ []
 
 abbrev pub name : CommandWord → List ℕ
 name Vb = codes "vb"
@@ -23,9 +23,12 @@ name Draw = codes "draw"
 name Drawi = codes "drawi"
 name Clearc = codes "clearc"
 name Cleards = codes "cleards"
+name Begin = codes "begin"
+name End = codes "end"
 name Finish = codes "finish"
 name Flush = codes "flush"
 name Exec = codes "exec"
+name Query = codes "query"
 name Pixel = codes "pixel"
 
 -- who may use a command: the immediate context (true) or a deferred one (false)
@@ -41,9 +44,12 @@ serves Draw immediate = true
 serves Drawi immediate = true
 serves Clearc immediate = true
 serves Cleards immediate = true
+serves Begin immediate = true
+serves End immediate = true
 serves Finish immediate = not immediate
 serves Flush immediate = immediate
 serves Exec immediate = immediate
+serves Query immediate = immediate
 serves Pixel immediate = immediate
 
 -- a face's three stencil operations (where the stencil test fails, where the depth test does, where both pass), and its comparison
@@ -63,9 +69,12 @@ ranges Draw = U32 ∷ U32 ∷ []
 ranges Drawi = U32 ∷ U32 ∷ []
 ranges Clearc = BYTE ∷ BYTE ∷ BYTE ∷ BYTE ∷ []
 ranges Cleards = U32 ∷ BYTE ∷ []
+ranges Begin = U32 ∷ []
+ranges End = U32 ∷ []
 ranges Finish = FLAG ∷ []
 ranges Flush = []
 ranges Exec = U32 ∷ FLAG ∷ []
+ranges Query = U32 ∷ []
 ranges Pixel = U32 ∷ U32 ∷ []
 
 -- the arguments of a command: one of some lists of kinds, or any number of groups

@@ -5,7 +5,7 @@ use Rattle.scenetext.specs.declared.scene.Actor.TheVariants as actors
 use Rattle.scenetext.specs.declared.scene.Verb as code_verb
 use Rattle.scenetext.specs.declared.scene.Verb.TheVariants as verbs
 use Rattle.scenetext.specs.declared.scene.Line as code_line
-use Rattle.scenetext.specs.Scene.{Actor, Immediate, Deferred, Verb, Call, Finish, Flush, Execute, Pixel, Line}
+use Rattle.scenetext.specs.Scene.{Actor, Immediate, Deferred, Verb, Call, Finish, Flush, Execute, Query, Pixel, Line}
 
 abbrev pub actor_value : code_actor.Actor → Actor
 actor_value actors.Immediate = Immediate
@@ -23,9 +23,12 @@ verb_value (verbs.Draw count start) = Call (gfx.Draw count start)
 verb_value (verbs.DrawIndexed count start base) = Call (gfx.DrawIndexed count start base)
 verb_value (verbs.ClearColor rgba) = Call (gfx.ClearColor rgba)
 verb_value (verbs.ClearDepthStencil depth stencil) = Call (gfx.ClearDepthStencil depth stencil)
+verb_value (verbs.Begin query) = Call (gfx.Begin query)
+verb_value (verbs.End query) = Call (gfx.End query)
 verb_value (verbs.Finish restore) = Finish restore
 verb_value verbs.Flush = Flush
 verb_value (verbs.Execute context list restore) = Execute context list restore
+verb_value (verbs.Query query) = Query query
 verb_value (verbs.Pixel x y) = Pixel x y
 
 abbrev pub line_value : {A : Type 0} → code_line.Line A → Line

@@ -52,7 +52,7 @@ blend_numbers b = flag_number b.logic ∷ logic_op_number b.op ∷ b.mask ∷ []
 abbrev pub rect_numbers : PixelRect → List ℕ
 rect_numbers r = r.left ∷ r.top ∷ r.right ∷ r.bottom ∷ []
 
--- the command word of a verb, and its arguments in order; a verb that has no word yet has none
+-- the command word of a verb, and its arguments in order; kept settings have no word
 abbrev pub verb_words : Verb → List (List ℕ)
 verb_words (Call (gfx.SetVertices vertices)) = codes "vb" ∷ flat_map vertex_words vertices
 verb_words (Call (gfx.SetIndices indices)) = codes "ib" ∷ map decimal indices
@@ -65,9 +65,12 @@ verb_words (Call (gfx.Draw count start)) = codes "draw" ∷ decimal count ∷ de
 verb_words (Call (gfx.DrawIndexed count start base)) = codes "drawi" ∷ decimal count ∷ decimal start ∷ signed_decimal base ∷ []
 verb_words (Call (gfx.ClearColor rgba)) = codes "clearc" ∷ map decimal rgba
 verb_words (Call (gfx.ClearDepthStencil depth stencil)) = codes "cleards" ∷ decimal depth ∷ decimal stencil ∷ []
+verb_words (Call (gfx.Begin query)) = codes "begin" ∷ decimal query ∷ []
+verb_words (Call (gfx.End query)) = codes "end" ∷ decimal query ∷ []
 verb_words (Finish restore) = codes "finish" ∷ decimal (flag_number restore) ∷ []
 verb_words Flush = codes "flush" ∷ []
 verb_words (Execute context list restore) = codes "exec" ∷ context_word context ∷ decimal list ∷ decimal (flag_number restore) ∷ []
+verb_words (Query query) = codes "query" ∷ decimal query ∷ []
 verb_words (Pixel x y) = codes "pixel" ∷ decimal x ∷ decimal y ∷ []
 verb_words v = []
 
@@ -94,7 +97,7 @@ pub record IsVertex (v : Vertex) : Type 0 where
   pub y : FitsSigned w32 v.y
   pub others : AreIn (ranges commands.Vb) (v.z ∷ v.rgba)
 
--- the values that the arguments may have: numbers in the ranges of the command; a verb that has no word yet has no spelling, nor has a depth bias
+-- the values that the arguments may have: numbers in the ranges of the command; kept settings have no spelling, nor has a depth bias
 abbrev pub IsVerb : Verb → Type 0
 IsVerb (Call (gfx.SetVertices vertices)) = AllByRecursion IsVertex vertices
 IsVerb (Call (gfx.SetIndices indices)) = AllByRecursion (λ i. AreIn (ranges commands.Ib) (i ∷ [])) indices
@@ -107,9 +110,12 @@ IsVerb (Call (gfx.Draw count start)) = AreIn (ranges commands.Draw) (count ∷ s
 IsVerb (Call (gfx.DrawIndexed count start base)) = AreIn (ranges commands.Drawi) (count ∷ start ∷ []) × FitsSigned w32 base
 IsVerb (Call (gfx.ClearColor rgba)) = AreIn (ranges commands.Clearc) rgba
 IsVerb (Call (gfx.ClearDepthStencil depth stencil)) = AreIn (ranges commands.Cleards) (depth ∷ stencil ∷ [])
+IsVerb (Call (gfx.Begin query)) = AreIn (ranges commands.Begin) (query ∷ [])
+IsVerb (Call (gfx.End query)) = AreIn (ranges commands.End) (query ∷ [])
 IsVerb (Finish restore) = AreIn (ranges commands.Finish) (flag_number restore ∷ [])
 IsVerb Flush = Unit {0}
 IsVerb (Execute context list restore) = (context < 8) × AreIn (ranges commands.Exec) (list ∷ flag_number restore ∷ [])
+IsVerb (Query query) = AreIn (ranges commands.Query) (query ∷ [])
 IsVerb (Pixel x y) = AreIn (ranges commands.Pixel) (x ∷ y ∷ [])
 IsVerb v = ⊥
 

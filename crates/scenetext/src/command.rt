@@ -16,9 +16,12 @@ pub enum CommandWord {
     Drawi,
     Clearc,
     Cleards,
+    Begin,
+    End,
     Finish,
     Flush,
     Exec,
+    Query,
     Pixel,
 }
 
@@ -42,9 +45,12 @@ impl CommandWord {
             b"drawi" => Some(CommandWord::Drawi),
             b"clearc" => Some(CommandWord::Clearc),
             b"cleards" => Some(CommandWord::Cleards),
+            b"begin" => Some(CommandWord::Begin),
+            b"end" => Some(CommandWord::End),
             b"finish" if !immediate => Some(CommandWord::Finish),
             b"flush" if immediate => Some(CommandWord::Flush),
             b"exec" if immediate => Some(CommandWord::Exec),
+            b"query" if immediate => Some(CommandWord::Query),
             b"pixel" if immediate => Some(CommandWord::Pixel),
             _ => None,
         }

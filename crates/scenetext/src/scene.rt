@@ -104,11 +104,17 @@ pub enum Verb<A: Allocator> {
     ClearColor([u8; 4]),
     /// Depth and stencil.
     ClearDepthStencil(u32, u8),
+    /// The number of a query.
+    Begin(u32),
+    /// The number of a query.
+    End(u32),
     /// Whether the context keeps its state for the next list.
     Finish(bool),
     Flush,
     /// The deferred context, the number of its list, and whether the immediate context keeps its state.
     Execute(u32, u32, bool),
+    /// The number of a query.
+    Query(u32),
     /// Its place, counted from the left and from the top.
     Pixel(u32, u32),
 }

@@ -291,6 +291,33 @@ i exec d3 0 0
 i pixel 0 0
 ";
 
+const QUERIES: &str = "target 1 1
+d3 begin 0
+d3 end 63
+i begin 4294967295
+i end 64
+i query 0
+i query 4294967295
+";
+
+#[test]
+fn queries(rt: HostRuntime) -> Result<(), Fail> {
+    let scene = scene(&rt, QUERIES)?;
+    if let [begin, end, own_begin, own_end, first, last] = scene.lines.as_slice() {
+        assert_eq!(rt; begin.actor, Actor::Deferred(3));
+        assert!(rt; matches!(begin.verb, Verb::Begin(0)));
+        assert!(rt; matches!(end.verb, Verb::End(63)));
+        assert_eq!(rt; own_begin.actor, Actor::Immediate);
+        assert!(rt; matches!(own_begin.verb, Verb::Begin(4294967295)));
+        assert!(rt; matches!(own_end.verb, Verb::End(64)));
+        assert!(rt; matches!(first.verb, Verb::Query(0)));
+        assert!(rt; matches!(last.verb, Verb::Query(4294967295)));
+    } else {
+        panic!(rt; "six lines")
+    }
+    Ok(())
+}
+
 // Lists are numbered by their context's own lines; the greatest numbers that may stand.
 const MANY_LISTS: &str = "target 4294967295 4294967295
 d0 finish 1
@@ -321,6 +348,7 @@ fn rows_read_and_written_again(rt: HostRuntime) -> Result<(), Fail> {
         LIST_INHERITS_NOTHING,
         DEFAULTS,
         OUTPUT,
+        QUERIES,
         MANY_LISTS,
     ] {
         let scene = scene(&rt, text)?;
@@ -406,9 +434,8 @@ const LATER_LINES: &str = "101\x20
 104 d0 exec d0 0 1
 104 d0 flush
 104 d0 pixel 0 0
-104 i begin 0
-104 i end 0
-104 i query 0
+104 d0 query 0
+104 i begins 0
 104 i predicate
 105 i vb a b
 105 i vb 1 2 3 4 5 6 7 8
@@ -425,6 +452,12 @@ const LATER_LINES: &str = "101\x20
 105 i drawi 3 0
 105 i clearc 1 2 3
 105 i cleards 1
+105 i begin
+105 d0 begin 0 0
+105 i end
+105 d0 end x y
+105 i query
+105 i query 0 0
 105 d0 finish
 105 i flush 0
 105 i exec d9 0
@@ -467,6 +500,12 @@ const LATER_LINES: &str = "101\x20
 106 i drawi 0 0 -
 106 i clearc 0 0 0 256
 106 i cleards 0 256
+106 i begin 4294967296
+106 d0 begin -1
+106 i end 01
+106 d7 end 4294967296
+106 i query x
+106 i query 4294967296
 106 d0 finish 2
 106 i exec d9 0 1
 106 i exec 0 0 1

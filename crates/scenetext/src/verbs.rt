@@ -165,6 +165,22 @@ fn clear_depth_stencil<A: Allocator>(words: &mut Words) -> Result<Verb<A>, ReadE
     Ok(Verb::ClearDepthStencil(depth, stencil as u8))
 }
 
+fn begin<A: Allocator>(words: &mut Words) -> Result<Verb<A>, ReadError>
+    ensures ok { IfOk result (λ v. Reads CommandWord.Begin words.old (verb_value v)) }
+    ensures err { IfErr result (Refuses CommandWord.Begin words.old) }
+{
+    let [number] = naturals(words, [U32])?;
+    Ok(Verb::Begin(number))
+}
+
+fn end<A: Allocator>(words: &mut Words) -> Result<Verb<A>, ReadError>
+    ensures ok { IfOk result (λ v. Reads CommandWord.End words.old (verb_value v)) }
+    ensures err { IfErr result (Refuses CommandWord.End words.old) }
+{
+    let [number] = naturals(words, [U32])?;
+    Ok(Verb::End(number))
+}
+
 fn finish<A: Allocator>(words: &mut Words) -> Result<Verb<A>, ReadError>
     ensures ok { IfOk result (λ v. Reads CommandWord.Finish words.old (verb_value v)) }
     ensures err { IfErr result (Refuses CommandWord.Finish words.old) }
@@ -189,6 +205,14 @@ fn execute<A: Allocator>(words: &mut Words) -> Result<Verb<A>, ReadError>
     let context = next_context(words)?;
     let [list, restore] = next_naturals(words, [U32, FLAG])?;
     Ok(Verb::Execute(context, list, restore == 1))
+}
+
+fn query<A: Allocator>(words: &mut Words) -> Result<Verb<A>, ReadError>
+    ensures ok { IfOk result (λ v. Reads CommandWord.Query words.old (verb_value v)) }
+    ensures err { IfErr result (Refuses CommandWord.Query words.old) }
+{
+    let [number] = naturals(words, [U32])?;
+    Ok(Verb::Query(number))
 }
 
 fn pixel<A: Allocator>(words: &mut Words) -> Result<Verb<A>, ReadError>
@@ -220,9 +244,12 @@ pub fn verb_of<A: Allocator>(
         CommandWord::Drawi => draw_indexed(words),
         CommandWord::Clearc => clear_color(words),
         CommandWord::Cleards => clear_depth_stencil(words),
+        CommandWord::Begin => begin(words),
+        CommandWord::End => end(words),
         CommandWord::Finish => finish(words),
         CommandWord::Flush => flush(words),
         CommandWord::Exec => execute(words),
+        CommandWord::Query => query(words),
         CommandWord::Pixel => pixel(words),
     }
 }

@@ -1,9 +1,10 @@
-pub mod Recordings
-pub mod Quiet
-pub mod Played
-pub mod Recorders
-pub mod Reaching
-pub mod Endings
-pub mod Drawing
+pub mod Rows
 pub mod Spelled
-mod Rows
+pub mod Played
+pub mod Reaching
+pub mod Tellings
+pub mod OwnSteps
+pub mod Endings
+pub mod Ends
+pub mod Drawing
+pub mod Workers

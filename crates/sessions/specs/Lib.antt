@@ -1,8 +1,7 @@
 pub mod Lists
-pub mod Recording
 pub mod Answers
-pub mod Quiet
-pub mod Taking
 pub mod Playing
+pub mod Telling
+pub mod Owning
 pub mod Writing
 pub mod Performing

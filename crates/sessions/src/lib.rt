@@ -1,15 +1,22 @@
-//! Sessions.
+//! Sessions: a whole script, from its bytes to the answer lines and the image.
+//!
+//! The deferred contexts are recorded apart (crate recorders), and the immediate context takes its own lines and asks for
+//! their lists. It may answer lines behind one that another context refuses, so each answer keeps the place of its line; in
+//! the end the least refused line counts, and the answers are cut there. `session_alone` records first and draws then, on
+//! the caller's thread; `session` draws while up to four threads record, with workers beside the caller.
 #![tactic(auto)]
 
 mod answer_text;
-mod calls;
+mod answers;
+mod bytes;
+mod crewed;
+mod ending;
 mod outcome;
+mod own;
 mod perform;
-mod play;
-mod recorder;
-mod session;
 #[cfg(test)]
 mod tests;
+mod threads;
 
+pub use bytes::{session, session_alone};
 pub use outcome::{Ended, SessionFault};
-pub use session::session_alone;

@@ -1,2 +1,3 @@
 mod OperandLemmas
 mod WordLemmas
+mod WorkersLemmas

@@ -1,4 +1,4 @@
-//! The program `tiledraw SCRIPT OUT.tga`: draws a script, prints its answers and writes its image.
+//! The program `tiledraw SCRIPT OUT.tga [--workers N]`: draws a script, prints its answers and writes its image.
 //!
 //! The exit status is 0 where the script was drawn, 1 where one of its lines was refused (the last answer line says
 //! which), 2 where the words are wrong or ask for help, and 3 where a file could not be read or written.
@@ -10,18 +10,21 @@ mod settings;
 #[cfg(test)]
 mod tests;
 
-ghost use Rattle.std.specs.Prelude.{◌≡◌};
+ghost use Rattle.std.specs.Prelude.{◌≡◌, ◌<◌, ◌≤◌, ◌^◌, IfOk};
 ghost use Rattle.std.specs.Process.{exit_status};
 ghost use Rattle.tiledraw.specs.Report.{reported};
 
-use gfxspec::{FromRead, ToWrite};
+use gfxspec::{FromRead, Sink, Source, ToWrite};
 use sessions::{Ended, SessionFault};
 use settings::{Settings, SettingsFault};
 use std::env::Env;
 use std::fs::File;
 use std::process::ExitCode;
 use std::rt::Files;
+use std::sync::Wait;
+use std::thread::Threads;
 use std::{env, io};
+use workers::NoGate;
 
 fn main(rt: HostRuntime) -> ExitCode {
     match asked(&rt) {
@@ -31,7 +34,9 @@ fn main(rt: HostRuntime) -> ExitCode {
 }
 
 /// The settings that the program's words ask for.
-fn asked<R: Env + AllocGlobal>(rt: &R) -> Result<Settings, SettingsFault> {
+fn asked<R: Env + AllocGlobal>(rt: &R) -> Result<Settings, SettingsFault>
+    ensures few { IfOk result (λ s. s.workers ≤ 15) }
+{
     let words = words(rt)?;
     command_line::settings(rt.alloc(), words.as_slice())
 }
@@ -51,10 +56,12 @@ fn words<R: Env + AllocGlobal>(rt: &R) -> Result<Vec<String>, SettingsFault> {
 }
 
 /// Draws the script of one file into the image of another, and prints the answers.
-fn drawn<R: Files + Print + AllocGlobal>(
+fn drawn<R: Files + Print + AllocGlobal + Threads + Wait + Sync>(
     rt: &R,
     settings: &Settings,
-) -> Result<Ended, SessionFault> {
+) -> Result<Ended, SessionFault>
+    requires few { settings.now.workers ≤ 15 }
+{
     let Ok(script) = File::open(rt, settings.script.as_str()) else {
         return Err(SessionFault::Read);
     };
@@ -64,7 +71,23 @@ fn drawn<R: Files + Print + AllocGlobal>(
     let mut script = FromRead::new(script);
     let mut image = ToWrite::new(image);
     let mut lines = ToWrite::new(io::writer(rt));
-    sessions::session_alone(rt.alloc(), &mut script, &mut image, &mut lines)
+    run(rt, &mut script, &mut image, &mut lines, settings.workers)
+}
+
+/// Runs the session, with workers beside the caller.
+fn run<R: AllocGlobal + Threads + Wait + Sync, S: Source, I: Sink, L: Sink>(
+    rt: &R,
+    script: &mut S,
+    image: &mut I,
+    lines: &mut L,
+    workers: u32,
+) -> Result<Ended, SessionFault>
+    requires few { workers ≤ 15 }
+    requires script { S.failures script.old < 2 ^ 63 }
+    requires image { I.failures image.old < 2 ^ 63 }
+    requires lines { L.failures lines.old < 2 ^ 63 }
+{
+    sessions::session(rt, rt.alloc(), script, image, lines, workers, &NoGate)
 }
 
 /// Says how the session ended, where there is something to say, and gives the exit status.

@@ -11,7 +11,7 @@ pub struct Settings {
     pub script: String,
     /// The file that the image is written to.
     pub image: String,
-    /// How many workers draw beside the caller: none.
+    /// How many workers draw beside the caller, 0 to 15.
     pub workers: u32,
 }
 

@@ -64,6 +64,51 @@ fn other_words_are_unknown(rt: HostRuntime) {
     assert!(rt; kind_of(rt.alloc(), &["a", "b", "--size"]) == unknown);
 }
 
+fn workers_of(alloc: Global, words: &[&str]) -> Option<u32> {
+    match asked(alloc, words) {
+        Ok(settings) => Some(settings.workers),
+        Err(_) => None,
+    }
+}
+
+#[test]
+fn workers_are_from_0_to_15(rt: HostRuntime) {
+    let alloc = rt.alloc();
+    let invalid = Some(ErrorKind::ValueValidation);
+    assert_eq!(rt; workers_of(alloc, &["a", "b", "--workers", "0"]), Some(0));
+    assert_eq!(rt; workers_of(alloc, &["a", "b", "--workers", "15"]), Some(15));
+    assert!(rt; kind_of(alloc, &["a", "b", "--workers", "16"]) == invalid);
+    assert!(rt; kind_of(alloc, &["a", "b", "--workers", "18446744073709551616"]) == invalid);
+    assert!(rt; kind_of(alloc, &["a", "b", "--workers=-1"]) == invalid);
+    assert!(rt; kind_of(alloc, &["a", "b", "--workers", "two"]) == invalid);
+    assert!(rt; kind_of(alloc, &["a", "b", "--workers", "1.0"]) == invalid);
+    assert!(rt; kind_of(alloc, &["a", "b", "--workers", ""]) == invalid);
+}
+
+#[test]
+fn workers_stand_anywhere_before_two_hyphens(rt: HostRuntime) {
+    let alloc = rt.alloc();
+    assert_eq!(rt; workers_of(alloc, &["--workers", "3", "a", "b"]), Some(3));
+    assert_eq!(rt; workers_of(alloc, &["a", "--workers", "3", "b"]), Some(3));
+    assert_eq!(rt; workers_of(alloc, &["a", "--workers=3", "b"]), Some(3));
+    assert_eq!(rt;
+        workers_of(alloc, &["--workers", "3", "--", "a", "b"]),
+        Some(3)
+    );
+    assert_eq!(rt; workers_of(alloc, &["--", "--workers", "3"]), Some(0));
+}
+
+#[test]
+fn workers_are_asked_for_once(rt: HostRuntime) {
+    let twice = ["--workers", "1", "a", "b", "--workers=2"];
+    let alloc = rt.alloc();
+    assert!(rt; kind_of(alloc, twice.as_slice()) == Some(ErrorKind::ArgumentConflict));
+    assert!(rt; kind_of(alloc, &["a", "b", "--workers"]) == Some(ErrorKind::InvalidValue));
+    assert!(rt; kind_of(alloc, &["a", "b", "--workers="]) == Some(ErrorKind::ValueValidation));
+    assert!(rt; kind_of(alloc, &["a", "b", "--workers", "-1"]) == Some(ErrorKind::UnknownArgument));
+    assert!(rt; kind_of(alloc, &["a", "b", "-w", "1"]) == Some(ErrorKind::UnknownArgument));
+}
+
 #[test]
 fn help_is_asked_for_by_two_words(rt: HostRuntime) {
     let help = Some(ErrorKind::DisplayHelp);
@@ -77,14 +122,28 @@ fn help_names_the_operands(rt: HostRuntime) -> Result<(), Fail> {
     let text = format!(in rt.alloc(); "{error}")?;
     let expected = "Draws a script by a software Direct3D 11 device
 
-Usage: tiledraw <SCRIPT> <OUT.tga>
+Usage: tiledraw [OPTIONS] <SCRIPT> <OUT.tga>
 
 Arguments:
   <SCRIPT>   The script to draw
   <OUT.tga>  The Truevision TGA image to write
 
 Options:
-  -h, --help  Print help
+      --workers <N>  How many workers draw beside the caller, 0 to 15 [default: 0]
+  -h, --help         Print help
+";
+    assert_eq!(rt; text.as_str(), expected);
+    Ok(())
+}
+
+#[test]
+fn too_many_workers_have_a_text(rt: HostRuntime) -> Result<(), Fail> {
+    let words = ["a", "b", "--workers", "16"];
+    let error = fault_of(rt.alloc(), words.as_slice()).ok_or(AllocError)?;
+    let text = format!(in rt.alloc(); "{error}")?;
+    let expected = "error: invalid value '16' for '--workers <N>': 16 is not in 0..=15
+
+For more information, try '--help'.
 ";
     assert_eq!(rt; text.as_str(), expected);
     Ok(())
@@ -96,7 +155,7 @@ fn a_word_that_is_not_text_has_a_text(rt: HostRuntime) -> Result<(), Fail> {
     let text = format!(in rt.alloc(); "{error}")?;
     let expected = "error: invalid UTF-8 was detected in one or more arguments
 
-Usage: tiledraw <SCRIPT> <OUT.tga>
+Usage: tiledraw [OPTIONS] <SCRIPT> <OUT.tga>
 
 For more information, try '--help'.
 ";

@@ -3,7 +3,7 @@
 ghost use Rattle.std.specs.Prelude.{◌≡◌, ◌≤◌, length};
 ghost use Rattle.tilerun.specs.Touched.{AreTiles};
 
-use crate::tile::{DoneTile, run_tile};
+use crate::tile::{count_of, run_tile};
 use binner::Compiled;
 use std::alloc::Allocator;
 use tileblock::{OpenTile, TileBlock};
@@ -27,11 +27,13 @@ pub struct PlacedTile<A: Allocator> {
     tile: OpenTile<A>,
 }
 
-/// A tile that ran at its place.
+/// A tile that ran at its place: its block, and the counts of the 64 issues. It is handed from thread to thread, which
+/// what a `DoneTile` remembers of its program is not made for.
 #[derive(Drop)]
 pub struct RunTile<A: Allocator> {
     place: u32,
-    tile: DoneTile<A>,
+    block: TileBlock<A>,
+    counts: [u32; 64],
 }
 
 impl<'a, A: Allocator + Copy> TileProgram<'a, A> {
@@ -65,14 +67,14 @@ impl<'a, A: Allocator + Copy + Send> TileJob for TileProgram<'a, A> {
 
     ghost done_number = { λ done. done.place };
 
-    ghost done_count = { λ done issue. slice_index done.tile.counts issue };
+    ghost done_count = { λ done issue. slice_index done.counts issue };
 
     ghost fits = { λ job tile. (get_elem? job.compiled.now.touched tile.place ≡ some tile.tile.number)
         × (tile.tile.block.rect ≡ tile_rect job.compiled.now.size tile.tile.number) };
 
     ghost gives = { λ job tile done. (done.place ≡ tile.place)
         × (get_elem? job.compiled.now.touched tile.place ≡ some tile.tile.number)
-        × TileRan job.compiled.now tile.tile.number tile.tile.block done.tile.block done.tile.counts };
+        × TileRan job.compiled.now tile.tile.number tile.tile.block done.block done.counts };
 
     fn tiles(&self) -> u32 {
         self.compiled.touched().len() as u32
@@ -95,16 +97,18 @@ impl<'a, A: Allocator + Copy + Send> TileJob for TileProgram<'a, A> {
     }
 
     fn count(done: &RunTile<A>, issue: u32) -> u64
-        ensures { result ≡ slice_index done.now.tile.counts issue }
+        ensures { result ≡ slice_index done.now.counts issue }
     {
-        done.tile.count(issue)
+        count_of(&done.counts, issue)
     }
 
     fn run(&self, tile: PlacedTile<A>) -> RunTile<A> {
         let PlacedTile { place, tile } = tile;
+        let (block, counts) = run_tile(self.compiled, tile).into_parts();
         RunTile {
             place,
-            tile: run_tile(self.compiled, tile),
+            block,
+            counts,
         }
     }
 
@@ -138,7 +142,7 @@ impl<'a, A: Allocator + Copy + Send> BlockJob for TileProgram<'a, A> {
 
     ghost open_block = { λ tile. tile.tile.block };
 
-    ghost done_block = { λ done. done.tile.block };
+    ghost done_block = { λ done. done.block };
 
     ghost drawn = { λ job. pixel_by job.compiled.now };
 
@@ -163,10 +167,9 @@ impl<'a, A: Allocator + Copy + Send> BlockJob for TileProgram<'a, A> {
     }
 
     fn into_block(done: RunTile<A>) -> TileBlock<A>
-        ensures { result ≡ done.tile.block }
+        ensures { result ≡ done.block }
     {
-        let RunTile { place: _, tile } = done;
-        tile.into_block()
+        done.block
     }
 
     ghost use Rattle.std.specs.Prelude.{slice_index};
@@ -177,10 +180,10 @@ impl<'a, A: Allocator + Copy + Send> BlockJob for TileProgram<'a, A> {
     ghost keeps_rect = { λ job tile done h. h.2.rect };
 
     ghost draws = { λ job tile done t x y h at inside. subst
-        (λ n. pixel_at done.tile.block x y ≡ pixel_by job.compiled.now n x y (pixel_at tile.tile.block x y))
+        (λ n. pixel_at done.block x y ≡ pixel_by job.compiled.now n x y (pixel_at tile.tile.block x y))
         (some-injective tile.tile.number t (sym h.1 ∙ at)) (h.2.pixels x y inside) };
 
     ghost counts = { λ job tile done t issue opening h at less agree. subst
-        (λ n. slice_index done.tile.counts issue ≡ count_by job.compiled.now n issue opening)
+        (λ n. slice_index done.counts issue ≡ count_by job.compiled.now n issue opening)
         (some-injective tile.tile.number t (sym h.1 ∙ at)) (h.2.counts issue opening less agree) };
 }

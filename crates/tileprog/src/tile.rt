@@ -1,6 +1,6 @@
 //! A tile before and after its program.
 
-ghost use Rattle.std.specs.Prelude.{◌≡◌, ◌<◌};
+ghost use Rattle.std.specs.Prelude.{◌≡◌, ◌<◌, slice_index};
 ghost use Rattle.gfxspec.specs.Tiles.{tile_count, tile_rect};
 ghost use Rattle.tileprog.specs.Runs.{RunsTo};
 
@@ -42,6 +42,16 @@ pub fn run_tile<A: Allocator + Copy>(compiled: &Compiled<A>, tile: OpenTile<A>) 
     }
 }
 
+/// The count of an issue; 0 for an issue past the 64.
+pub(crate) fn count_of(counts: &[u32; 64], issue: u32) -> u64
+    ensures { result ≡ slice_index counts.now issue }
+{
+    match counts.get(issue as usize) {
+        Some(count) => u64::from(*count),
+        None => 0,
+    }
+}
+
 impl<A: Allocator> DoneTile<A> {
     ghost use Rattle.std.specs.Prelude.{◌≡◌, ◌<◌, slice_index};
 
@@ -56,10 +66,7 @@ impl<A: Allocator> DoneTile<A> {
     pub fn count(&self, issue: u32) -> u64
         ensures { result ≡ slice_index self.now.counts issue }
     {
-        match self.counts.get(issue as usize) {
-            Some(count) => u64::from(*count),
-            None => 0,
-        }
+        count_of(&self.counts, issue)
     }
 
     /// The block that the program left.
@@ -67,5 +74,13 @@ impl<A: Allocator> DoneTile<A> {
         ensures { result ≡ self.block }
     {
         self.block
+    }
+
+    /// The block that the program left, and the counts of the 64 issues.
+    pub(crate) fn into_parts(self) -> (TileBlock<A>, [u32; 64])
+        ensures block { result.0 ≡ self.block }
+        ensures counts { result.1 ≡ self.counts }
+    {
+        (self.block, self.counts)
     }
 }

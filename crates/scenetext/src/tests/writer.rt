@@ -51,6 +51,9 @@ fn write_plain(text: &mut String, verb: &Verb<Global>) -> Result<(), AllocError>
             write!(text, "clearc {red} {green} {blue} {alpha}")
         }
         Verb::ClearDepthStencil(depth, stencil) => write!(text, "cleards {depth} {stencil}"),
+        Verb::Begin(query) => write!(text, "begin {query}"),
+        Verb::End(query) => write!(text, "end {query}"),
+        Verb::Query(query) => write!(text, "query {query}"),
         Verb::Finish(restore) => write!(text, "finish {}", u32::from(*restore)),
         Verb::Flush => write!(text, "flush"),
         Verb::Execute(context, list, restore) => {

@@ -52,3 +52,18 @@ pub returns-in-blend : goal.returns-in-blend
 returns-in-blend c =
     let n = named_as c.args.word.now c.args.immediate words.Blend (omega arith) (search rules) (search rules) in
     record { value = n.0; some = (n.1, n.2) }
+
+pub returns-in-begin : goal.returns-in-begin
+returns-in-begin c =
+    let n = named_as c.args.word.now c.args.immediate words.Begin (omega arith) (search rules) (search rules) in
+    record { value = n.0; some = (n.1, n.2) }
+
+pub returns-in-end : goal.returns-in-end
+returns-in-end c =
+    let n = named_as c.args.word.now c.args.immediate words.End (omega arith) (search rules) (search rules) in
+    record { value = n.0; some = (n.1, n.2) }
+
+pub returns-in-query : goal.returns-in-query
+returns-in-query c =
+    let n = named_as c.args.word.now c.args.immediate words.Query (omega arith) (search rules) (search rules) in
+    record { value = n.0; some = (n.1, n.2) }

@@ -1,6 +1,8 @@
-use Rattle.std.proofs.Common.{◌<◌, ℕ, refl, subst}
+use Rattle.std.proofs.Common.{◌<◌, ℕ, List, refl, sym, subst}
 use Rattle.gfxspec.specs.Tiles.{tile_count}
 use Rattle.tilerun.proofs.Lists.{contains_at}
+use Rattle.tileblock.specs.Block.{Block}
+use Rattle.tileprog.specs.Programs.{TileRan}
 use Rattle.tileprog.proofs.Programs.{tile_ran}
 use Rattle.tileprog.proofs.program.TileProgramTileJob.run.Goals as goal
 
@@ -18,5 +20,7 @@ returns g c =
     let is = c.run_tile.ensures in (
       refl,
       c.requires.0,
-      tile_ran done.compiled.value job.compiled.now done.number tile.number done.opening.value done.block tile.block done.counts done.ran is.compiled is.opening is.number c.requires.1 job.few_issues,
+      subst (λ (after : Block). TileRan job.compiled.now tile.number tile.block after c.into_parts-block.result.1) (sym c.into_parts-block.ensures.block)
+          (subst (λ (counts : List ℕ). TileRan job.compiled.now tile.number tile.block done.block counts) (sym c.into_parts-block.ensures.counts)
+          (tile_ran done.compiled.value job.compiled.now done.number tile.number done.opening.value done.block tile.block done.counts done.ran is.compiled is.opening is.number c.requires.1 job.few_issues)),
     )

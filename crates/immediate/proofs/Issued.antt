@@ -1,0 +1,58 @@
+-- Whether a query has an answer.
+use Rattle.std.proofs.Common.{◌≡◌, ◌∙◌, sym, ap, refl, ℕ, ◌+◌, List, [], ◌∷◌}
+use Rattle.std.specs.Prelude.{Bool, true, false, ◌||◌, ◌==◌, not, Option, Some, None, is_none, is_some, map}
+use Rattle.std.specs.List.{list_any}
+use Rattle.gfxspec.specs.declared.geometry.Size.{Size}
+use Rattle.gfxspec.specs.declared.pixel.Pixel.{Pixel}
+use Rattle.gfxspec.specs.Items.{Item}
+use Rattle.gfxspec.specs.Commands.{Command, SetVertices, SetIndices, SetTopology, SetRaster, SetScissor, SetDepthStencil, SetBlend, Draw, DrawIndexed, ClearColor, ClearDepthStencil, Begin, End, Kept}
+use Rattle.gfxspec.specs.Recorded.{items}
+use Rattle.gfxspec.specs.Session.{last_of, begun_from}
+use Rattle.meaning.specs.Contexts.{counted_or, result_after, last_begun}
+use Rattle.std.proofs.Common.{cond}
+use Rattle.immediate.specs.Issues.{begins}
+
+some_last : (k : ℕ) (ks : List ℕ) → is_none (last_of (k ∷ ks)) ≡ false
+some_last k ks = refl
+
+begin_none : (q k p : ℕ) (cs : List Command) (b : Bool) → is_none (last_of (begun_from q (k + 1) cs)) ≡ not (list_any (begins q) cs)
+    → is_none (last_of (cond b (k ∷ begun_from q (k + 1) cs) (begun_from q (k + 1) cs))) ≡ not (b || list_any (begins q) cs)
+begin_none q k p cs true rest = refl
+begin_none q k p cs false rest = rest
+
+begun_none : (q k : ℕ) (cs : List Command) → is_none (last_of (begun_from q k cs)) ≡ not (list_any (begins q) cs)
+begun_none q k [] = refl
+begun_none q k (Begin p ∷ cs) = begin_none q k p cs (p == q) (begun_none q (k + 1) cs)
+begun_none q k (SetVertices v ∷ cs) = begun_none q k cs
+begun_none q k (SetIndices v ∷ cs) = begun_none q k cs
+begun_none q k (SetTopology v ∷ cs) = begun_none q k cs
+begun_none q k (SetRaster v ∷ cs) = begun_none q k cs
+begun_none q k (SetScissor v ∷ cs) = begun_none q k cs
+begun_none q k (SetDepthStencil v r ∷ cs) = begun_none q k cs
+begun_none q k (SetBlend v ∷ cs) = begun_none q k cs
+begun_none q k (Draw count start ∷ cs) = begun_none q k cs
+begun_none q k (DrawIndexed count start base ∷ cs) = begun_none q k cs
+begun_none q k (ClearColor rgba ∷ cs) = begun_none q k cs
+begun_none q k (ClearDepthStencil depth stencil ∷ cs) = begun_none q k cs
+begun_none q k (End p ∷ cs) = begun_none q k cs
+begun_none q k (Kept s ∷ cs) = begun_none q k cs
+
+-- an issue that ran, or one that the list begins
+pub issued : (size : Size) (list : List Command) (pixels : ℕ → ℕ → Pixel) (q : ℕ) (before : Option ℕ) → (is_some before || list_any (begins q) list) ≡ not (is_none (result_after size list pixels q before))
+issued size list pixels q before = by before (last_begun q list) (list_any (begins q) list) (items list) (begun_none q 0 list)
+  where
+    by : (before last : Option ℕ) (b : Bool) (is : List Item) → is_none last ≡ not b → (is_some before || b) ≡ not (is_none (counted_or before last is size pixels))
+    by None None true is e = absurd cc
+    by None None false is e = refl
+    by None (Some k) true is e = refl
+    by None (Some k) false is e = absurd cc
+    by (Some n) None b is e = refl
+    by (Some n) (Some k) b is e = refl
+
+pub any_map : {A B : Type 0} (f : A → B) (p : B → Bool) (xs : List A) → list_any (λ x. p (f x)) xs ≡ list_any p (map f xs)
+any_map f p [] = refl
+any_map f p (x ∷ xs) = ap (λ b. p (f x) || b) (any_map f p xs)
+
+-- where no issue ran, one that the list begins
+pub issued_else : (size : Size) (list : List Command) (pixels : ℕ → ℕ → Pixel) (q : ℕ) (before : Option ℕ) (b : Bool) → is_some before ≡ false → b ≡ list_any (begins q) list → b ≡ not (is_none (result_after size list pixels q before))
+issued_else size list pixels q before b none e = e ∙ ap (λ a. a || list_any (begins q) list) (sym none) ∙ issued size list pixels q before

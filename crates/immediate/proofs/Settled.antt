@@ -1,0 +1,52 @@
+-- A list that draws and clears nothing leaves each pixel.
+use Rattle.std.proofs.Common.{◌≡◌, ◌∙◌, sym, ap, refl, ℕ, ◌++◌, List, [], ◌∷◌}
+use Rattle.std.specs.Prelude.{Bool, true, false, ◌||◌}
+use Rattle.std.specs.List.{list_any}
+use Rattle.gfxspec.specs.declared.pixel.Pixel.{Pixel}
+use Rattle.gfxspec.specs.Items.{Item, after_items}
+use Rattle.gfxspec.specs.State.{Settings}
+use Rattle.tileblock.specs.Surface.{Surface, pixel_of}
+use Rattle.immediate.specs.Held.{Held, shown}
+use Rattle.gfxspec.specs.Commands.{Command, SetVertices, SetIndices, SetTopology, SetRaster, SetScissor, SetDepthStencil, SetBlend, Draw, DrawIndexed, ClearColor, ClearDepthStencil, Begin, End, Kept}
+use Rattle.gfxspec.specs.Recorded.{is_drawing, items, items_at, items_behind, settings_after, open_after}
+
+-- a command that draws and clears nothing has no item
+no_item : (s : Settings) (opened : List ℕ) (c : Command) → is_drawing c ≡ false → items_at s opened c ≡ []
+no_item s opened (SetVertices v) h = refl
+no_item s opened (SetIndices v) h = refl
+no_item s opened (SetTopology v) h = refl
+no_item s opened (SetRaster v) h = refl
+no_item s opened (SetScissor v) h = refl
+no_item s opened (SetDepthStencil v r) h = refl
+no_item s opened (SetBlend v) h = refl
+no_item s opened (Draw count start) h = absurd cc
+no_item s opened (DrawIndexed count start base) h = absurd cc
+no_item s opened (ClearColor rgba) h = absurd cc
+no_item s opened (ClearDepthStencil depth stencil) h = absurd cc
+no_item s opened (Begin q) h = refl
+no_item s opened (End q) h = refl
+no_item s opened (Kept k) h = refl
+
+pub first_false : (a b : Bool) → (a || b) ≡ false → a ≡ false
+first_false false b h = refl
+first_false true b h = absurd cc
+
+pub second_false : (a b : Bool) → (a || b) ≡ false → b ≡ false
+second_false false b h = h
+second_false true b h = absurd cc
+
+no_items_behind : (earlier list : List Command) → list_any is_drawing list ≡ false → items_behind [] earlier list ≡ []
+no_items_behind earlier [] h = refl
+no_items_behind earlier (c ∷ cs) h =
+    ap (λ (is : List Item). is ++ items_behind [] (earlier ++ c ∷ []) cs) (no_item (settings_after earlier) (open_after earlier) c (first_false (is_drawing c) (list_any is_drawing cs) h))
+    ∙ no_items_behind (earlier ++ c ∷ []) cs (second_false (is_drawing c) (list_any is_drawing cs) h)
+
+pub no_items : (list : List Command) → list_any is_drawing list ≡ false → items list ≡ []
+no_items list h = no_items_behind [] list h
+
+pub nothing_drawn : (list : List Command) → list_any is_drawing list ≡ false → (x y : ℕ) (old : Pixel) → old ≡ after_items (items list) x y old
+nothing_drawn list h x y old = sym (ap (λ (is : List Item). after_items is x y old) (no_items list h))
+
+-- where nothing is drawn, the stored pixels are shown
+pub settled : (h : Held) (s : Surface) → h.surface ≡ s → (x y : ℕ) → list_any is_drawing h.pending ≡ false → pixel_of s x y ≡ shown h x y
+settled h s e x y none = ap (λ (t : Surface). pixel_of t x y) (sym e) ∙ nothing_drawn h.pending none x y (pixel_of h.surface x y)

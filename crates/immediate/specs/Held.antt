@@ -1,0 +1,55 @@
+-- What the immediate context holds, and what a call that runs the pending commands does with it (Microsoft Learn, ID3D11DeviceContext, "Immediate and Deferred Rendering", GetData; Direct3D 11.3 Functional Specification, "Asynchronous Notification").
+use Rattle.std.specs.Prelude.{ℕ, ◌≡◌, ◌⊎◌, Bool, true, List, [], ◌∷◌, ◌++◌, Option, Result, OnOk, IfErr}
+use Rattle.gfxspec.specs.declared.error.GfxError.{GfxError}
+use Rattle.gfxspec.specs.declared.error.GfxError.TheVariants.{OutOfMemory}
+use Rattle.gfxspec.specs.declared.pixel.Pixel.{Pixel}
+use Rattle.gfxspec.specs.Commands.{Command}
+use Rattle.gfxspec.specs.Refusals.{Row, AnswersBy}
+use Rattle.tileblock.specs.Surface.{Surface, pixel_of}
+use Rattle.immediate.specs.Outputs.{Outputs}
+use Rattle.meaning.specs.Contexts as contexts
+use Rattle.meaning.specs.Contexts.{Context, HasRun}
+
+-- The target and, for each query, the count of its last issue, as they were when the pending commands last ran; and the commands recorded since.
+pub record Held : Type 0 where
+  pub surface : Surface
+  pub results : List (Option ℕ)
+  pub pending : List Command
+
+-- the context that these are, whatever tiles the target has
+abbrev pub context_of : Held → Context
+context_of h = record { stored = pixel_of h.surface; results = h.results; pending = h.pending }
+
+-- what a pixel holds: the pending commands, run on what is stored
+abbrev pub shown : Held → ℕ → ℕ → Pixel
+shown h x y = contexts.shown (context_of h) x y
+
+-- what a query answers, if anything: the count of its last issue among the pending commands, else the stored one
+abbrev pub answered : Held → ℕ → Option ℕ
+answered h q = contexts.answered h.surface.size (context_of h) q
+
+-- the context with one pending command more
+abbrev pub held_more : Held → Command → Held
+held_more h k = record { surface = h.surface; results = h.results; pending = h.pending ++ k ∷ [] }
+
+-- The pending commands ran, and then those of a list. A call that runs the pending commands and nothing else has the empty list, and restores.
+pub record Ran (list : List Command) (restore : Bool) (old new : Held) : Type 0 where
+  pub size : new.surface.size ≡ old.surface.size
+  pub run : HasRun old.surface.size list restore (context_of old) (context_of new)
+
+-- A refused call changes nothing. Without memory the pending commands, and nothing else, may have run before.
+abbrev pub IsRefused : GfxError → Held → Held → Type 0
+IsRefused e old new = (new ≡ old) ⊎ ((e ≡ OutOfMemory) × Ran [] true old new)
+
+-- a call that runs the pending commands, and then those of a list, is answered by its rows
+pub record Runs {T : Type 0} (rows : List Row) (list : List Command) (restore : Bool) (old new : Held) (result : Result T GfxError) : Type 0 where
+  pub answer : AnswersBy rows result
+  pub ok : OnOk result (Ran list restore old new)
+  pub err : IfErr result (λ e. IsRefused e old new)
+
+-- the target and the results, and the pending commands beside them
+abbrev pub outputs_of : Held → Outputs
+outputs_of h = record { surface = h.surface; results = h.results }
+
+abbrev pub held_of : Outputs → List Command → Held
+held_of o pending = record { surface = o.surface; results = o.results; pending = pending }

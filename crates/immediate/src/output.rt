@@ -1,0 +1,186 @@
+//! The target and the query results, as the last run left them, and what a run makes of them.
+
+ghost use Rattle.std.specs.Prelude.{◌≡◌, ℕ, ◌<◌, ◌≤◌, None, map, replicate, OnOk, IfOk, IfErr, OnErr};
+ghost use Rattle.std.specs.List.{list_any};
+ghost use Rattle.gfxspec.specs.declared.error.GfxError.TheVariants.{OutOfMemory};
+ghost use Rattle.gfxspec.specs.Items.{opening};
+ghost use Rattle.gfxspec.specs.Refusals.{AnswersBy, AreAccepted};
+ghost use Rattle.gfxspec.specs.Tiles.{tile_count};
+ghost use Rattle.tileblock.specs.Surface.{IsWhole, pixel_of, size_rows};
+ghost use Rattle.binmem.specs.Lists.{no_words};
+ghost use Rattle.meaning.specs.Contexts.{result_at};
+ghost use Rattle.cmdlist.specs.Seen.{command_value};
+ghost use Rattle.immediate.specs.Issues.{acts};
+ghost use Rattle.immediate.specs.Outputs.{HasRun, IsRunBy};
+
+use crate::counts::store_counts;
+use crate::crew::{draw_alone, draw_with_workers};
+use binmem::Bins;
+use binner::{Compiled, compile};
+use cmdlist::Command;
+use gfxspec::GfxError;
+use std::alloc::Allocator;
+use std::marker::Model;
+use std::thread::Threads;
+use tileblock::Target;
+use workers::Gate;
+
+/// No query has a count.
+fn no_results() -> [Option<u64>; 64]
+    ensures { result ≡ replicate 64 None }
+{
+    [None; 64]
+}
+
+/// Whether a command draws, clears or begins a query.
+fn acts<A: Allocator>(command: &Command<A>) -> bool
+    ensures { result ≡ acts (command_value command.now) }
+{
+    matches!(
+        command,
+        Command::Draw(_, _)
+            | Command::DrawIndexed(_, _, _)
+            | Command::ClearColor(_)
+            | Command::ClearDepthStencil(_, _)
+            | Command::Begin(_)
+    )
+}
+
+/// Whether some of the commands draws, clears or begins a query.
+fn some_act<A: Allocator>(commands: &[Command<A>]) -> bool
+    ensures { result ≡ list_any (λ command. acts (command_value command)) commands.now }
+{
+    commands.iter().any(acts)
+}
+
+/// A target, the count of each query's last issue, and empty bins that wait for the next list.
+#[derive(Drop)]
+pub(crate) struct Output<A: Allocator> {
+    alloc: A,
+    target: Target<A>,
+    results: [Option<u64>; 64],
+    bins: Option<Bins<A>>,
+}
+
+impl<A: Allocator> Model for Output<A> {
+    ghost use Rattle.immediate.specs.Outputs.{Outputs, IsOutput};
+
+    ghost Value = { Outputs };
+
+    ghost view = { λ o. record { surface = o.target; results = o.results } };
+
+    ghost invariant = { λ o. IsOutput o.target o.results o.bins };
+}
+
+impl<A: Allocator + Copy + Send> Output<A> {
+    /// A new target without results.
+    pub(crate) fn new(alloc: A, width: u32, height: u32) -> Result<Self, GfxError>
+        ensures answer { AnswersBy (size_rows (record { width = width; height = height })) result }
+        ensures size { IfOk result (λ o. o.surface.size ≡ record { width = width; height = height }) }
+        ensures opening { IfOk result (λ o. (x y : ℕ) → x < width → y < height → pixel_of o.surface x y ≡ opening) }
+        ensures results { IfOk result (λ o. o.results ≡ replicate 64 None) }
+    {
+        let target = Target::split(alloc, width, height)?;
+        Ok(Output {
+            alloc,
+            target,
+            results: no_results(),
+            bins: None,
+        })
+    }
+
+    /// The target.
+    pub(crate) fn target(&self) -> &Target<A>
+        ensures target { result.now ≡ self.now.surface }
+        ensures whole { IsWhole result.now }
+    {
+        &self.target
+    }
+
+    /// The count of the last issue of a query that ran.
+    pub(crate) fn result(&self, query: u32) -> Option<u64>
+        ensures { result ≡ result_at self.now.results query }
+    {
+        match self.results.get(query as usize) {
+            Some(result) => *result,
+            None => None,
+        }
+    }
+
+    /// The bins that wait, or new ones.
+    fn take_bins(&mut self) -> Result<Bins<A>, GfxError>
+        ensures same { self.new ≡ self.old }
+        ensures bins { IfOk result (λ bins. bins ≡ no_words (tile_count self.old.surface.size)) }
+        ensures memory { IfErr result (λ e. e ≡ OutOfMemory) }
+    {
+        match self.bins.take() {
+            Some(bins) => Ok(bins),
+            None => Bins::new(self.alloc, self.target.tiles()),
+        }
+    }
+
+    /// Compiles commands for the target. Where none draws, clears or begins a query, nothing is compiled. Refused with
+    /// OutOfMemory alone.
+    fn compiled(&mut self, commands: &[Command<A>]) -> Result<Option<Compiled<A>>, GfxError>
+        requires { AreAccepted (map command_value commands.now) }
+        ensures same { self.new ≡ self.old }
+        ensures compiled { IfOk result (λ compiled. IsRunBy (map command_value commands.now) self.old compiled) }
+        ensures memory { IfErr result (λ e. e ≡ OutOfMemory) }
+    {
+        if !some_act(commands) {
+            return Ok(None);
+        }
+        let bins = self.take_bins()?;
+        match compile(self.alloc, commands, self.target.size(), bins) {
+            Ok(compiled) => Ok(Some(compiled)),
+            Err((refusal, bins)) => {
+                self.bins = Some(bins);
+                Err(refusal)
+            }
+        }
+    }
+
+    /// Runs commands on the caller's thread, with issues of their own, from the default state on. Refused with OutOfMemory
+    /// alone, before any tile is taken.
+    pub(crate) fn run_alone(&mut self, commands: &[Command<A>]) -> Result<(), GfxError>
+        requires accepted { AreAccepted (map command_value commands.now) }
+        ensures ok { OnOk result (HasRun (map command_value commands.now) self.old self.new) }
+        ensures memory { IfErr result (λ e. e ≡ OutOfMemory) }
+        ensures err { OnErr result (self.new ≡ self.old) }
+    {
+        let Some(compiled) = self.compiled(commands)? else {
+            return Ok(());
+        };
+        let drawn = draw_alone(&self.alloc, &compiled, &mut self.target);
+        self.bins = Some(compiled.into_bins());
+        let counts = drawn?;
+        store_counts(&mut self.results, commands, counts.as_slice());
+        Ok(())
+    }
+}
+
+impl<A: Allocator + Copy + Send + Sync> Output<A> {
+    /// The same with as many threads beside the caller, each of which passes the gate.
+    pub(crate) fn run_with_workers<R: Threads + Sync, G: Gate + Sync>(
+        &mut self,
+        rt: &R,
+        commands: &[Command<A>],
+        workers: u32,
+        gate: &G,
+    ) -> Result<(), GfxError>
+        requires accepted { AreAccepted (map command_value commands.now) }
+        requires workers { workers ≤ 15 }
+        ensures ok { OnOk result (HasRun (map command_value commands.now) self.old self.new) }
+        ensures memory { IfErr result (λ e. e ≡ OutOfMemory) }
+        ensures err { OnErr result (self.new ≡ self.old) }
+    {
+        let Some(compiled) = self.compiled(commands)? else {
+            return Ok(());
+        };
+        let drawn = draw_with_workers(rt, &self.alloc, &compiled, &mut self.target, workers, gate);
+        self.bins = Some(compiled.into_bins());
+        let counts = drawn?;
+        store_counts(&mut self.results, commands, counts.as_slice());
+        Ok(())
+    }
+}

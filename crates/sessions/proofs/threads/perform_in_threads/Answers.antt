@@ -1,0 +1,20 @@
+use Rattle.std.proofs.Common.{subst, sym, ℕ}
+use Rattle.scenetext.specs.SeenScene.{scene_value}
+use Rattle.scenetext.specs.Spelling.{Spells}
+use Rattle.scenetext.specs.Reading.{Refused}
+use Rattle.sessions.specs.Writing.{Writes, drawing, gathering}
+use Rattle.sessions.proofs.Drawing.{unread}
+use Rattle.sessions.proofs.threads.perform_in_threads.Goals as goal
+
+pub returns-in-Err : goal.returns-in-Err
+returns-in-Err g c =
+    let text = c.args.text.items in
+    let e : ℕ × ℕ = (c.in-Err.line, c.in-Err.number) in
+    subst (Writes text) (sym c.stopped.ensures) (unread text e (subst (λ t. Refused t e) c.as_slice.ensures.value c.in-Err.ensures.refused))
+
+pub returns-in-Ok-draw_in_threads : goal.returns-in-Ok-draw_in_threads
+returns-in-Ok-draw_in_threads g c =
+    drawing (scene_value c.in-Ok.scene) _ (subst (λ t. Spells t (scene_value c.in-Ok.scene)) c.as_slice.ensures.value c.in-Ok.ensures.scene) c.in-Ok-draw_in_threads.ensures
+
+pub returns : goal.returns
+returns g c = subst (Writes c.args.text.items) (sym c.stopped-in-Err-draw_in_threads.ensures) gathering

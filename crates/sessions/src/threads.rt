@@ -1,0 +1,177 @@
+//! A script, performed in threads as far as to what there is to write.
+
+ghost use Rattle.std.specs.Prelude.{◌≡◌, ◌≤◌, ◌<◌, map, IfOk, MatchOption};
+ghost use Rattle.scenetext.specs.Seen.{line_value};
+ghost use Rattle.scenetext.specs.SeenScene.{scene_value};
+ghost use Rattle.scenetext.specs.Spelling.{IsScene};
+ghost use Rattle.recorders.specs.Apart.{listed};
+ghost use Rattle.recorders.specs.Receiving.{AreNew, AreHanded, TakenAgrees, HandedLacks};
+ghost use Rattle.sessions.specs.Owning.{MayPlay, HasPlayed, missing_in};
+ghost use Rattle.sessions.specs.Writing.{Draws, Writes};
+ghost use Rattle.sessions.specs.Performing.{output_by};
+
+use crate::crewed::{flush, play_with_workers};
+use crate::ending::{Performance, end_at, first_stop, line_number, stopped};
+use crate::own::Own;
+use cmdlist::CommandList;
+use immediate::ImmediateContext;
+use port::{DrainPass, PortPass, Ports};
+use recorders::{Four, Handed, Opened, open_ports, receive, settle};
+use scenetext::{Line, Scene, read};
+use std::alloc::{AllocError, Allocator};
+use std::sync::Wait;
+use std::thread;
+use std::thread::{Scope, Threads};
+use workers::Gate;
+
+/// What comes out of the scope of the recorders.
+#[derive(Drop)]
+struct Round<A: Allocator> {
+    own: Own<A>,
+    handed: Four<Handed<A>>,
+    drain: DrainPass<CommandList<A>>,
+}
+
+/// Starts the recorders, takes the lines of the immediate context, and waits for the recorders.
+fn run<
+    's,
+    E,
+    A: Allocator + Copy + Send + Sync + 's,
+    R: Threads + Wait + Sync + 's,
+    G: Gate + Sync + 's,
+>(
+    rt: &'s R,
+    scope: &'s Scope<'s, E>,
+    alloc: A,
+    ports: &'s Ports<CommandList<A>, A>,
+    workers: u32,
+    gate: &'s G,
+    passes: Four<PortPass<CommandList<A>>>,
+    drain: DrainPass<CommandList<A>>,
+    lines: &'s [Line<A>],
+    own: Own<A>,
+) -> Round<A>
+    requires start { AreNew ports.now.queue passes drain }
+    requires may { MayPlay (map line_value lines.now) (listed (map line_value lines.now)) own.immediate own.answers.text.items own.answers.marks.items }
+    requires workers { workers ≤ 15 }
+    ensures handed { AreHanded (map line_value lines.now) ports.now.queue result.handed }
+    ensures queue { result.drain.queue ≡ ports.now.queue }
+    ensures played { TakenAgrees (map line_value lines.now) result.drain.taken
+        → HasPlayed own.immediate.surface.size (map line_value lines.now) result.own.immediate result.own.answers.text.items result.own.answers.marks.items result.own.pause }
+    ensures missing { MatchOption (missing_in result.own.pause) (Unit {0}) (λ name. name.0 < 8 → HandedLacks result.handed name.0 name.1) }
+{
+    let mut received = receive(rt, scope, alloc, ports, gate, passes, drain, lines);
+    let own = play_with_workers(rt, workers, gate, own, &mut received, lines);
+    let (handed, drain) = received.close();
+    Round { own, handed, drain }
+}
+
+/// The same, in a scope of its own.
+fn run_in_scope<A: Allocator + Copy + Send + Sync, R: Threads + Wait + Sync, G: Gate + Sync>(
+    rt: &R,
+    alloc: A,
+    ports: &Ports<CommandList<A>, A>,
+    workers: u32,
+    gate: &G,
+    passes: Four<PortPass<CommandList<A>>>,
+    drain: DrainPass<CommandList<A>>,
+    lines: &[Line<A>],
+    own: Own<A>,
+) -> Round<A>
+    requires start { AreNew ports.now.queue passes drain }
+    requires may { MayPlay (map line_value lines.now) (listed (map line_value lines.now)) own.immediate own.answers.text.items own.answers.marks.items }
+    requires workers { workers ≤ 15 }
+    ensures handed { AreHanded (map line_value lines.now) ports.now.queue result.handed }
+    ensures queue { result.drain.queue ≡ ports.now.queue }
+    ensures played { TakenAgrees (map line_value lines.now) result.drain.taken
+        → HasPlayed own.immediate.surface.size (map line_value lines.now) result.own.immediate result.own.answers.text.items result.own.answers.marks.items result.own.pause }
+    ensures missing { MatchOption (missing_in result.own.pause) (Unit {0}) (λ name. name.0 < 8 → HandedLacks result.handed name.0 name.1) }
+{
+    thread::scope(
+        thread::scope_env(),
+        rt,
+        |scope| -> Round<A>
+            requires { AreNew ports.now.queue passes drain
+                × MayPlay (map line_value lines.now) (listed (map line_value lines.now)) own.immediate own.answers.text.items own.answers.marks.items
+                × (workers ≤ 15) }
+            ensures { AreHanded (map line_value lines.entry.now) ports.entry.now.queue result.handed
+                × (result.drain.queue ≡ ports.entry.now.queue)
+                × (TakenAgrees (map line_value lines.entry.now) result.drain.taken
+                → HasPlayed own.immediate.surface.size (map line_value lines.entry.now) result.own.immediate result.own.answers.text.items result.own.answers.marks.items result.own.pause)
+                × MatchOption (missing_in result.own.pause) (Unit {0}) (λ name. name.0 < 8 → HandedLacks result.handed name.0 name.1) }
+        {
+            run(
+                rt, scope, alloc, ports, workers, gate, passes, drain, lines, own,
+            )
+        },
+    )
+}
+
+/// Draws a scene: records the deferred contexts in up to four threads, while this one takes the lines of the immediate
+/// context, with workers beside it. Behind the last line the pending commands are run once more.
+///
+/// Refused with want of memory for the ports.
+fn draw_in_threads<A: Allocator + Copy + Send + Sync, R: Threads + Wait + Sync, G: Gate + Sync>(
+    rt: &R,
+    alloc: A,
+    workers: u32,
+    gate: &G,
+    scene: &Scene<A>,
+) -> Result<Performance<A>, AllocError>
+    requires scene { IsScene (scene_value scene.now) }
+    requires workers { workers ≤ 15 }
+    ensures { IfOk result (λ p. Draws (scene_value scene.now) (output_by p.answers.items p.end)) }
+{
+    let immediate = match ImmediateContext::new(alloc, scene.size.width, scene.size.height) {
+        Ok(context) => context,
+        Err(refusal) => return Ok(stopped(alloc, 1, refusal.number())),
+    };
+    let Opened {
+        ports,
+        passes,
+        drain,
+    } = open_ports(alloc)?;
+    let lines = scene.lines.as_slice();
+    let own = Own::new(alloc, immediate, lines);
+    let round = run_in_scope(rt, alloc, &ports, workers, gate, passes, drain, lines, own);
+    let deferred = settle(rt, ports, round.handed, round.drain);
+    let own = round.own;
+    if let Some(stop) = first_stop(deferred, &own) {
+        return Ok(end_at(scene, stop, own));
+    }
+    let Own {
+        mut immediate,
+        answers,
+        pause: _,
+    } = own;
+    match flush(rt, workers, gate, &mut immediate) {
+        Ok(()) => Ok(Performance {
+            answers: answers.text,
+            end: Ok(immediate),
+        }),
+        Err(refusal) => Ok(Performance {
+            answers: answers.text,
+            end: Err((line_number(lines, lines.len()), refusal.number())),
+        }),
+    }
+}
+
+/// Reads a script and draws its scene in threads. What comes out is what there is to write.
+pub(crate) fn perform_in_threads<
+    A: Allocator + Copy + Send + Sync,
+    R: Threads + Wait + Sync,
+    G: Gate + Sync,
+>(rt: &R, alloc: A, workers: u32, gate: &G, text: Vec<u8, A>) -> Performance<A>
+    requires { workers ≤ 15 }
+    ensures { Writes text.items (output_by result.answers.items result.end) }
+{
+    let scene = match read(alloc, text.as_slice()) {
+        Ok(scene) => scene,
+        Err((line, number)) => return stopped(alloc, line, number),
+    };
+    drop(text);
+    match draw_in_threads(rt, alloc, workers, gate, &scene) {
+        Ok(performance) => performance,
+        Err(_) => stopped(alloc, 0, 1),
+    }
+}
