@@ -67,7 +67,7 @@ impl Sink for Digesting {
     }
 }
 
-const EXAMPLES: [&str; 17] = [
+const EXAMPLES: [&str; 21] = [
     "clear.txt",
     "slope.txt",
     "lists.txt",
@@ -85,6 +85,10 @@ const EXAMPLES: [&str; 17] = [
     "ribbon.txt",
     "mesh.txt",
     "bowl.txt",
+    "shadow-volumes.txt",
+    "two-faced-count.txt",
+    "logic-operations.txt",
+    "eight-contexts.txt",
 ];
 
 /// What a session left of an example.

@@ -1,5 +1,5 @@
 -- Runs of lists, one after the other.
-use Rattle.std.proofs.Common.{◌≡◌, ◌∙◌, sym, ap, subst, refl, arith, ℕ, suc, ◌+◌, ◌<◌, List, [], ◌∷◌, length, get_or, Some, None}
+use Rattle.std.proofs.Common.{◌≡◌, ◌∙◌, sym, ap, subst, refl, arith, ℕ, ◌+◌, ◌<◌, List, [], ◌∷◌, length, get_or, Some, None}
 use Rattle.std.specs.Prelude.{Bool, true, false, not, Option, is_none, unwrap_or, slice_set, if◌then◌else◌}
 use Rattle.std.proofs.lemmas.List.{length-set}
 use Rattle.gfxspec.specs.declared.TheConstants.{QUERY_LIMIT}
@@ -17,7 +17,7 @@ use Rattle.tileprog.specs.Programs.{ProgramsRan}
 use Rattle.tileprog.proofs.Ordering.{list_ran}
 use Rattle.immediate.specs.Outputs as outputs
 use Rattle.immediate.specs.Outputs.{Outputs, IsOutput, IsCompiled}
-use Rattle.immediate.specs.Held.{Held, Ran, context_of, shown, answered, held_of, outputs_of}
+use Rattle.immediate.specs.Held.{Held, Ran, shown, answered, held_of, outputs_of}
 
 same_counts : (f h : ℕ → ℕ) (k : ℕ) (queries : List ℕ) (results : List (Option ℕ)) → ((i : ℕ) → i < k + length queries → f i ≡ h i) → with_counts k f queries results ≡ with_counts k h queries results
 same_counts f h k [] results same = refl

@@ -15,5 +15,7 @@ mod context;
 mod counts;
 mod crew;
 mod output;
+#[cfg(test)]
+mod tests;
 
 pub use context::ImmediateContext;

@@ -1,4 +1,4 @@
-use Rattle.std.proofs.Common.{rules, subst, List}
+use Rattle.std.proofs.Common.{subst, List}
 use Rattle.gfxspec.specs.Commands.{Command}
 use Rattle.immediate.specs.Outputs.{HasRun}
 use Rattle.immediate.proofs.Runs.{pending_ran}

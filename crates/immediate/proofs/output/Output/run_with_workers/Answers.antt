@@ -1,4 +1,4 @@
-use Rattle.std.proofs.Common.{rules, sym, ap, subst, ◌∙◌, ℕ, [], List, length, map, get_or}
+use Rattle.std.proofs.Common.{rules, ap, subst, ◌∙◌, ℕ, [], List, length, map, get_or}
 use Rattle.gfxspec.specs.Recorded.{issues}
 use Rattle.meaning.specs.Contexts.{with_counts}
 use Rattle.cmdlist.specs.Seen.{command_value}
