@@ -4,5 +4,5 @@ use Rattle.immediate.proofs.tests.scenes.questions_of_a_settled_context_take_no_
 pub growths_of-requires-frees-A-Allocator : goal.growths_of-requires-frees-A-Allocator
 growths_of-requires-frees-A-Allocator g c κs = record { frees = λ r τ p. frees.frees r.now.inner τ p }
 
-pub growths_of-2-requires-frees-A-Allocator : goal.growths_of-2-requires-frees-A-Allocator
-growths_of-2-requires-frees-A-Allocator g c κs = record { frees = λ r τ p. frees.frees r.now.inner τ p }
+pub growths_of-requires-2-frees-A-Allocator : goal.growths_of-requires-2-frees-A-Allocator
+growths_of-requires-2-frees-A-Allocator g c κs = record { frees = λ r τ p. frees.frees r.now.inner τ p }
