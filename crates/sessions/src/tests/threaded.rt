@@ -1,0 +1,265 @@
+//! Sessions in threads: the same bytes as alone, and threads that meet.
+
+ghost use Rattle.std.specs.Prelude.{◌≤◌};
+
+use super::growths::assert_short;
+use super::queries::{FOUR_TILES, FOUR_TILES_ANSWERS};
+use super::rows::{LIST_INHERITS_NOTHING, SLOPED_DEPTH};
+use super::*;
+use crate::session;
+use refusing::Refusing;
+use std::fmt::Write;
+use std::sync::Wait;
+use std::sync::atomic::AtomicU64;
+use std::sync::atomic::Ordering::SeqCst;
+use std::thread;
+use std::thread::Threads;
+use workers::{Gate, NoGate};
+
+/// Runs a script in threads, with devices that never fail.
+fn run_threads<A: Allocator + Copy + Send + Sync, R: Threads + Wait + Sync, G: Gate + Sync>(
+    rt: &R,
+    alloc: A,
+    global: Global,
+    script: &str,
+    workers: u32,
+    gate: &G,
+) -> Outcome
+    requires { workers ≤ 15 }
+{
+    let mut script = Trickle::new(script.as_bytes(), 0);
+    let mut lines = Limited::new(global, AMPLE);
+    let mut image = Limited::new(global, AMPLE);
+    let end = session(
+        rt,
+        alloc,
+        &mut script,
+        &mut image,
+        &mut lines,
+        workers,
+        gate,
+    );
+    Outcome {
+        end,
+        lines: lines.bytes,
+        image: image.bytes,
+    }
+}
+
+/// Runs a script alone and with so many workers: the end and the bytes are the same.
+fn assert_same<R: Threads + Wait + Abort + Sync>(rt: &R, alloc: Global, script: &str, workers: u32)
+    requires { workers ≤ 15 }
+{
+    let alone = run(alloc, alloc, script);
+    let threads = run_threads(rt, alloc, alloc, script, workers, &NoGate);
+    assert_eq!(rt; threads.end, alone.end, "after {script}");
+    assert_eq!(rt;
+        threads.lines.as_slice(),
+        alone.lines.as_slice(),
+        "after {script}"
+    );
+    assert_eq!(rt;
+        threads.image.as_slice(),
+        alone.image.as_slice(),
+        "after {script}"
+    );
+}
+
+#[test]
+fn any_number_of_workers(rt: HostRuntime) {
+    for script in [FOUR_TILES, LIST_INHERITS_NOTHING, SLOPED_DEPTH] {
+        assert_same(&rt, rt.alloc(), script, 0);
+        assert_same(&rt, rt.alloc(), script, 1);
+        assert_same(&rt, rt.alloc(), script, 3);
+        assert_same(&rt, rt.alloc(), script, 15);
+    }
+}
+
+const DRAWN: &str = "pixel 0 0 0 0 0 0 16777215 0\n";
+
+// The first refused line counts, of whichever context, and answers of later lines are cut off.
+#[test]
+fn first_refused_line(rt: HostRuntime) -> Result<(), Fail> {
+    for (lines, line, number, before) in [
+        ("i pixel 0 0\nd0 end 0\ni pixel 0 0\n", 3, 10, DRAWN),
+        ("d4 end 0\nd0 end 0\n", 2, 10, ""),
+        ("d0 end 0\nd4 end 0\n", 2, 10, ""),
+        ("d3 end 0\nd7 end 0\ni end 0\n", 2, 10, ""),
+        ("i end 64\nd7 end 0\n", 2, 11, ""),
+        ("d0 begin 0\nd0 finish 0\ni exec d0 0 1\n", 3, 12, ""),
+        (
+            "d0 finish 0\nd4 end 1\nd4 finish 0\ni exec d4 0 1\n",
+            3,
+            10,
+            "",
+        ),
+        ("i begin 0\ni pixel 0 0\nd0 end 0\n", 3, 9, ""),
+        ("d6 begin 0\ni begin 0\n", 4, 9, ""),
+    ] {
+        let script = format!(in rt.alloc(); "target 1 1\n{lines}")?;
+        let script = script.as_str();
+        assert_refused(&rt, rt.alloc(), script, (line, number), before)?;
+        assert_same(&rt, rt.alloc(), script, 0);
+        assert_same(&rt, rt.alloc(), script, 2);
+    }
+    assert_same(&rt, rt.alloc(), "target 0 1\n", 3);
+    assert_same(&rt, rt.alloc(), "target 1 1\ni draw\n", 3);
+    Ok(())
+}
+
+// More lists than a queue holds: those that the port did not take come by the join.
+#[test]
+fn seventy_lists(rt: HostRuntime) -> Result<(), Fail> {
+    let mut script = String::new(rt.alloc());
+    script.push_str("target 1 1\n")?;
+    for k in 0..70u32 {
+        write!(script, "d0 clearc {k} {k} {k} {k}\nd0 finish 0\n")?;
+    }
+    script.push_str("i exec d0 69 0\ni pixel 0 0\ni exec d0 3 0\ni pixel 0 0\n")?;
+    let script = script.as_str();
+    let answers = "pixel 0 0 69 69 69 69 16777215 0\npixel 0 0 3 3 3 3 16777215 0\n";
+    image(&rt, rt.alloc(), script, answers);
+    assert_same(&rt, rt.alloc(), script, 0);
+    Ok(())
+}
+
+/// Where so many meet.
+#[derive(Drop)]
+struct Meeting {
+    come: AtomicU64,
+    late: AtomicU64,
+    want: u64,
+}
+
+impl Meeting {
+    fn new(want: u64) -> Meeting {
+        Meeting {
+            come: AtomicU64::new(0),
+            late: AtomicU64::new(0),
+            want,
+        }
+    }
+
+    /// Waits for the others, for so many turns at most.
+    fn wait(&self) {
+        self.come.fetch_add(1, SeqCst);
+        for _ in 0..100_000_000u64 {
+            if self.come.load(SeqCst) >= self.want {
+                return;
+            }
+            thread::yield_now();
+        }
+        self.late.fetch_add(1, SeqCst);
+    }
+
+    fn all_came(&self) -> bool {
+        self.come.load(SeqCst) >= self.want && self.late.load(SeqCst) == 0
+    }
+}
+
+/// Holds the first claim of each worker until all have come to theirs.
+#[derive(Drop)]
+struct FirstClaims {
+    meeting: Meeting,
+}
+
+impl Gate for FirstClaims {
+    fn before_claim(&self, _worker: u32, turn: u64) {
+        if turn == 0 {
+            self.meeting.wait();
+        }
+    }
+
+    fn after_hand_in(&self, _worker: u32, _turn: u64) {}
+}
+
+// All four threads of a run work: none has claimed a tile before each has come to its first claim.
+#[test]
+fn workers_claim_together(rt: HostRuntime) {
+    let gate = FirstClaims {
+        meeting: Meeting::new(4),
+    };
+    let run = run_threads(&rt, rt.alloc(), rt.alloc(), FOUR_TILES, 3, &gate);
+    assert_eq!(rt; run.end, Ok(Ended::Done));
+    assert_eq!(rt; run.lines.as_slice(), FOUR_TILES_ANSWERS.as_bytes());
+    assert!(rt; gate.meeting.all_came());
+}
+
+/// Holds the first submission of port 0 and the first claim of the caller until both have come.
+#[derive(Drop)]
+struct Overlap {
+    meeting: Meeting,
+}
+
+impl Gate for Overlap {
+    fn before_claim(&self, worker: u32, turn: u64) {
+        if worker == 0 && turn == 0 {
+            self.meeting.wait();
+        }
+    }
+
+    fn after_hand_in(&self, _worker: u32, _turn: u64) {}
+
+    fn before_submit(&self, port: u32, number: u64) {
+        if port == 0 && number == 0 {
+            self.meeting.wait();
+        }
+    }
+}
+
+const DRAWN_WHILE_RECORDED: &str = "target 1 1
+d0 finish 0
+i clearc 1 2 3 4
+i pixel 0 0
+i exec d0 0 0
+";
+
+// The caller draws while a recorder records: neither waits for the other's end.
+#[test]
+fn drawn_while_recorded(rt: HostRuntime) {
+    let gate = Overlap {
+        meeting: Meeting::new(2),
+    };
+    let run = run_threads(&rt, rt.alloc(), rt.alloc(), DRAWN_WHILE_RECORDED, 0, &gate);
+    assert_eq!(rt; run.end, Ok(Ended::Done));
+    assert_eq!(rt;
+        run.lines.as_slice(),
+        b"pixel 0 0 1 2 3 4 16777215 0\n".as_slice()
+    );
+    assert!(rt; gate.meeting.all_came());
+}
+
+const SMALL: &str = "target 2 1
+d0 clearc 1 2 3 4
+d0 begin 3
+d0 end 3
+d0 finish 0
+i exec d0 0 1
+i query 3
+i pixel 1 0
+";
+
+const SMALL_ANSWERS: [(u64, &str); 2] = [(7, "query 3 0\n"), (8, "pixel 1 0 1 2 3 4 16777215 0\n")];
+
+// Each growth refused in turn, with three workers: the whole answer, or one line in place of its rest.
+#[test]
+fn each_growth_refused(rt: HostRuntime) -> Result<(), Fail> {
+    let ample = run(rt.alloc(), rt.alloc(), SMALL);
+    assert_eq!(rt; ample.end, Ok(Ended::Done));
+    for n in 1..1000u64 {
+        let refusing = Refusing::new(rt.alloc(), n);
+        let short = run_threads(&rt, &refusing, rt.alloc(), SMALL, 3, &NoGate);
+        if short.end == Ok(Ended::Done) {
+            assert_eq!(rt; short.lines.as_slice(), ample.lines.as_slice());
+            assert_eq!(rt; short.image.as_slice(), ample.image.as_slice());
+        } else {
+            assert_short(&rt, rt.alloc(), SMALL_ANSWERS.as_slice(), &short)?;
+        }
+        if !refusing.refused() {
+            assert_eq!(rt; short.end, Ok(Ended::Done));
+            assert!(rt; n > 20);
+            return Ok(());
+        }
+    }
+    panic!(rt; "a session asks for no more than so many growths")
+}
