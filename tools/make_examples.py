@@ -368,16 +368,66 @@ def eight_contexts():
     return lines + [f"i query {context}" for context in range(9)] + ["i pixel 96 96", "i pixel 150 96"]
 
 
+def width(columns):
+    """Both halves of a target of so many columns and 33 rows, each counted, with sloped depths."""
+    corners = [(0, 0, 0, (10, 20, 30, 40)), (columns, 0, 4_000_000, (50, 60, 70, 80)),
+               (0, 33, 8_000_000, (1, 2, 3, 4)), (columns, 33, DEEPEST, (5, 6, 7, 8))]
+    lines = [f"target {columns} 33", "i topology 4", "i raster 1 0 0"]
+    for query, half in enumerate([(0, 1, 2), (1, 3, 2)]):
+        lines += [buffer([corners[at] for at in half]), "i begin 2", f"i begin {query}", "i draw 3 0", f"i end {query}", "i end 2"]
+    return lines + ["i query 0", "i query 1", f"i pixel {columns - 1} 0", f"i pixel {columns // 2} 16", f"i pixel {columns - 1} 32"]
+
+
+def random_face(chance):
+    return f"{chance.randrange(1, 9)} {chance.randrange(1, 9)} {chance.randrange(1, 9)} {chance.randrange(1, 9)}"
+
+
+def random_states(chance, actor, sides):
+    """Lines that set all states, of each kind at random."""
+    left, top = chance.randrange(sides[0]), chance.randrange(sides[1])
+    right, bottom = chance.randrange(left, sides[0] + 9), chance.randrange(top, sides[1] + 9)
+    stencil = f"{chance.randrange(2)} {chance.randrange(256)} {chance.randrange(256)} {random_face(chance)} {random_face(chance)}"
+    return [
+        f"{actor} raster {chance.choice([1, 1, 2, 3])} {chance.randrange(2)} {chance.choice([0, 0, 1])}",
+        f"{actor} scissor {left} {top} {right} {bottom}",
+        f"{actor} ds {chance.choice([0, 1, 1])} {chance.randrange(2)} {chance.randrange(1, 9)} {stencil} {chance.randrange(256)}",
+        f"{actor} blend {chance.randrange(2)} {chance.randrange(16)} {chance.choice([15, 15, chance.randrange(16)])}",
+    ]
+
+
+def random_scene(seed):
+    """200 triangles, ten to a list or to a part of what is pending, each part under states and a query of its own."""
+    chance = random.Random(seed)
+    sides = chance.randrange(20, 71), chance.randrange(20, 71)
+    lines = [f"target {sides[0]} {sides[1]}", "i clearc 9 8 7 6", "i cleards 12000000 100"]
+    for part in range(20):
+        actor = chance.choice(["i", "d0"])
+        reach = chance.choice([4, 20, 90])
+        corners = []
+        for _ in range(10):
+            x, y = chance.randrange(sides[0]), chance.randrange(sides[1])
+            corners += [(x + chance.choice([0, 0.5, chance.uniform(-reach, reach)]), y + chance.choice([0, 0.5, chance.uniform(-reach, reach)]),
+                         chance.randrange(DEEPEST + 1), tuple(chance.randrange(256) for _ in range(4))) for _ in range(3)]
+        lines += random_states(chance, actor, sides)
+        lines += [f"{actor} topology 4", buffer(corners, actor), f"{actor} begin {part}", f"{actor} draw 30 0", f"{actor} end {part}"]
+        if actor == "d0":
+            number = sum(line.startswith("d0 finish") for line in lines)
+            lines += [f"d0 finish {chance.randrange(2)}", f"i exec d0 {number} {chance.randrange(2)}"]
+    return lines + [f"i query {part}" for part in range(20)]
+
+
 EXAMPLES = {
     "fan": fan, "shared-edges": shared_edges, "pile": pile, "slivers": slivers, "far": far, "large": large,
     "ribbon": ribbon, "mesh": mesh, "bowl": bowl, "shadow-volumes": shadow_volumes, "two-faced-count": two_faced_count,
     "logic-operations": logic_operations, "eight-contexts": eight_contexts,
+    **{f"width-{columns}": lambda columns=columns: width(columns) for columns in range(1, 34)},
+    **{f"scene-{seed}": lambda seed=seed: random_scene(seed) for seed in range(10)},
 }
 
 
 def main():
     parser = argparse.ArgumentParser(description=__doc__, formatter_class=argparse.RawDescriptionHelpFormatter)
-    parser.add_argument("names", metavar="NAME", nargs="*", help=f"of {', '.join(EXAMPLES)}; without one, all")
+    parser.add_argument("names", metavar="NAME", nargs="*", help=f"of {', '.join(it for it in EXAMPLES if '-' not in it or not it[-1].isdigit())}, width-1 to width-33, scene-0 to scene-9; without one, all")
     parser.add_argument("--folder", type=pathlib.Path, default=FOLDER, help="where the scripts are written")
     given = parser.parse_args()
     unknown = [it for it in given.names if it not in EXAMPLES]
