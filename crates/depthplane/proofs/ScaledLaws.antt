@@ -1,0 +1,306 @@
+-- Sums of scaled numbers, and what they say about the number itself.
+use Rattle.std.proofs.Common.{◌≡◌, ◌∙◌, ap, sym, refl, arith, ℕ, zero, suc, ◌+◌, ◌-◌, ◌*◌, ◌/◌, ◌%◌, ◌<◌, ◌≤◌, subst}
+use Rattle.std.specs.Prelude.{ℤ, unsigned_abs, pos, negsuc, ◌+ℤ◌, ◌-ℤ◌, ◌*ℤ◌, ◌≤ℤ◌, ◌<ℤ◌}
+use Rattle.std.specs.Int.{int_div_euclid, int_rem_euclid}
+use Rattle.std.proofs.lemmas.Nat.{div-add-mod', mod_below, div-mul-add}
+use Rattle.std.proofs.lemmas.Int.{ints}
+use Rattle.std.proofs.Math.Nat.{mul-le-mul_left, mul-le-mul_right, add-mul, mul_right_comm}
+use Rattle.gfxspec.proofs.Integers.{spread, mul_assoc, mul_left_comm}
+use Rattle.depthplane.specs.declared.division.Divided.{Divided}
+use Rattle.depthplane.specs.declared.height.Linear.{Linear}
+use Rattle.depthplane.specs.declared.scaled.Scaled.{Scaled}
+use Rattle.depthplane.specs.Division.{IsDivision, IsDivisor, IsRest}
+use Rattle.depthplane.specs.Linear.{value_at}
+use Rattle.depthplane.specs.Scaled.{IsScaled, IsScaledLinear, excess_at}
+use Rattle.depthplane.proofs.DivisionLaws.{Splits, splits, only_split}
+
+-- what v is more than the scaled number, in parts of the divisor, and how many multiples of 2^64 it left out
+pub record Lies (n divisor : ℤ) (excess v : ℕ) (over turns : ℤ) : Type 0 where
+  pub exact : pos v *ℤ divisor ≡ pos 1099511627776 *ℤ n +ℤ over +ℤ turns *ℤ (pos 18446744073709551616 *ℤ divisor)
+  pub low : pos 0 ≤ℤ over
+  pub high : over ≤ℤ (divisor *ℤ pos excess)
+
+whole_positive : (d : ℤ) → pos 0 <ℤ d → pos 0 <ℤ (pos 18446744073709551616 *ℤ d)
+whole_positive d p = omega (arith, ints)
+
+pub lies : (n d : ℤ) (e v : ℕ) → pos 0 <ℤ d → IsScaled n d e v → Lies n d e v (int_rem_euclid (pos v *ℤ d -ℤ pos 1099511627776 *ℤ n) (pos 18446744073709551616 *ℤ d)) (int_div_euclid (pos v *ℤ d -ℤ pos 1099511627776 *ℤ n) (pos 18446744073709551616 *ℤ d))
+lies n d e v p h =
+    let whole = pos 18446744073709551616 *ℤ d in
+    let m = pos v *ℤ d -ℤ pos 1099511627776 *ℤ n in
+    let s = splits m whole (whole_positive d p) in
+    record { exact = by (pos v *ℤ d) (pos 1099511627776 *ℤ n) (int_div_euclid m whole *ℤ whole) (int_rem_euclid m whole) s.exact; low = s.rest.low; high = h.close }
+  where
+    by : (a b t r : ℤ) → a -ℤ b ≡ t +ℤ r → a ≡ b +ℤ r +ℤ t
+    by a b t r f = omega (arith, ints)
+
+pub is_scaled : (n d : ℤ) (e v : ℕ) (over turns : ℤ) → pos 0 <ℤ d → e < 18446744073709551616 → Lies n d e v over turns → IsScaled n d e v
+is_scaled n d e v over turns p few h =
+    let whole = pos 18446744073709551616 *ℤ d in
+    let m = pos v *ℤ d -ℤ pos 1099511627776 *ℤ n in
+    let exact : m ≡ turns *ℤ whole +ℤ over = by (pos v *ℤ d) (pos 1099511627776 *ℤ n) (turns *ℤ whole) over h.exact in
+    let rest : IsRest whole over = record { low = h.low; high = within d e over p few h.high } in
+    let only = only_split m whole turns over (whole_positive d p) (record { exact = exact; rest = rest }) in
+    let P : ℤ → Type 0 = λ r. r ≤ℤ (d *ℤ pos e) in
+    record { close = subst P (sym only.1) h.high }
+  where
+    by : (a b t r : ℤ) → a ≡ b +ℤ r +ℤ t → a -ℤ b ≡ t +ℤ r
+    by a b t r f = omega (arith, ints)
+
+    within : (d : ℤ) (e : ℕ) (over : ℤ) → pos 0 <ℤ d → e < 18446744073709551616 → over ≤ℤ (d *ℤ pos e) → over <ℤ (pos 18446744073709551616 *ℤ d)
+    within (pos d) e over p few h = let q = mul-le-mul_left d few in omega (arith, ints, q)
+    within (negsuc d) e over p few h = absurd (omega (arith, ints))
+
+-- what 64 bits keep of a number
+wraps : (n : ℕ) → pos (n % 18446744073709551616) ≡ pos n -ℤ pos (n / 18446744073709551616) *ℤ pos 18446744073709551616
+wraps n = let z = div-add-mod' n 18446744073709551616 in omega (arith, ints, z)
+
+-- the sum of two scaled numbers
+total : (n m d v w o p s t c : ℤ) → v *ℤ d ≡ pos 1099511627776 *ℤ n +ℤ o +ℤ s *ℤ (pos 18446744073709551616 *ℤ d) → w *ℤ d ≡ pos 1099511627776 *ℤ m +ℤ p +ℤ t *ℤ (pos 18446744073709551616 *ℤ d)
+    → ((v +ℤ w) -ℤ c *ℤ pos 18446744073709551616) *ℤ d ≡ pos 1099511627776 *ℤ (n +ℤ m) +ℤ (o +ℤ p) +ℤ (s +ℤ t -ℤ c) *ℤ (pos 18446744073709551616 *ℤ d)
+total n m d v w o p s t c e f = let x = mul_assoc c (pos 18446744073709551616) d in simp spread (omega (arith, ints, e, f, x))
+
+pub sum_scaled : (n m d : ℤ) (e f v w : ℕ) → pos 0 <ℤ d → e + f < 18446744073709551616 → IsScaled n d e v → IsScaled m d f w → IsScaled (n +ℤ m) d (e + f) ((v + w) % 18446744073709551616)
+sum_scaled n m d e f v w p few h k =
+    let a = lies n d e v p h in
+    let b = lies m d f w p k in
+    let o = int_rem_euclid (pos v *ℤ d -ℤ pos 1099511627776 *ℤ n) (pos 18446744073709551616 *ℤ d) in
+    let q = int_rem_euclid (pos w *ℤ d -ℤ pos 1099511627776 *ℤ m) (pos 18446744073709551616 *ℤ d) in
+    let s = int_div_euclid (pos v *ℤ d -ℤ pos 1099511627776 *ℤ n) (pos 18446744073709551616 *ℤ d) in
+    let t = int_div_euclid (pos w *ℤ d -ℤ pos 1099511627776 *ℤ m) (pos 18446744073709551616 *ℤ d) in
+    let c = pos ((v + w) / 18446744073709551616) in
+    let a_low = a.low in let a_high = a.high in let b_low = b.low in let b_high = b.high in
+    let kept : pos ((v + w) % 18446744073709551616) ≡ (pos v +ℤ pos w) -ℤ c *ℤ pos 18446744073709551616 = wraps (v + w) in
+    let exact = ap (λ z. z *ℤ d) kept ∙ total n m d (pos v) (pos w) o q s t c a.exact b.exact in
+    is_scaled (n +ℤ m) d (e + f) ((v + w) % 18446744073709551616) (o +ℤ q) (s +ℤ t -ℤ c) p few
+    (record { exact = exact; low = omega (arith, ints, a_low, b_low); high = both d o q (pos e) (pos f) a_high b_high })
+  where
+    both : (d o q e f : ℤ) → o ≤ℤ (d *ℤ e) → q ≤ℤ (d *ℤ f) → (o +ℤ q) ≤ℤ (d *ℤ (e +ℤ f))
+    both d o q e f h k = simp spread (omega (arith, ints, h, k))
+
+-- a scaled number so many times
+pub times_scaled : (n d : ℤ) (e v k : ℕ) → pos 0 <ℤ d → k * e < 18446744073709551616 → IsScaled n d e v → IsScaled (pos k *ℤ n) d (k * e) ((v * k) % 18446744073709551616)
+times_scaled n d e v zero p few h =
+    let none = is_scaled (pos 0 *ℤ n) d 0 0 (pos 0) (pos 0) p (omega arith) (record { exact = omega (arith, ints); low = omega (arith, ints); high = omega (arith, ints) }) in
+    let P : ℕ → Type 0 = λ x. IsScaled (pos 0 *ℤ n) d x (v * 0 % 18446744073709551616) in
+    let Q : ℕ → Type 0 = λ w. IsScaled (pos 0 *ℤ n) d 0 w in
+    let no_excess : 0 ≡ 0 * e = omega arith in
+    let no_value : 0 ≡ v * 0 % 18446744073709551616 = omega arith in
+    subst P no_excess (subst Q no_value none)
+times_scaled n d e v (suc k) p few h =
+    let before = times_scaled n d e v k p (omega arith) h in
+    let sum = sum_scaled (pos k *ℤ n) n d (k * e) e ((v * k) % 18446744073709551616) v p (omega arith) before h in
+    let P : ℤ → Type 0 = λ m. IsScaled m d (k * e + e) (((v * k) % 18446744073709551616 + v) % 18446744073709551616) in
+    let Q : ℕ → Type 0 = λ x. IsScaled (pos (suc k) *ℤ n) d x (((v * k) % 18446744073709551616 + v) % 18446744073709551616) in
+    let R : ℕ → Type 0 = λ w. IsScaled (pos (suc k) *ℤ n) d (suc k * e) w in
+    let one_more : pos k *ℤ n +ℤ n ≡ pos (suc k) *ℤ n = omega (arith, ints) in
+    let excess : k * e + e ≡ suc k * e = omega arith in
+    subst R (wrapped (v * k) v ∙ ap (λ x. x % 18446744073709551616) (product v k)) (subst Q excess (subst P one_more sum))
+  where
+    wrapped : (a b : ℕ) → (a % 18446744073709551616 + b) % 18446744073709551616 ≡ (a + b) % 18446744073709551616
+    wrapped a b = omega arith
+
+    product : (v k : ℕ) → v * k + v ≡ v * suc k
+    product v k = omega arith
+
+-- a division, scaled
+split_scaled : (n d q r t f c o : ℤ) → n ≡ (t *ℤ pos 4294967296 +ℤ q) *ℤ d +ℤ r → f *ℤ d ≡ pos 1099511627776 *ℤ r +ℤ o
+    → ((q *ℤ pos 1099511627776 +ℤ f) -ℤ c *ℤ pos 18446744073709551616) *ℤ d ≡ pos 1099511627776 *ℤ n +ℤ o +ℤ (pos 0 -ℤ c -ℤ t *ℤ pos 256) *ℤ (pos 18446744073709551616 *ℤ d)
+split_scaled n d q r t f c o e g =
+    let whole = mul_assoc c (pos 18446744073709551616) d in
+    let unit = mul_assoc q (pos 1099511627776) d ∙ mul_left_comm q (pos 1099511627776) d in
+    let high = mul_assoc t (pos 4294967296) d ∙ mul_left_comm t (pos 4294967296) d in
+    let turns = mul_assoc t (pos 256) (pos 18446744073709551616 *ℤ d) ∙ mul_left_comm t (pos 256) (pos 18446744073709551616 *ℤ d) in
+    let turn = mul_left_comm t (pos 18446744073709551616) d in
+    rw e (simp spread (omega (arith, ints, g, whole, unit, high, turns, turn)))
+
+pub scaled_division : (n d : ℤ) (a : Divided) (e f : ℕ) (o : ℤ) → pos 0 <ℤ d → e < 18446744073709551616 → IsDivision n d a → pos f *ℤ d ≡ pos 1099511627776 *ℤ a.remainder +ℤ o → pos 0 ≤ℤ o → o ≤ℤ (d *ℤ pos e)
+    → IsScaled n d e ((a.quotient * 1099511627776 % 18446744073709551616 + f) % 18446744073709551616)
+scaled_division n d a e f o p few h g low high =
+    let q = int_div_euclid n d in
+    let s = splits n d p in
+    let u = splits q (pos 4294967296) (omega (arith, ints)) in
+    let t = int_div_euclid q (pos 4294967296) in
+    let v = (a.quotient * 1099511627776 % 18446744073709551616 + f) % 18446744073709551616 in
+    let c = pos ((a.quotient * 1099511627776 + f) / 18446744073709551616) in
+    let whole : q ≡ t *ℤ pos 4294967296 +ℤ pos a.quotient = u.exact ∙ ap (λ r. t *ℤ pos 4294967296 +ℤ r) (sym h.quotient) in
+    let number : n ≡ (t *ℤ pos 4294967296 +ℤ pos a.quotient) *ℤ d +ℤ a.remainder = s.exact ∙ (λ i. whole i *ℤ d +ℤ sym h.remainder i) in
+    let kept : pos v ≡ (pos a.quotient *ℤ pos 1099511627776 +ℤ pos f) -ℤ c *ℤ pos 18446744073709551616 = ap pos (wrapped (a.quotient * 1099511627776) f) ∙ wraps (a.quotient * 1099511627776 + f) in
+    is_scaled n d e v o (pos 0 -ℤ c -ℤ t *ℤ pos 256) p few
+    (record { exact = ap (λ z. z *ℤ d) kept ∙ split_scaled n d (pos a.quotient) a.remainder t (pos f) c o number g; low = low; high = high })
+  where
+    wrapped : (a b : ℕ) → (a % 18446744073709551616 + b) % 18446744073709551616 ≡ (a + b) % 18446744073709551616
+    wrapped a b = omega arith
+
+-- a division whose rest was rounded up
+module _ (f : ℕ) where
+  over_low : (d r : ℤ) → pos 0 <ℤ d → pos 0 ≤ℤ r → 1099511627776 * unsigned_abs r ≤ f * unsigned_abs d → pos 0 ≤ℤ (pos f *ℤ d -ℤ pos 1099511627776 *ℤ r)
+  over_low (pos x) (pos y) p q l = omega (arith, ints, l)
+  over_low (pos x) (negsuc y) p q l = absurd (omega (arith, ints, q))
+  over_low (negsuc x) r p q l = absurd (omega (arith, ints, p))
+
+  over_high : (d r : ℤ) → pos 0 <ℤ d → pos 0 ≤ℤ r → f * unsigned_abs d < 1099511627776 * unsigned_abs r + unsigned_abs d → (pos f *ℤ d -ℤ pos 1099511627776 *ℤ r) ≤ℤ (d *ℤ pos 1)
+  over_high (pos x) (pos y) p q l = omega (arith, ints, l)
+  over_high (pos x) (negsuc y) p q l = absurd (omega (arith, ints, q))
+  over_high (negsuc x) r p q l = absurd (omega (arith, ints, p))
+
+parts_none : (f : ℕ) (d : ℤ) → pos 0 <ℤ d → f * unsigned_abs d < 1099511627776 * 0 + unsigned_abs d → f ≡ 0
+parts_none zero d p l = refl
+parts_none (suc f) (pos x) p l = absurd (omega (arith, l))
+parts_none (suc f) (negsuc x) p l = absurd (omega (arith, ints, p))
+
+again : (a b : ℤ) → a ≡ b +ℤ (a -ℤ b)
+again a b = omega (arith, ints)
+
+pub parts_near : (n d : ℤ) (a : Divided) (f : ℕ) → IsDivisor d → IsRest d a.remainder → 1099511627776 * unsigned_abs a.remainder ≤ f * unsigned_abs d → f * unsigned_abs d < 1099511627776 * unsigned_abs a.remainder + unsigned_abs d → IsDivision n d a
+    → IsScaled n d 1 ((a.quotient * 1099511627776 % 18446744073709551616 + f) % 18446744073709551616)
+parts_near n d a f p r low high h =
+    scaled_division n d a 1 f (pos f *ℤ d -ℤ pos 1099511627776 *ℤ a.remainder) p.positive (omega arith) h (again (pos f *ℤ d) (pos 1099511627776 *ℤ a.remainder))
+    (over_low f d a.remainder p.positive r.low low) (over_high f d a.remainder p.positive r.low high)
+
+pub parts_exact : (n d : ℤ) (a : Divided) (f : ℕ) → IsDivisor d → a.remainder ≡ pos 0 → f * unsigned_abs d < 1099511627776 * unsigned_abs a.remainder + unsigned_abs d → IsDivision n d a
+    → IsScaled n d 0 ((a.quotient * 1099511627776 % 18446744073709551616 + f) % 18446744073709551616)
+parts_exact n d a f p none high h =
+    let positive = p.positive in
+    let no_parts = parts_none f d positive (rw none at high) in
+    let exact : pos f *ℤ d ≡ pos 1099511627776 *ℤ a.remainder +ℤ pos 0 = (λ i. pos (no_parts i) *ℤ d) ∙ omega (arith, ints, none) in
+    scaled_division n d a 0 f (pos 0) positive (omega arith) h exact (omega (arith, ints)) (omega (arith, ints))
+
+-- by the error of 0 or 1
+pub by_error : (n d : ℤ) (e v : ℕ) → e ≤ 1 → IsScaled n d 1 v → (e ≡ 0 → IsScaled n d 0 v) → IsScaled n d e v
+by_error n d zero v l near exact = exact refl
+by_error n d (suc zero) v l near exact = near
+by_error n d (suc (suc e)) v l near exact = absurd (omega (arith, l))
+
+-- the value at a pixel, by steps from the first
+excess_is : (e x y : ℕ) → e ≤ 1 → (e + x * e) + y * e ≡ excess_at e x y
+excess_is zero x y l = omega arith
+excess_is (suc zero) x y l = omega arith
+excess_is (suc (suc e)) x y l = absurd (omega (arith, l))
+
+small_times : (e x : ℕ) → e ≤ 1 → x * e ≤ x
+small_times zero x l = omega arith
+small_times (suc zero) x l = omega arith
+small_times (suc (suc e)) x l = absurd (omega (arith, l))
+
+pub at_pixel : (f : Linear) (d : ℤ) (s : Scaled) (x y : ℕ) → IsDivisor d → IsScaledLinear f d s → x < 4294967296 → y < 4294967296
+    → IsScaled (value_at f x y) d (excess_at s.error x y) (((s.origin + s.right * x % 18446744073709551616) % 18446744073709551616 + s.down * y % 18446744073709551616) % 18446744073709551616)
+at_pixel f d s x y p h few_x few_y =
+    let e = s.error in
+    let l = h.error in
+    let sx = small_times e x l in
+    let sy = small_times e y l in
+    let along = times_scaled f.step_x d e s.right x p.positive (omega (arith, sx)) h.right in
+    let below = times_scaled f.step_y d e s.down y p.positive (omega (arith, sy)) h.down in
+    let first = sum_scaled f.origin (pos x *ℤ f.step_x) d e (x * e) s.origin (s.right * x % 18446744073709551616) p.positive (omega (arith, sx, l)) h.origin along in
+    let both = sum_scaled (f.origin +ℤ pos x *ℤ f.step_x) (pos y *ℤ f.step_y) d (e + x * e) (y * e) ((s.origin + s.right * x % 18446744073709551616) % 18446744073709551616) (s.down * y % 18446744073709551616) p.positive (omega (arith, sx, sy, l)) first below in
+    subst (λ k. IsScaled (value_at f x y) d k (((s.origin + s.right * x % 18446744073709551616) % 18446744073709551616 + s.down * y % 18446744073709551616) % 18446744073709551616)) (excess_is e x y l) both
+
+-- the excess after steps
+pub excess_right : (e x y : ℕ) → e ≤ 1 → excess_at e x y + 8 * e ≡ excess_at e (x + 8) y
+excess_right zero x y l = omega arith
+excess_right (suc zero) x y l = omega arith
+excess_right (suc (suc e)) x y l = absurd (omega (arith, l))
+
+pub excess_down : (e x y : ℕ) → e ≤ 1 → excess_at e x y + e ≡ excess_at e x (y + 1)
+excess_down zero x y l = omega arith
+excess_down (suc zero) x y l = omega arith
+excess_down (suc (suc e)) x y l = absurd (omega (arith, l))
+
+pub excess_bound : (a e x y : ℕ) → e ≤ 1 → x ≤ 8191 → y ≤ 8191 → a * (e * 16384) < 1099511627776 → a * excess_at e x y < 1099511627776
+excess_bound a zero x y l p q s = omega (arith, s)
+excess_bound a (suc zero) x y l p q s = let few : excess_at 1 x y ≤ 16384 = omega (arith, p, q) in let w = mul-le-mul_left a few in omega (arith, s, w)
+excess_bound a (suc (suc e)) x y l p q s = absurd (omega (arith, l))
+
+pub excess_few : (e x y : ℕ) → e ≤ 1 → x ≤ 8191 → y ≤ 8191 → excess_at e x y ≤ 16384
+excess_few zero x y l p q = omega arith
+excess_few (suc zero) x y l p q = omega arith
+excess_few (suc (suc e)) x y l p q = absurd (omega (arith, l))
+
+-- the value after a step, which adds the difference of what it leads to and from
+pub step_scaled : (n m d : ℤ) (e f g v w r : ℕ) → pos 0 <ℤ d → e + f ≡ g → g < 18446744073709551616 → r ≡ (v + w) % 18446744073709551616 → IsScaled n d e v → IsScaled (m -ℤ n) d f w → IsScaled m d g r
+step_scaled n m d e f g v w r p sum few is h k =
+    let P : ℤ → Type 0 = λ z. IsScaled z d (e + f) ((v + w) % 18446744073709551616) in
+    let Q : ℕ → Type 0 = λ x. IsScaled m d x ((v + w) % 18446744073709551616) in
+    let R : ℕ → Type 0 = λ x. IsScaled m d g x in
+    subst R (sym is) (subst Q sum (subst P (there n m) (sum_scaled n (m -ℤ n) d e f v w p (omega (arith, sum, few)) h k)))
+  where
+    there : (n m : ℤ) → n +ℤ (m -ℤ n) ≡ m
+    there n m = omega (arith, ints)
+
+-- a natural number that is scaled and small left nothing out
+turned_none : (h a v : ℕ) (o t : ℤ) (e : ℕ) → v < 18446744073709551616 → h ≤ a * 16777215 → e ≤ 16384 → 0 < a → pos v *ℤ pos a ≡ pos 1099511627776 *ℤ pos h +ℤ o +ℤ t *ℤ (pos 18446744073709551616 *ℤ pos a) → pos 0 ≤ℤ o → o ≤ℤ (pos a *ℤ pos e) → t ≡ pos 0
+turned_none h a v o (pos zero) e l m few some x low high = refl
+turned_none h a v o (pos (suc k)) e l m few some x low high = absurd (let y = mul-le-mul_left a l in omega (arith, ints, x, y))
+turned_none h a v o (negsuc k) e l m few some x low high = absurd (let y = mul-le-mul_left a few in omega (arith, ints, x, y))
+
+-- what a scaled depth tells of the height above it: times the area it is the height, and a little more
+pub record IsAbove (h a e v : ℕ) : Type 0 where
+  pub least : 1099511627776 * h ≤ v * a
+  pub most : v * a ≤ 1099511627776 * h + a * e
+
+pub above : (h a e v : ℕ) → v < 18446744073709551616 → h ≤ a * 16777215 → e ≤ 16384 → 0 < a → IsScaled (pos h) (pos a) e v → IsAbove h a e v
+above h a e v l m few some s =
+    let p : pos 0 <ℤ pos a = omega (arith, ints) in
+    let b = lies (pos h) (pos a) e v p s in
+    let o = int_rem_euclid (pos v *ℤ pos a -ℤ pos 1099511627776 *ℤ pos h) (pos 18446744073709551616 *ℤ pos a) in
+    let t = int_div_euclid (pos v *ℤ pos a -ℤ pos 1099511627776 *ℤ pos h) (pos 18446744073709551616 *ℤ pos a) in
+    let none = turned_none h a v o t e l m few some b.exact b.low b.high in
+    let exact : pos v *ℤ pos a ≡ pos 1099511627776 *ℤ pos h +ℤ o +ℤ pos 0 *ℤ (pos 18446744073709551616 *ℤ pos a) = b.exact ∙ ap (λ z. pos 1099511627776 *ℤ pos h +ℤ o +ℤ z *ℤ (pos 18446744073709551616 *ℤ pos a)) none in
+    let low = b.low in
+    let high = b.high in
+    record { least = omega (arith, ints, exact, low); most = omega (arith, ints, exact, high) }
+
+-- a quotient by its bounds
+quotient : (h a q : ℕ) → q * a ≤ h → h < q * a + a → h / a ≡ q
+quotient h a q low high =
+    let r = h - q * a in
+    let is : h ≡ q * a + r = omega arith in
+    ap (λ n. n / a) is ∙ div-mul-add q a r (omega arith)
+
+-- the depth is the whole part of the scaled height, or the number below it
+module _ (h a e v : ℕ) (some : 0 < a) (n : IsAbove h a e v) where
+  parts : v * a ≡ 1099511627776 * (v / 1099511627776 * a) + v % 1099511627776 * a
+  parts =
+      let z = div-add-mod' v 1099511627776 in
+      let s = add-mul (v / 1099511627776 * 1099511627776) (v % 1099511627776) a in
+      let t = mul_right_comm (v / 1099511627776) 1099511627776 a in
+      ap (λ m. m * a) (sym z) ∙ omega (arith, s, t)
+
+  below_next : h < v / 1099511627776 * a + a
+  below_next =
+      let p = parts in
+      let y = mod_below v 1099511627776 (omega arith) in
+      let x = add-mul (v % 1099511627776) 1 a in
+      let w = one_less y in
+      let l = n.least in
+      omega (arith, p, w, l, x)
+    where
+      one_less : v % 1099511627776 < 1099511627776 → (v % 1099511627776 + 1) * a ≤ 1099511627776 * a
+      one_less y = mul-le-mul_right a (omega (arith, y))
+
+  pub whole_exact : a * e < 1099511627776 → h / a ≡ v / 1099511627776
+  whole_exact small =
+      let p = parts in
+      let m = n.most in
+      quotient h a (v / 1099511627776) (omega (arith, p, m, small)) below_next
+
+  pub whole_far : e ≤ v % 1099511627776 → h / a ≡ v / 1099511627776
+  whole_far far =
+      let p = parts in
+      let m = n.most in
+      let w = mul-le-mul_left a far in
+      quotient h a (v / 1099511627776) (omega (arith, p, m, w)) below_next
+
+  pub whole_low : v / 1099511627776 * a ≤ h → h / a ≡ v / 1099511627776
+  whole_low low = quotient h a (v / 1099511627776) low below_next
+
+  pub whole_high : e ≤ 16384 → h < v / 1099511627776 * a → h / a + 1 ≡ v / 1099511627776
+  whole_high few high =
+      let p = parts in
+      let m = n.most in
+      let w = mul-le-mul_left a few in
+      by (v / 1099511627776) (omega (arith, p, m, w)) high
+    where
+      by : (q : ℕ) → q * a ≤ h + a → h < q * a → h / a + 1 ≡ q
+      by zero low high = absurd (omega (arith, high))
+      by (suc q) low high = let is = quotient h a q (omega (arith, low)) (omega (arith, high)) in omega (arith, is)

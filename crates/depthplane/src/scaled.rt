@@ -1,0 +1,102 @@
+//! Heights divided by the area, in 2^40ths: a step is one addition of 64 bits, and the depth is the high 24 bits.
+
+ghost use Rattle.std.specs.Prelude.{◌≡◌, ℤ, ◌≤◌, ◌<◌, ◌+◌, ◌*◌, pos, unsigned_abs, ℕ, slice_index};
+ghost use Rattle.depthplane.specs.Division.{IsDivision, IsDivisor, IsRest};
+ghost use Rattle.depthplane.specs.Linear.{value_at};
+ghost use Rattle.depthplane.specs.Scaled.{IsScaled, IsScaledLinear, excess_at};
+
+use crate::division::Divided;
+use crate::height::Linear;
+
+/// One unit of depth, in 2^40ths.
+pub(crate) const UNIT: u64 = 1_099_511_627_776;
+
+/// A number that is linear over the target, times 2^40 and divided by the area: its value at the centre of pixel (0, 0),
+/// and what a pixel to the right or down adds to it. Each is rounded up, and multiples of 2^64 are left out.
+#[derive(Clone, Copy, Debug)]
+pub(crate) struct Scaled {
+    pub(crate) origin: u64,
+    pub(crate) right: u64,
+    pub(crate) down: u64,
+    /// By how many 2^40ths each may be too great: 0 where no rest was rounded up, and else 1.
+    pub(crate) error: u8,
+}
+
+/// A rest in 2^40ths of its divisor, rounded up.
+fn fraction(rest: i64, divisor: i64) -> u64
+    requires divisor { IsDivisor divisor }
+    requires rest { IsRest divisor rest }
+    ensures least { 1099511627776 * unsigned_abs rest ≤ result * unsigned_abs divisor }
+    ensures most { result * unsigned_abs divisor < 1099511627776 * unsigned_abs rest + unsigned_abs divisor }
+{
+    let parts = u128::from(rest.unsigned_abs()) * u128::from(UNIT);
+    parts.div_ceil(u128::from(divisor.unsigned_abs())) as u64
+}
+
+/// A division in 2^40ths, rounded up.
+fn parts_of(division: Divided, divisor: i64) -> u64
+    requires divisor { IsDivisor divisor }
+    requires rest { IsRest divisor division.remainder }
+    ensures near { (n : ℤ) → IsDivision n divisor division → IsScaled n divisor 1 result }
+    ensures exact { (n : ℤ) → division.remainder ≡ pos 0 → IsDivision n divisor division → IsScaled n divisor 0 result }
+{
+    u64::from(division.quotient)
+        .wrapping_mul(UNIT)
+        .wrapping_add(fraction(division.remainder, divisor))
+}
+
+/// By how much a rounded division may be too great, in 2^40ths: not at all where none of them has a rest.
+fn error_of(origin: Divided, right: Divided, down: Divided) -> u8
+    ensures small { result ≤ 1 }
+    ensures origin { result ≡ 0 → origin.remainder ≡ pos 0 }
+    ensures right { result ≡ 0 → right.remainder ≡ pos 0 }
+    ensures down { result ≡ 0 → down.remainder ≡ pos 0 }
+{
+    if origin.remainder == 0 && right.remainder == 0 && down.remainder == 0 {
+        0
+    } else {
+        1
+    }
+}
+
+impl Scaled {
+    /// The divisions of a linear number's value at pixel (0, 0), and of its steps, in 2^40ths.
+    pub(crate) fn of(origin: Divided, right: Divided, down: Divided, divisor: i64) -> Scaled
+        requires divisor { IsDivisor divisor }
+        requires origin { IsRest divisor origin.remainder }
+        requires right { IsRest divisor right.remainder }
+        requires down { IsRest divisor down.remainder }
+        ensures { (f : Linear) → IsDivision f.origin divisor origin → IsDivision f.step_x divisor right → IsDivision f.step_y divisor down → IsScaledLinear f divisor result }
+    {
+        Scaled {
+            origin: parts_of(origin, divisor),
+            right: parts_of(right, divisor),
+            down: parts_of(down, divisor),
+            error: error_of(origin, right, down),
+        }
+    }
+
+    /// The value at pixel (x, y).
+    #[inline]
+    pub(crate) fn at(self, x: u32, y: u32) -> u64
+        ensures { (f : Linear) (divisor : ℤ) → IsDivisor divisor → IsScaledLinear f divisor self → IsScaled (value_at f x y) divisor (excess_at self.error x y) result }
+    {
+        let along = self.right.wrapping_mul(u64::from(x));
+        let below = self.down.wrapping_mul(u64::from(y));
+        self.origin.wrapping_add(along).wrapping_add(below)
+    }
+
+    /// The values at pixel (x, y) and the seven to its right.
+    pub(crate) fn eight_at(self, x: u32, y: u32) -> [u64; 8]
+        requires x { x < 4096 }
+        ensures near { (f : Linear) (divisor : ℤ) → IsDivisor divisor → IsScaledLinear f divisor self → (j : ℕ) → j < 8
+            → IsScaled (value_at f (x + j) y) divisor (excess_at self.error (x + j) y) (slice_index result j) }
+        ensures fits { (j : ℕ) → j < 8 → slice_index result j < 18446744073709551616 }
+    {
+        let mut values = [0; 8];
+        for j in 0..8u32 {
+            values[j as usize] = self.at(x + j, y);
+        }
+        values
+    }
+}

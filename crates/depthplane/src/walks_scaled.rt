@@ -1,0 +1,189 @@
+//! Eight walks by additions: each keeps its height, divided by the area, in 2^40ths.
+
+ghost use Rattle.std.specs.Prelude.{◌≡◌, ◌≢◌, ℕ, ◌<◌, ◌≤◌, ◌+◌, ◌*◌, ◌/◌, ◌%◌, ℤ, pos, ◌*ℤ◌, int_lt, IsTrue, slice_index, unsigned_abs, if◌then◌else◌};
+ghost use Rattle.depthplane.specs.Division.{IsDivisor};
+ghost use Rattle.gfxspec.specs.Raster.{centre};
+ghost use Rattle.depthplane.specs.Height.{height, size_of};
+ghost use Rattle.depthplane.specs.Mended.{mended_by};
+
+use crate::plane::Plane;
+use crate::scaled::UNIT;
+use crate::walks::Walks;
+use std::marker::Model;
+
+/// So near above a whole number, in 2^40ths, a value may belong to the depth below it: no more steps than these lead to any
+/// pixel.
+const NEAR: u64 = 16_384;
+
+/// Eight walks by multiples of 2^-40. The steps stand in the walks themselves, so that a loop over rows needn't read them from
+/// the plane again. A value that lies too near above a whole number to be sure of its depth is looked at exactly.
+#[derive(Drop)]
+pub struct ScaledWalks<'a> {
+    plane: &'a Plane,
+    left: u32,
+    top: u32,
+    x: u32,
+    y: u32,
+    area: i64,
+    across: u64,
+    down: u64,
+    error: u8,
+    /// Whether every depth is sure: nothing was rounded, or the area is so small that no value can be too near.
+    sure: bool,
+    lanes: [u64; 8],
+}
+
+impl<'a> Model for ScaledWalks<'a> {
+    ghost use Rattle.depthplane.specs.Places.{Places};
+
+    ghost Value = { Places };
+
+    ghost use Rattle.depthplane.specs.ScaledInside.{place_of, AreWalks};
+
+    ghost view = { place_of };
+
+    ghost invariant = { AreWalks };
+}
+
+/// The whole parts of eight values.
+#[inline]
+fn whole_parts(lanes: &[u64; 8]) -> [u32; 8]
+    ensures { (j : ℕ) → j < 8 → slice_index result j ≡ slice_index lanes.now j / 1099511627776 % 4294967296 }
+{
+    let mut parts = [0; 8];
+    for j in 0..8usize {
+        parts[j] = (lanes[j] / UNIT) as u32;
+    }
+    parts
+}
+
+/// Whether none of eight values is near above a whole number.
+#[inline]
+fn all_far(lanes: &[u64; 8]) -> bool
+    ensures { IsTrue result → (j : ℕ) → j < 8 → 16384 ≤ slice_index lanes.now j % 1099511627776 }
+{
+    let mut far = true;
+    for j in 0..8usize {
+        far &= lanes[j] % UNIT >= NEAR;
+    }
+    far
+}
+
+/// The same eight values, each with a step more.
+#[inline]
+fn stepped(lanes: &[u64; 8], step: u64) -> [u64; 8]
+    ensures { (j : ℕ) → j < 8 → slice_index result j ≡ (slice_index lanes.now j + step) % 18446744073709551616 }
+{
+    let mut after = [0; 8];
+    for j in 0..8usize {
+        after[j] = lanes[j].wrapping_add(step);
+    }
+    after
+}
+
+/// A depth, or the one below it if its height would be more than the height.
+fn mended(depth: u32, height: i128, area: i64) -> u32
+    requires { IsDivisor area }
+    ensures { result ≡ mended_by height area depth }
+{
+    if height < i128::from(depth) * i128::from(area) {
+        depth.wrapping_sub(1)
+    } else {
+        depth
+    }
+}
+
+/// Whether an area is so small, or nothing was rounded, that each depth is sure.
+fn is_sure(area: i64, error: u8) -> bool
+    requires divisor { IsDivisor area }
+    requires error { error ≤ 1 }
+    ensures { IsTrue result → unsigned_abs area * (error * 16384) < 1099511627776 }
+{
+    error == 0 || area < 67_108_864
+}
+
+impl Plane {
+    /// Eight walks that begin at pixel (x, y) and the seven to its right.
+    pub fn walk_eight(&self, x: u32, y: u32) -> ScaledWalks<'_>
+        requires x { x < 4096 }
+        requires y { y < 4096 }
+        ensures { result ≡ record { plane = self.now; left = x; top = y; x = x; y = y } }
+    {
+        let scaled = self.scaled;
+        ScaledWalks {
+            plane: self,
+            left: x,
+            top: y,
+            x,
+            y,
+            area: self.area,
+            across: scaled.right.wrapping_mul(8),
+            down: scaled.down,
+            error: scaled.error,
+            sure: is_sure(self.area, scaled.error),
+            lanes: scaled.eight_at(x, y),
+        }
+    }
+}
+
+impl<'a> ScaledWalks<'a> {
+    /// The depths at pixels whose values are near above whole numbers: those, or the ones below.
+    #[cold]
+    #[inline(never)]
+    fn mend(&self, depths: [u32; 8]) -> [u32; 8]
+        ensures { (j : ℕ) → j < 8 → slice_index result j ≡ mended_by (height self.now.plane (centre (self.now.x + j) self.now.y)) (size_of self.now.plane) (slice_index depths j) }
+    {
+        let plane = self.plane;
+        let mut exact = depths;
+        for j in 0..8u32 {
+            let height = plane.height.at(self.x + j, self.y);
+            exact[j as usize] = mended(depths[j as usize], height, self.area);
+        }
+        exact
+    }
+}
+
+impl<'a> Walks for ScaledWalks<'a> {
+    ghost place = { λ w. w };
+
+    #[inline]
+    fn depths(&self) -> [u32; 8] {
+        let depths = whole_parts(&self.lanes);
+        if self.sure {
+            return depths;
+        }
+        if all_far(&self.lanes) {
+            return depths;
+        }
+        self.mend(depths)
+    }
+
+    #[inline]
+    fn next(&mut self) {
+        self.lanes = stepped(&self.lanes, self.down);
+        self.y += 1;
+    }
+
+    #[inline]
+    fn eight_right(&mut self) {
+        self.lanes = stepped(&self.lanes, self.across);
+        self.x += 8;
+    }
+
+    #[inline]
+    fn copied(&self) -> Self {
+        ScaledWalks {
+            plane: self.plane,
+            left: self.left,
+            top: self.top,
+            x: self.x,
+            y: self.y,
+            area: self.area,
+            across: self.across,
+            down: self.down,
+            error: self.error,
+            sure: self.sure,
+            lanes: self.lanes,
+        }
+    }
+}
