@@ -1,6 +1,6 @@
 //! The stencil test of eight pixels.
 
-ghost use Rattle.std.specs.Prelude.{◌≡◌, ℕ, ◌<◌, ◌==◌, bit_and, slice_index, if◌then◌else◌};
+ghost use Rattle.std.specs.Prelude.{◌≡◌, ℕ, ◌<◌, ◌==◌, true, IsTrue, bit_and, slice_index, if◌then◌else◌};
 ghost use Rattle.std.specs.Int.{bit_at};
 ghost use Rattle.gfxspec.specs.DepthStencil.{compares, masked};
 ghost use Rattle.lanes.specs.Stencil.{has, reference_passes, stencil_after};
@@ -80,6 +80,10 @@ pub struct StencilTest {
     fail: ByteChange,
     depth_fail: ByteChange,
     pass: ByteChange,
+    /// Whether the operation where both tests pass keeps what is stored, where the stencil test fails, and wherever.
+    pass_keeps: bool,
+    fail_keeps: bool,
+    all_keep: bool,
 }
 
 impl Model for StencilTest {
@@ -99,6 +103,8 @@ impl StencilTest {
         ensures { result ≡ record { setting = state.now; face = if front then state.now.front else state.now.back; reference = reference } }
     {
         let face = if front { state.front() } else { state.back() };
+        let pass_keeps = face.pass == StencilOp::Keep;
+        let fail_keeps = face.fail == StencilOp::Keep;
         StencilTest {
             state: *state,
             front,
@@ -110,7 +116,25 @@ impl StencilTest {
             fail: ByteChange::of(face.fail, reference),
             depth_fail: ByteChange::of(face.depth_fail, reference),
             pass: ByteChange::of(face.pass, reference),
+            pass_keeps,
+            fail_keeps,
+            all_keep: pass_keeps && fail_keeps && face.depth_fail == StencilOp::Keep,
         }
+    }
+
+    /// Whether each of the covered values is surely kept, where bit j of `passing` says whether the stencil test passes at
+    /// value j, and bit j of `deep` whether the depth test does.
+    #[inline]
+    pub fn keeps(&self, cover: u8, passing: u8, deep: u8) -> bool
+        ensures { IsTrue result → (j v : ℕ) → j < 8 → has cover j ≡ true → v < 256 → stencil_after self.now (has passing j) (has deep j) v ≡ v }
+    {
+        if cover & passing == 0 {
+            return self.fail_keeps;
+        }
+        if cover & (passing & deep) == cover {
+            return self.pass_keeps;
+        }
+        self.all_keep
     }
 
     /// Bit j is set where the test passes at stored value j

@@ -272,3 +272,14 @@ stencil_lane b kind z old true passing deep u d after ep ed eu e ea =
 
 pub stencil_passes_both : (b : Brush) → tests_of b.state ≡ Stencil → (z : ℕ) (old : DepthStencil) (passing deep : Bool) → passing ≡ reference_passes (rule_of b) old.stencil → deep ≡ deep_enough b z old → (passing && deep) ≡ (tested_by b z old).passed
 stencil_passes_both b kind z old passing deep ep ed = (λ i. ep i && ed i) ∙ sym (ap (λ (o : TestOutcome). o.passed) (tested_stencil b kind z old))
+
+-- a covered lane whose value an operation keeps, or changes
+abbrev stenciled : Pixel → Bool → ℕ → Pixel
+stenciled p t n = record { rgba = p.rgba; ds = record { depth = p.ds.depth; stencil = if t then n else p.ds.stencil } }
+
+pub stencil_kept : (p : Pixel) (t : Bool) (n : ℕ) → (t ≡ true → n ≡ p.ds.stencil) → p ≡ stenciled p t n
+stencil_kept p true n same = ap (λ m. stenciled p true m) (sym (same refl))
+stencil_kept p false n same = refl
+
+pub stencil_changed : (p : Pixel) (t : Bool) (n m : ℕ) → n ≡ m → stenciled p t n ≡ stenciled p t m
+stencil_changed p t n m e = ap (stenciled p t) e

@@ -2,7 +2,7 @@
 use Rattle.std.specs.Prelude.{ℕ, ◌≡◌, ◌<◌, ◌&&◌, if◌then◌else◌, List, slice_index}
 use Rattle.gfxspec.specs.declared.pixel.Pixel.{Pixel}
 use Rattle.gfxspec.specs.Color.{written_color}
-use Rattle.lanes.specs.Stencil.{has}
+use Rattle.lanes.specs.Stencil.{StencilRule, has, stencil_after}
 use Rattle.tileblock.specs.Block.{Block}
 use Rattle.tileblock.specs.SpanStored.{lane_pixel}
 use Rattle.tileprog.specs.declared.brush.Brush.{Brush}
@@ -33,3 +33,8 @@ deepened_lane bits depths j p =
 abbrev pub stenciled_lane : ℕ → List ℕ → ℕ → Pixel → Pixel
 stenciled_lane bits stencils j p =
     record { rgba = p.rgba; ds = record { depth = p.ds.depth; stencil = if has bits j then slice_index stencils j else p.ds.stencil } }
+
+-- stencil values after the operations of a test, where bits are set
+abbrev pub operated_lane : StencilRule → ℕ → ℕ → ℕ → ℕ → Pixel → Pixel
+operated_lane r cover passing deep j p =
+    record { rgba = p.rgba; ds = record { depth = p.ds.depth; stencil = if has cover j then stencil_after r (has passing j) (has deep j) p.ds.stencil else p.ds.stencil } }

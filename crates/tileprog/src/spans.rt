@@ -12,7 +12,7 @@ ghost use Rattle.tileprog.specs.Edges.{passes_edges};
 ghost use Rattle.tileprog.specs.Kinds.{tests_of};
 ghost use Rattle.tileprog.specs.declared.kind.Tests.TheVariants.{Open, Depth, Stencil};
 ghost use Rattle.tileprog.specs.Counting.{eight, one_if};
-ghost use Rattle.tileprog.specs.SpanDrawn.{painted_lane, tested_lane, drawn_lane, deepened_lane, stenciled_lane, ArePassed};
+ghost use Rattle.tileprog.specs.SpanDrawn.{painted_lane, tested_lane, drawn_lane, deepened_lane, stenciled_lane, operated_lane, ArePassed};
 
 use crate::brush::Brush;
 use edges::EdgeWalk;
@@ -162,6 +162,30 @@ fn deep_mask<A: Allocator>(
     }
 }
 
+/// Stores what the operations of a stencil test leave of the span's covered values, unless each is kept.
+#[inline]
+fn change_stencils<A: Allocator>(
+    block: &mut TileBlock<A>,
+    span: u32,
+    row: u32,
+    cover: u8,
+    stored: &[u8; 8],
+    passing: u8,
+    deep: u8,
+    test: &StencilTest,
+)
+    requires span { span < 4 }
+    requires row { row < 32 }
+    requires stored { (j : ℕ) → j < 8 → slice_index stored.now j ≡ (lane_pixel block.old span row j).ds.stencil }
+    requires small { (j : ℕ) → j < 8 → slice_index stored.now j < 256 }
+    ensures { SpanStored block.old block.new span row (operated_lane test.now cover passing deep) }
+{
+    if test.keeps(cover, passing, deep) {
+        return;
+    }
+    put_stencils(block, span, row, cover, &test.after(stored, passing, deep));
+}
+
 /// Tests stencil and depth at the span's covered pixels, and stores what the tests leave.
 #[inline]
 fn test_stencils<A: Allocator>(
@@ -184,7 +208,7 @@ fn test_stencils<A: Allocator>(
     let passing = test.passes(&stored);
     let deep = deep_mask(block, span, row, new, brush);
     let passed = cover & (passing & deep);
-    put_stencils(block, span, row, cover, &test.after(&stored, passing, deep));
+    change_stencils(block, span, row, cover, &stored, passing, deep, test);
     if brush.state.depth() && brush.state.write() {
         put_depths(block, span, row, passed, new);
     }

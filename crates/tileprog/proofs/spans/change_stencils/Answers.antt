@@ -1,0 +1,20 @@
+use Rattle.std.proofs.Common.{◌≡◌, ◌∙◌, ap, sym, refl, subst, Bool, true, false, ℕ}
+use Rattle.std.specs.Prelude.{slice_index, if◌then◌else◌, ◌<◌}
+use Rattle.lanes.specs.Stencil.{has, stencil_after}
+use Rattle.tileblock.specs.SpanStored.{lane_pixel}
+use Rattle.tileprog.proofs.Spanning.{changed, unchanged}
+use Rattle.tileprog.proofs.Lanes.{stencil_kept, stencil_changed}
+use Rattle.tileprog.proofs.spans.change_stencils.Goals as goal
+
+pub returns-then-keeps : goal.returns-then-keeps
+returns-then-keeps g c =
+    unchanged c.args.block.now c.args.span c.args.row _ (λ j h.
+    let p = lane_pixel c.args.block.now c.args.span c.args.row j in
+    let is = c.requires.stored j h in
+    stencil_kept p (has c.args.cover j) _ (λ k. c.keeps.ensures c.if-keeps.true j p.ds.stencil h k (subst (λ n. n < 256) is (c.requires.small j h))))
+
+pub returns : goal.returns
+returns g c =
+    changed _ _ _ _ _ _ c.put_stencils.ensures (λ j h.
+    let p = lane_pixel c.args.block.now c.args.span c.args.row j in
+    stencil_changed p (has c.args.cover j) _ _ (c.after.ensures j h ∙ ap (λ v. stencil_after c.args.test.now (has c.args.passing j) (has c.args.deep j) v) (c.requires.stored j h)))
