@@ -58,8 +58,9 @@ pub(crate) fn open_row<A: Allocator>(
     lanes_in(cover)
 }
 
-/// A span under a brush that tests depth alone; the answer is how many pixels pass.
-#[inline]
+/// A span under a brush that tests depth alone; the answer is how many pixels pass. It stands in the loop over rows
+/// itself, so that the comparison is decided before the loop.
+#[inline(always)]
 pub(crate) fn depth_row<A: Allocator, W: Walks>(
     block: &mut TileBlock<A>,
     column: &Column,

@@ -31,6 +31,9 @@ fn add_counts(counts: &mut [u32; 64], issues: u64, passed: u32)
     requires few { passed ≤ 1024 }
     ensures { HasGrown counts.old counts.new (λ k. if bit_at issues k == 1 then passed else 0) }
 {
+    if issues == 0 {
+        return;
+    }
     for k in 0..64usize {
         counts[k] += share(issues, k, passed);
     }
