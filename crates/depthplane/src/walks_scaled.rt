@@ -10,6 +10,7 @@ use crate::plane::Plane;
 use crate::scaled::UNIT;
 use crate::walks::Walks;
 use std::marker::Model;
+use std::simd::prelude::*;
 
 /// So near above a whole number, in 2^40ths, a value may belong to the depth below it: no more steps than these lead to any
 /// pixel.
@@ -48,11 +49,12 @@ impl<'a> Model for ScaledWalks<'a> {
 /// The whole parts of eight values.
 #[inline]
 fn whole_parts(lanes: &[u64; 8]) -> [u32; 8]
-    ensures { (j : ℕ) → j < 8 → slice_index result j ≡ slice_index lanes.now j / 1099511627776 % 4294967296 }
+    ensures { (j : ℕ) → j < 8 → slice_index result j ≡ slice_index lanes.now j / 1099511627776 % 16777216 }
 {
+    let whole = (u64x8::from_array(*lanes) >> u64x8::splat(40)).to_array();
     let mut parts = [0; 8];
     for j in 0..8usize {
-        parts[j] = (lanes[j] / UNIT) as u32;
+        parts[j] = (whole[j] % 16_777_216) as u32;
     }
     parts
 }

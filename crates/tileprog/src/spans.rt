@@ -56,7 +56,7 @@ pub(crate) fn moved8(depths: [u32; 8], bias: i32) -> [u32; 8]
 }
 
 /// Writes the colours of the span's pixels whose bits are set.
-#[inline]
+#[inline(always)]
 fn paint_span<A: Allocator>(block: &mut TileBlock<A>, span: u32, row: u32, bits: u8, brush: &Brush)
     requires span { span < 4 }
     requires row { row < 32 }
@@ -83,7 +83,7 @@ fn paint_span<A: Allocator>(block: &mut TileBlock<A>, span: u32, row: u32, bits:
 }
 
 /// Stores depths where bits are set.
-#[inline]
+#[inline(always)]
 fn put_depths<A: Allocator>(block: &mut TileBlock<A>, span: u32, row: u32, bits: u8, new: &[u32; 8])
     requires span { span < 4 }
     requires row { row < 32 }
@@ -117,7 +117,7 @@ fn put_stencils<A: Allocator>(
 }
 
 /// Tests depth at the span's covered pixels. Where it passes the depth is stored, if it is to be.
-#[inline]
+#[inline(always)]
 fn test_depths<A: Allocator>(
     block: &mut TileBlock<A>,
     span: u32,
@@ -234,7 +234,7 @@ pub(crate) fn blend_open<A: Allocator>(
 }
 
 /// Draws the span's covered pixels under a brush that tests depth alone; the answer has a bit for each that passes.
-#[inline]
+#[inline(always)]
 pub(crate) fn blend_depths<A: Allocator>(
     block: &mut TileBlock<A>,
     span: u32,

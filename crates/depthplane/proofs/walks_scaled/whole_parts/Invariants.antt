@@ -1,8 +1,8 @@
-use Rattle.std.proofs.Common.{◌≡◌, ℕ, ◌<◌, ◌+◌, ◌/◌, ◌%◌, length, slice_index}
+use Rattle.std.proofs.Common.{◌≡◌, ℕ, ◌<◌, ◌%◌, length, slice_index}
 use Rattle.depthplane.proofs.walks_scaled.whole_parts.Given as goal
 
 abbrev pub invariant-loop-j : goal.invariant-loop-j
 invariant-loop-j l = record {
   long : length l.parts ≡ 8;
-  stored : (k : ℕ) → k < l.j → slice_index l.parts k ≡ slice_index l.lanes k / 1099511627776 % 4294967296;
+  stored : (k : ℕ) → k < l.j → slice_index l.parts k ≡ slice_index l.whole k % 16777216;
 }

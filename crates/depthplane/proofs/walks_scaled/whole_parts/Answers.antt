@@ -1,0 +1,16 @@
+use Rattle.std.proofs.Common.{rules, arith, ◌≡◌, ◌∙◌, ap, ℕ, ◌<◌, ◌^◌, ◌/◌, ◌%◌, length, slice_index, List, [], ◌∷◌, w64}
+use Rattle.std.proofs.lemmas.Simd.{get_or-zip2, get_or-replicate}
+use borrow.Rule.Simd.Lanes.{act2}
+use borrow.Table.Row.{s_int}
+use mir.Syntax.{shr, unsigned}
+use Rattle.depthplane.proofs.walks_scaled.whole_parts.Goals as goal
+
+pub returns : goal.returns
+returns c = λ j h.
+    let xs = c.args.lanes.now in
+    let long : length xs ≡ 8 = c.told-lanes in
+    let shift : ℕ → ℕ → ℕ = act2 (shr unsigned) (s_int w64) (s_int w64) (s_int w64) in
+    let wide : List ℕ = 40 ∷ 40 ∷ 40 ∷ 40 ∷ 40 ∷ 40 ∷ 40 ∷ 40 ∷ [] in
+    c.loop-j.invariant.stored j (omega arith)
+    ∙ ap (λ n. n % 16777216) (get_or-zip2 shift xs wide j 0 0 0 (omega (arith, long)) h
+    ∙ ap (λ n. slice_index xs j / 2 ^ n) (get_or-replicate 8 j 40 0 h))
