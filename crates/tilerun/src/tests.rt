@@ -5,3 +5,4 @@ mod growths;
 mod meeting;
 mod rows;
 mod stamps;
+mod stealing;
