@@ -1,4 +1,5 @@
-//! Each kernel, called so often. What a call computes goes into the next or into a sum, so that none is left out.
+//! Each kernel, called so often over one scene, which is the same for any number of calls. What a call computes goes into the
+//! next or into a sum, so that none is left out.
 
 ghost use Rattle.std.specs.Prelude.{◌≤◌, ◌<◌, ◌≢◌, ℕ, pos, unsigned_abs, slice_index, All};
 ghost use Rattle.gfxspec.specs.Raster.{area};
@@ -14,6 +15,9 @@ use states::ColorMask;
 
 /// The legs of a triangle with its right angle at the left upper corner: 512 pixels.
 const LEG: i32 = 131_072;
+
+/// What the scenes are made from. From this number one edge or two cross 107 of the 128 crossed spans.
+const SEED: u32 = 20_000_000;
 
 /// The spans of a tile: four in each of 32 rows, as a block of a target has them.
 type Spans = [[u32; 8]; 128];
@@ -77,9 +81,9 @@ fn cover(first: &[i32; 3], step: &[i32; 3]) -> u8 {
 
 /// Masks of spans whose edges begin at `least` to `least + 1023` and change by up to 128 from pixel to pixel.
 fn covers(calls: u32, least: i32) -> u64 {
-    let firsts = numbers(calls, least, 1023);
-    let steps = numbers(calls, -128, 255);
-    let step = &steps[(calls % 128) as usize];
+    let firsts = numbers(SEED, least, 1023);
+    let steps = numbers(SEED, -128, 255);
+    let step = &steps[0];
     let mut sum = 0u64;
     for call in 0..calls {
         let mask = cover(&firsts[(call % 128) as usize], step);
@@ -100,8 +104,8 @@ pub(crate) fn uncrossed_spans(calls: u32) -> u64 {
 
 /// Depths against stored ones.
 pub(crate) fn comparisons(calls: u32) -> u64 {
-    let old = spans(calls);
-    let new = spans(after(calls));
+    let old = spans(SEED);
+    let new = spans(after(SEED));
     let mut sum = 0u64;
     for call in 0..calls {
         let at = (call % 128) as usize;
@@ -113,7 +117,7 @@ pub(crate) fn comparisons(calls: u32) -> u64 {
 
 /// A colour onto the spans of a tile, again and again, by exclusive or in three channels.
 pub(crate) fn logic(calls: u32) -> u64 {
-    let mut colors = spans(calls);
+    let mut colors = spans(SEED);
     let mask = ColorMask::RED | ColorMask::GREEN | ColorMask::BLUE;
     for call in 0..calls {
         let at = (call % 128) as usize;
@@ -124,8 +128,8 @@ pub(crate) fn logic(calls: u32) -> u64 {
 
 /// Colours onto the spans of a tile where bits are set.
 pub(crate) fn choices(calls: u32) -> u64 {
-    let new = spans(after(calls));
-    let mut colors = spans(calls);
+    let new = spans(after(SEED));
+    let mut colors = spans(SEED);
     for call in 0..calls {
         let at = (call % 128) as usize;
         let bits = (call.wrapping_mul(157) >> 3 & 255) as u8;

@@ -1,9 +1,10 @@
 //! The lines of the immediate context, taken while workers run the tiles beside the caller.
 
-ghost use Rattle.std.specs.Prelude.{true, ◌≡◌, ◌≤◌, length, map, OnOk, IfOk, IfErr, MatchOption, [], None, Some};
+ghost use Rattle.std.specs.Prelude.{true, ◌≡◌, ◌<◌, ◌≤◌, length, map, OnOk, IfOk, IfErr, MatchOption, [], None, Some};
 ghost use Rattle.gfxspec.specs.Recorded.{queries_open};
 ghost use Rattle.gfxspec.specs.Refusals.{first_row, flush_rows, pixel_rows, query_rows};
 ghost use Rattle.scenetext.specs.Seen.{actor_value, verb_value, line_value};
+ghost use Rattle.scenetext.specs.Scene.{Execute};
 ghost use Rattle.scenetext.specs.Spelling.{AreLines};
 ghost use Rattle.immediate.specs.Held.{shown, answered, Runs};
 ghost use Rattle.sessions.specs.Telling.{replied};
@@ -80,6 +81,45 @@ fn get_data<A: Allocator + Copy + Send + Sync, R: Threads + Sync, G: Gate + Sync
     context.get_data(rt, query, workers, gate)
 }
 
+/// Executes a list of another context, where it comes; workers run the tiles beside the caller.
+fn take_execution<
+    A: Allocator + Copy + Send + Sync,
+    S: Shelves<CommandList<A>>,
+    R: Threads + Sync,
+    G: Gate + Sync,
+>(
+    rt: &R,
+    workers: u32,
+    gate: &G,
+    immediate: &mut ImmediateContext<A>,
+    shelves: &mut S,
+    context: u32,
+    number: u32,
+    restore: bool,
+) -> Result<(), Pause>
+    requires context { context < 8 }
+    requires workers { workers ≤ 15 }
+    ensures right { S.right shelves.new ≡ S.right shelves.old }
+    ensures frame { S.frame shelves.new ≡ S.frame shelves.old }
+    ensures agrees { S.agrees shelves.new → S.agrees shelves.old }
+    ensures answer { OnOk result (first_row (own_rows immediate.old (Execute context number restore)) ≡ None) }
+    ensures taken { OnOk result (S.agrees shelves.new → OwnTaken (S.right shelves.new) (Execute context number restore) immediate.old immediate.new) }
+    ensures pause { IfErr result (Paused (first_row (own_rows immediate.old (Execute context number restore))) (Execute context number restore)) }
+    ensures missing { IfErr result (λ pause. MatchOption (missing_of pause) (Unit {0}) (λ name. S.lacks shelves.new name.0 name.1)) }
+{
+    match shelves.seek(context, number) {
+        Ok(true) => {}
+        Ok(false) => return Err(Pause::Missing(context, number)),
+        Err(_) => return Err(Pause::Refused(GfxError::OutOfMemory)),
+    }
+    let list = shelves.list(context, number);
+    leaves_none_open(list);
+    match execute(rt, workers, gate, immediate, list, restore) {
+        Ok(()) => Ok(()),
+        Err(refusal) => Err(Pause::Refused(refusal)),
+    }
+}
+
 /// Takes a verb of the immediate context; workers run the tiles beside the caller.
 fn take_own<
     A: Allocator + Copy + Send + Sync,
@@ -111,16 +151,11 @@ fn take_own<
             Err(refusal) => Err(Pause::Refused(refusal)),
         },
         Verb::Execute(context, number, restore) => {
-            match shelves.seek(*context, *number) {
-                Ok(true) => {}
-                Ok(false) => return Err(Pause::Missing(*context, *number)),
-                Err(_) => return Err(Pause::Refused(GfxError::OutOfMemory)),
-            }
-            let list = shelves.list(*context, *number);
-            leaves_none_open(list);
-            match execute(rt, workers, gate, immediate, list, *restore) {
+            match take_execution(
+                rt, workers, gate, immediate, shelves, *context, *number, *restore,
+            ) {
                 Ok(()) => Ok(None),
-                Err(refusal) => Err(Pause::Refused(refusal)),
+                Err(pause) => Err(pause),
             }
         }
         Verb::Query(query) => match get_data(rt, workers, gate, immediate, *query) {

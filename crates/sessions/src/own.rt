@@ -1,10 +1,11 @@
 //! The lines of the immediate context, taken on the caller's thread while the lists of the others come.
 
-ghost use Rattle.std.specs.Prelude.{◌≡◌, length, map, OnOk, IfOk, IfErr, MatchOption, [], None};
+ghost use Rattle.std.specs.Prelude.{◌≡◌, ◌<◌, length, map, OnOk, IfOk, IfErr, MatchOption, [], None};
 ghost use Rattle.gfxspec.specs.Recorded.{queries_open};
 ghost use Rattle.gfxspec.specs.Refusals.{first_row};
 ghost use Rattle.meaning.specs.Standing.{IsNew};
 ghost use Rattle.scenetext.specs.Seen.{actor_value, verb_value, line_value};
+ghost use Rattle.scenetext.specs.Scene.{Execute};
 ghost use Rattle.scenetext.specs.Spelling.{AreLines};
 ghost use Rattle.recorders.specs.Apart.{listed};
 ghost use Rattle.immediate.specs.Held.{context_of};
@@ -59,6 +60,36 @@ pub(crate) fn leaves_none_open<A: Allocator>(list: &CommandList<A>)
     list.commands();
 }
 
+/// Executes a list of another context, where it comes; the caller runs the tiles.
+fn take_execution<A: Allocator + Copy + Send, S: Shelves<CommandList<A>>>(
+    immediate: &mut ImmediateContext<A>,
+    shelves: &mut S,
+    context: u32,
+    number: u32,
+    restore: bool,
+) -> Result<(), Pause>
+    requires context { context < 8 }
+    ensures right { S.right shelves.new ≡ S.right shelves.old }
+    ensures frame { S.frame shelves.new ≡ S.frame shelves.old }
+    ensures agrees { S.agrees shelves.new → S.agrees shelves.old }
+    ensures answer { OnOk result (first_row (own_rows immediate.old (Execute context number restore)) ≡ None) }
+    ensures taken { OnOk result (S.agrees shelves.new → OwnTaken (S.right shelves.new) (Execute context number restore) immediate.old immediate.new) }
+    ensures pause { IfErr result (Paused (first_row (own_rows immediate.old (Execute context number restore))) (Execute context number restore)) }
+    ensures missing { IfErr result (λ pause. MatchOption (missing_of pause) (Unit {0}) (λ name. S.lacks shelves.new name.0 name.1)) }
+{
+    match shelves.seek(context, number) {
+        Ok(true) => {}
+        Ok(false) => return Err(Pause::Missing(context, number)),
+        Err(_) => return Err(Pause::Refused(GfxError::OutOfMemory)),
+    }
+    let list = shelves.list(context, number);
+    leaves_none_open(list);
+    match immediate.execute_alone(list, restore) {
+        Ok(()) => Ok(()),
+        Err(refusal) => Err(Pause::Refused(refusal)),
+    }
+}
+
 /// Takes a verb of the immediate context; the caller runs the tiles.
 fn take_own<A: Allocator + Copy + Send, S: Shelves<CommandList<A>>>(
     immediate: &mut ImmediateContext<A>,
@@ -81,16 +112,9 @@ fn take_own<A: Allocator + Copy + Send, S: Shelves<CommandList<A>>>(
             Err(refusal) => Err(Pause::Refused(refusal)),
         },
         Verb::Execute(context, number, restore) => {
-            match shelves.seek(*context, *number) {
-                Ok(true) => {}
-                Ok(false) => return Err(Pause::Missing(*context, *number)),
-                Err(_) => return Err(Pause::Refused(GfxError::OutOfMemory)),
-            }
-            let list = shelves.list(*context, *number);
-            leaves_none_open(list);
-            match immediate.execute_alone(list, *restore) {
+            match take_execution(immediate, shelves, *context, *number, *restore) {
                 Ok(()) => Ok(None),
-                Err(refusal) => Err(Pause::Refused(refusal)),
+                Err(pause) => Err(pause),
             }
         }
         Verb::Query(query) => match immediate.get_data_alone(*query) {

@@ -1,9 +1,10 @@
 //! Whether all threads work: a gate holds the first claim of each until all have come.
 
 use crate::ImmediateContext;
-use crate::tests::scenes::record_halves;
-use cmdlist::{DeferredContext, DeviceContext};
-use gfxspec::DEPTH_MAX;
+use crate::tests::clearing;
+use cmdlist::DeviceContext;
+use gfxspec::GfxError;
+use std::alloc::Global;
 use std::sync::atomic::AtomicU64;
 use std::sync::atomic::Ordering::SeqCst;
 use std::test::Fail;
@@ -48,27 +49,45 @@ impl Gate for AllAtOnce {
     fn after_hand_in(&self, _worker: u32, _turn: u64) {}
 }
 
+/// A target of four tiles, and a counted clear that is pending.
+fn cleared(alloc: Global) -> Result<ImmediateContext<Global>, GfxError> {
+    let mut context = ImmediateContext::new(alloc, 33, 33)?;
+    context.begin(2)?;
+    context.clear_color([9; 4])?;
+    context.end(2)?;
+    Ok(context)
+}
+
 #[test]
-fn each_call_uses_its_workers(rt: HostRuntime) -> Result<(), Fail> {
-    let mut recorder = DeferredContext::new(rt.alloc());
-    record_halves(&mut recorder)?;
-    let list = recorder.finish(false)?;
-    let mut context = ImmediateContext::new(rt.alloc(), 33, 33)?;
+fn flush_uses_its_workers(rt: HostRuntime) -> Result<(), Fail> {
     let gate = AllAtOnce::new();
+    cleared(rt.alloc())?.flush(&rt, 3, &gate)?;
+    assert!(rt; gate.all_came());
+    Ok(())
+}
+
+#[test]
+fn execute_uses_its_workers(rt: HostRuntime) -> Result<(), Fail> {
+    let gate = AllAtOnce::new();
+    let list = clearing(rt.alloc())?;
+    let mut context = ImmediateContext::new(rt.alloc(), 33, 33)?;
     context.execute(&rt, &list, true, 3, &gate)?;
     assert!(rt; gate.all_came());
+    Ok(())
+}
+
+#[test]
+fn get_data_uses_its_workers(rt: HostRuntime) -> Result<(), Fail> {
     let gate = AllAtOnce::new();
-    record_halves(&mut context)?;
-    context.flush(&rt, 3, &gate)?;
-    assert!(rt; gate.all_came());
+    let count = cleared(rt.alloc())?.get_data(&rt, 2, 3, &gate)?;
+    assert!(rt; count == 0 && gate.all_came());
+    Ok(())
+}
+
+#[test]
+fn pixel_uses_its_workers(rt: HostRuntime) -> Result<(), Fail> {
     let gate = AllAtOnce::new();
-    context.clear_depth_stencil(DEPTH_MAX, 0)?;
-    record_halves(&mut context)?;
-    assert_eq!(rt; context.get_data(&rt, 2, 3, &gate), Ok(1089));
-    assert!(rt; gate.all_came());
-    let gate = AllAtOnce::new();
-    context.clear_color([9; 4])?;
-    assert_eq!(rt; context.pixel(&rt, 0, 0, 3, &gate)?.rgba, [9; 4]);
-    assert!(rt; gate.all_came());
+    let pixel = cleared(rt.alloc())?.pixel(&rt, 0, 0, 3, &gate)?;
+    assert!(rt; pixel.rgba == [9; 4] && gate.all_came());
     Ok(())
 }

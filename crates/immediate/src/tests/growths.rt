@@ -1,12 +1,46 @@
-//! Each growth refused in turn.
+//! Each growth refused in turn, and how many growths a settled context asks for.
 
 use crate::ImmediateContext;
-use crate::tests::scenes::corner;
 use cmdlist::{CommandList, DeferredContext, DeviceContext};
-use gfxspec::{DEPTH_MAX, GfxError, Topology};
+use gfxspec::{DEPTH_MAX, GfxError, Topology, Vertex};
 use refusing::Refusing;
 use std::alloc::Allocator;
 use std::test::Fail;
+
+/// A corner in pixels, with its grey.
+fn corner(x: i32, y: i32, grey: u8) -> Vertex {
+    Vertex {
+        x: x.wrapping_mul(65_536),
+        y: y.wrapping_mul(65_536),
+        z: 0,
+        rgba: [grey; 4],
+    }
+}
+
+fn flush<A: Allocator + Copy + Send>(context: &mut ImmediateContext<A>) -> Result<(), GfxError> {
+    context.flush_alone()
+}
+
+fn execute<A: Allocator + Copy + Send>(
+    context: &mut ImmediateContext<A>,
+    list: &CommandList<A>,
+) -> Result<(), GfxError> {
+    context.execute_alone(list, true)
+}
+
+fn count<A: Allocator + Copy + Send>(context: &mut ImmediateContext<A>) -> Result<u64, GfxError> {
+    context.get_data_alone(0)
+}
+
+fn grey<A: Allocator + Copy + Send>(
+    context: &mut ImmediateContext<A>,
+    x: u32,
+) -> Result<u8, GfxError> {
+    match context.pixel_alone(x, 0) {
+        Ok(pixel) => Ok(pixel.rgba[0]),
+        Err(refusal) => Err(refusal),
+    }
+}
 
 /// A call that records, or one that runs what is pending.
 #[derive(Clone, Copy)]
@@ -32,9 +66,9 @@ fn take<A: Allocator + Copy + Send>(
         Step::Begin => context.begin(0),
         Step::Draw => context.draw(3, 0),
         Step::End => context.end(0),
-        Step::Flush => context.flush_alone(),
+        Step::Flush => flush(context),
         Step::Count => {
-            context.get_data_alone(0)?;
+            count(context)?;
             Ok(())
         }
     }
@@ -46,8 +80,9 @@ fn insist<A: Allocator + Copy + Send>(
     steps: &[Step],
 ) -> Result<(), GfxError> {
     for step in steps {
-        if take(context, *step) == Err(GfxError::OutOfMemory) {
-            take(context, *step)?;
+        match take(context, *step) {
+            Err(GfxError::OutOfMemory) => take(context, *step)?,
+            first => first?,
         }
     }
     Ok(())
@@ -61,8 +96,8 @@ fn context_again<A: Allocator + Copy + Send>(alloc: A) -> Result<ImmediateContex
     }
 }
 
-/// A list that clears.
-fn clearing<A: Allocator + Copy>(alloc: A) -> Result<CommandList<A>, GfxError> {
+/// A list that clears colours, depths and stencils.
+fn clearing_both<A: Allocator + Copy>(alloc: A) -> Result<CommandList<A>, GfxError> {
     let mut recorder = DeferredContext::new(alloc);
     recorder.clear_color([9; 4])?;
     recorder.clear_depth_stencil(DEPTH_MAX, 0)?;
@@ -70,8 +105,8 @@ fn clearing<A: Allocator + Copy>(alloc: A) -> Result<CommandList<A>, GfxError> {
 }
 
 fn clearing_again<A: Allocator + Copy>(alloc: A) -> Result<CommandList<A>, GfxError> {
-    match clearing(alloc) {
-        Err(GfxError::OutOfMemory) => clearing(alloc),
+    match clearing_both(alloc) {
+        Err(GfxError::OutOfMemory) => clearing_both(alloc),
         first => first,
     }
 }
@@ -80,10 +115,19 @@ fn execute_again<A: Allocator + Copy + Send>(
     context: &mut ImmediateContext<A>,
     list: &CommandList<A>,
 ) -> Result<(), GfxError> {
-    match context.execute_alone(list, true) {
-        Err(GfxError::OutOfMemory) => context.execute_alone(list, true),
+    match execute(context, list) {
+        Err(GfxError::OutOfMemory) => execute(context, list),
         first => first,
     }
+}
+
+/// The greys of the first row.
+fn row<A: Allocator + Copy + Send>(context: &mut ImmediateContext<A>) -> Result<[u8; 4], GfxError> {
+    let mut row = [0; 4];
+    for x in 0..4u32 {
+        row[x as usize] = grey(context, x)?;
+    }
+    Ok(row)
 }
 
 const COUNTED: [Step; 5] = [
@@ -103,12 +147,7 @@ fn scene<A: Allocator + Copy + Send>(alloc: A) -> Result<(u64, [u8; 4]), GfxErro
     insist(&mut context, &COUNTED)?;
     execute_again(&mut context, &list)?;
     insist(&mut context, &AGAIN)?;
-    let count = context.get_data_alone(0)?;
-    let mut row = [0; 4];
-    for x in 0..4u32 {
-        row[x as usize] = context.pixel_alone(x, 0)?.rgba[0];
-    }
-    Ok((count, row))
+    Ok((count(&mut context)?, row(&mut context)?))
 }
 
 // Each call that is refused is made once more, and the scene is the same.
@@ -124,4 +163,26 @@ fn each_growth_refused_in_turn(rt: HostRuntime) -> Result<(), Fail> {
         }
     }
     panic!(rt; "a scene asks for no more than so many growths")
+}
+
+/// Clears and flushes, and asks for so many flushes and pixels more.
+fn ask<A: Allocator + Copy + Send>(alloc: A, times: u32) -> Result<(), GfxError> {
+    let mut context = ImmediateContext::new(alloc, 4, 4)?;
+    context.clear_color([1; 4])?;
+    flush(&mut context)?;
+    for _ in 0..times {
+        flush(&mut context)?;
+        grey(&mut context, 0)?;
+    }
+    Ok(())
+}
+
+#[test]
+fn questions_of_a_settled_context_take_no_memory(rt: HostRuntime) -> Result<(), Fail> {
+    let few = Refusing::new(rt.alloc(), 0);
+    ask(&few, 0)?;
+    let many = Refusing::new(rt.alloc(), 0);
+    ask(&many, 100)?;
+    assert_eq!(rt; few.count(), many.count());
+    Ok(())
 }

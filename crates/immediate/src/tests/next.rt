@@ -3,18 +3,13 @@
 ghost use Rattle.std.specs.Prelude.{◌≡◌, ◌∷◌, []};
 
 use crate::ImmediateContext;
-use cmdlist::{CommandList, DeferredContext, DeviceContext};
+use crate::tests::clearing;
+use cmdlist::CommandList;
 use gfxspec::GfxError;
 use port::Ports;
 use std::alloc::Global;
 use std::test::Fail;
 use workers::NoGate;
-
-fn clearing(alloc: Global) -> Result<CommandList<Global>, GfxError> {
-    let mut context = DeferredContext::new(alloc);
-    context.clear_color([1, 2, 3, 4])?;
-    context.finish(false)
-}
 
 fn third<T>(row: [T; 4]) -> (T, T, T, T)
     ensures { row ≡ result.0 ∷ result.1 ∷ result.2 ∷ result.3 ∷ [] }

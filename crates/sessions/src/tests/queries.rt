@@ -60,7 +60,7 @@ i end 5
 i query 5
 ";
 
-const COUNTED_THEN_CLEARED: &str = "target 4 4
+pub(super) const COUNTED_THEN_CLEARED: &str = "target 4 4
 d3 vb 0 0 0 10 20 30 40 262144 0 0 10 20 30 40 0 262144 0 10 20 30 40
 d3 topology 4
 d3 begin 0
@@ -110,6 +110,25 @@ i exec d0 0 1
 i query 63
 ";
 
+// The same query three times: once more behind a vertex buffer of its own, and then where nothing passes.
+const ISSUED_AGAIN: &str = "target 4 4
+i vb 0 0 0 1 1 1 1 262144 0 0 1 1 1 1 0 262144 0 1 1 1 1
+i topology 4
+i begin 5
+i draw 3 0
+i end 5
+i vb 262144 0 0 5 5 5 5 262144 262144 0 5 5 5 5 0 262144 0 5 5 5 5
+i begin 5
+i draw 3 0
+i end 5
+i query 5
+i begin 5
+i draw 3 0
+i end 5
+i flush
+i query 5
+";
+
 // The tests are not touched by write masks, and a test that is off passes.
 const WITHOUT_CHANNELS: &str = "target 4 4
 i ds 0 0 1 0 255 255 1 1 1 8 1 1 1 8 0
@@ -142,6 +161,7 @@ fn images_of_counted_draws(rt: HostRuntime) -> Result<(), Fail> {
         (COUNTED_THEN_CLEARED, counted, cleared, cleared),
         (DEPTH_FAIL_INCREMENTS, DEPTH_FAIL_ANSWERS, new, new),
         (ISSUED_TWICE, "query 63 10\nquery 63 0\n", [1; 4], [1; 4]),
+        (ISSUED_AGAIN, "query 5 10\nquery 5 0\n", [1; 4], [5; 4]),
         (WITHOUT_CHANNELS, "query 0 12\nquery 1 0\n", new, new),
     ] {
         let image = image(&rt, rt.alloc(), script, answers);
@@ -200,7 +220,7 @@ fn counts_over_four_tiles(rt: HostRuntime) {
 }
 
 // The list draws a back face, and the immediate context culls none.
-const LIST_INHERITS_NOTHING: &str = "target 4 4
+pub(super) const LIST_INHERITS_NOTHING: &str = "target 4 4
 d0 vb 0 0 0 9 9 9 9 0 262144 0 9 9 9 9 262144 0 0 9 9 9 9
 d0 topology 4
 d0 begin 0
@@ -245,7 +265,7 @@ fn list_inherits_nothing(rt: HostRuntime) -> Result<(), Fail> {
 }
 
 // Lines behind a target of one pixel, the line that is refused and its number.
-const REFUSED: [(&str, u64, u32); 22] = [
+pub(super) const REFUSED: [(&str, u64, u32); 22] = [
     ("i begin 64\n", 2, 11),
     ("i end 64\n", 2, 11),
     ("i query 64\n", 2, 11),

@@ -2,67 +2,21 @@
 
 ghost use Rattle.std.specs.Prelude.{◌≤◌};
 
-use super::growths::assert_short;
-use super::queries::{FOUR_TILES, FOUR_TILES_ANSWERS};
+use super::queries::{FOUR_TILES, FOUR_TILES_ANSWERS, REFUSED};
 use super::rows::{LIST_INHERITS_NOTHING, SLOPED_DEPTH};
 use super::*;
-use crate::session;
-use refusing::Refusing;
 use std::fmt::Write;
-use std::sync::Wait;
 use std::sync::atomic::AtomicU64;
 use std::sync::atomic::Ordering::SeqCst;
 use std::thread;
-use std::thread::Threads;
-use workers::{Gate, NoGate};
-
-/// Runs a script in threads, with devices that never fail.
-fn run_threads<A: Allocator + Copy + Send + Sync, R: Threads + Wait + Sync, G: Gate + Sync>(
-    rt: &R,
-    alloc: A,
-    global: Global,
-    script: &str,
-    workers: u32,
-    gate: &G,
-) -> Outcome
-    requires { workers ≤ 15 }
-{
-    let mut script = Trickle::new(script.as_bytes(), 0);
-    let mut lines = Limited::new(global, AMPLE);
-    let mut image = Limited::new(global, AMPLE);
-    let end = session(
-        rt,
-        alloc,
-        &mut script,
-        &mut image,
-        &mut lines,
-        workers,
-        gate,
-    );
-    Outcome {
-        end,
-        lines: lines.bytes,
-        image: image.bytes,
-    }
-}
 
 /// Runs a script alone and with so many workers: the end and the bytes are the same.
 fn assert_same<R: Threads + Wait + Abort + Sync>(rt: &R, alloc: Global, script: &str, workers: u32)
     requires { workers ≤ 15 }
 {
     let alone = run(alloc, alloc, script);
-    let threads = run_threads(rt, alloc, alloc, script, workers, &NoGate);
-    assert_eq!(rt; threads.end, alone.end, "after {script}");
-    assert_eq!(rt;
-        threads.lines.as_slice(),
-        alone.lines.as_slice(),
-        "after {script}"
-    );
-    assert_eq!(rt;
-        threads.image.as_slice(),
-        alone.image.as_slice(),
-        "after {script}"
-    );
+    let threads = run_threads(rt, alloc, alloc, script, SOUND, workers, &NoGate);
+    assert_same_bytes(rt, script, &threads, &alone);
 }
 
 #[test]
@@ -104,6 +58,16 @@ fn first_refused_line(rt: HostRuntime) -> Result<(), Fail> {
     }
     assert_same(&rt, rt.alloc(), "target 0 1\n", 3);
     assert_same(&rt, rt.alloc(), "target 1 1\ni draw\n", 3);
+    Ok(())
+}
+
+// With as many workers as there may be, a refusal is the same.
+#[test]
+fn refused_queries_with_workers(rt: HostRuntime) -> Result<(), Fail> {
+    for (lines, _, _) in REFUSED {
+        let script = format!(in rt.alloc(); "target 1 1\n{lines}")?;
+        assert_same(&rt, rt.alloc(), script.as_str(), 15);
+    }
     Ok(())
 }
 
@@ -173,16 +137,47 @@ impl Gate for FirstClaims {
     fn after_hand_in(&self, _worker: u32, _turn: u64) {}
 }
 
-// All four threads of a run work: none has claimed a tile before each has come to its first claim.
-#[test]
-fn workers_claim_together(rt: HostRuntime) {
+/// Four threads take the tiles of a script's first run: none has claimed one before each has come to its first claim.
+fn assert_meeting<R: Threads + Wait + Abort + Sync>(
+    rt: &R,
+    alloc: Global,
+    script: &str,
+    answers: &str,
+) {
     let gate = FirstClaims {
         meeting: Meeting::new(4),
     };
-    let run = run_threads(&rt, rt.alloc(), rt.alloc(), FOUR_TILES, 3, &gate);
-    assert_eq!(rt; run.end, Ok(Ended::Done));
-    assert_eq!(rt; run.lines.as_slice(), FOUR_TILES_ANSWERS.as_bytes());
-    assert!(rt; gate.meeting.all_came());
+    let run = run_threads(rt, alloc, alloc, script, SOUND, 3, &gate);
+    assert_eq!(rt; run.end, Ok(Ended::Done), "after {script}");
+    assert_eq!(rt; run.lines.as_slice(), answers.as_bytes());
+    assert!(rt; gate.meeting.all_came(), "after {script}");
+}
+
+#[test]
+fn workers_claim_together(rt: HostRuntime) {
+    assert_meeting(&rt, rt.alloc(), FOUR_TILES, FOUR_TILES_ANSWERS);
+}
+
+// Each kind of line that runs tiles, in a script in which no other line finds anything to run; and the end of the script.
+#[test]
+fn workers_claim_together_at_each_line(rt: HostRuntime) -> Result<(), Fail> {
+    for (lines, answers) in [
+        ("i clearc 1 2 3 4\ni flush\n", ""),
+        ("d0 clearc 1 2 3 4\nd0 finish 0\ni exec d0 0 1\n", ""),
+        (
+            "i begin 0\ni clearc 1 2 3 4\ni end 0\ni query 0\n",
+            "query 0 0\n",
+        ),
+        (
+            "i clearc 1 2 3 4\ni pixel 32 32\n",
+            "pixel 32 32 1 2 3 4 16777215 0\n",
+        ),
+        ("i clearc 1 2 3 4\n", ""),
+    ] {
+        let script = format!(in rt.alloc(); "target 33 33\n{lines}")?;
+        assert_meeting(&rt, rt.alloc(), script.as_str(), answers);
+    }
+    Ok(())
 }
 
 /// Holds the first submission of port 0 and the first claim of the caller until both have come.
@@ -220,46 +215,19 @@ fn drawn_while_recorded(rt: HostRuntime) {
     let gate = Overlap {
         meeting: Meeting::new(2),
     };
-    let run = run_threads(&rt, rt.alloc(), rt.alloc(), DRAWN_WHILE_RECORDED, 0, &gate);
+    let run = run_threads(
+        &rt,
+        rt.alloc(),
+        rt.alloc(),
+        DRAWN_WHILE_RECORDED,
+        SOUND,
+        0,
+        &gate,
+    );
     assert_eq!(rt; run.end, Ok(Ended::Done));
     assert_eq!(rt;
         run.lines.as_slice(),
         b"pixel 0 0 1 2 3 4 16777215 0\n".as_slice()
     );
     assert!(rt; gate.meeting.all_came());
-}
-
-const SMALL: &str = "target 2 1
-d0 clearc 1 2 3 4
-d0 begin 3
-d0 end 3
-d0 finish 0
-i exec d0 0 1
-i query 3
-i pixel 1 0
-";
-
-const SMALL_ANSWERS: [(u64, &str); 2] = [(7, "query 3 0\n"), (8, "pixel 1 0 1 2 3 4 16777215 0\n")];
-
-// Each growth refused in turn, with three workers: the whole answer, or one line in place of its rest.
-#[test]
-fn each_growth_refused(rt: HostRuntime) -> Result<(), Fail> {
-    let ample = run(rt.alloc(), rt.alloc(), SMALL);
-    assert_eq!(rt; ample.end, Ok(Ended::Done));
-    for n in 1..1000u64 {
-        let refusing = Refusing::new(rt.alloc(), n);
-        let short = run_threads(&rt, &refusing, rt.alloc(), SMALL, 3, &NoGate);
-        if short.end == Ok(Ended::Done) {
-            assert_eq!(rt; short.lines.as_slice(), ample.lines.as_slice());
-            assert_eq!(rt; short.image.as_slice(), ample.image.as_slice());
-        } else {
-            assert_short(&rt, rt.alloc(), SMALL_ANSWERS.as_slice(), &short)?;
-        }
-        if !refusing.refused() {
-            assert_eq!(rt; short.end, Ok(Ended::Done));
-            assert!(rt; n > 20);
-            return Ok(());
-        }
-    }
-    panic!(rt; "a session asks for no more than so many growths")
 }
