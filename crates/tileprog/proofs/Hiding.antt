@@ -3,7 +3,6 @@ use Rattle.std.proofs.Common.{int_eq, ◌≡◌, ◌∙◌, ap, sym, subst, refl
 use Rattle.std.specs.Prelude.{negsuc, nat_le, not, ◌==◌, if◌then◌else◌, unsigned_abs, IfSome}
 use Rattle.std.proofs.lemmas.Bool.{false≢true}
 use Rattle.std.proofs.lemmas.Bool.Decides.{nat_tests}
-use Rattle.std.proofs.lemmas.Int.{ints}
 use Rattle.std.proofs.lemmas.Nat.{le-div}
 use Rattle.std.proofs.Math.Nat.{mul-le-mul_left, div-le_of_le-mul}
 use Rattle.gfxspec.specs.declared.pixel.Pixel.{Pixel}
@@ -12,12 +11,11 @@ use Rattle.gfxspec.specs.declared.geometry.PixelRect.{PixelRect}
 use Rattle.gfxspec.specs.declared.state.Compare.{Compare}
 use Rattle.gfxspec.specs.declared.state.Compare.TheVariants.{Never, Less, Equal, LessEqual, Greater, NotEqual, GreaterEqual, Always}
 use Rattle.gfxspec.specs.DepthStencil.{DepthStencilSetting, FaceSetting, TestOutcome, tested, compares}
-use Rattle.gfxspec.specs.Depth.{biased, weight, depth_at}
+use Rattle.gfxspec.specs.Depth.{weight}
 use Rattle.gfxspec.specs.Items.{is_in_rect}
 use Rattle.gfxspec.specs.Raster.{Triangle, Point, centre, covers, is_empty, area, edge, edge_holds}
 use Rattle.gfxspec.specs.Tiles.{IsIn}
 use Rattle.snap.proofs.CoverLaws.{all_hold, weights_sum}
-use Rattle.depthplane.specs.Height.{DeepTriangle}
 use Rattle.depthplane.specs.Place.{depth_of}
 use Rattle.classify.specs.Region.{IsClassOf}
 use Rattle.classify.specs.declared.Class.TheVariants.{Cut}
@@ -37,7 +35,7 @@ use Rattle.tileprog.specs.Edges.{passes_edges}
 use Rattle.tileprog.specs.Hidden.{NonePasses, none_passes, greatest_after, IsHidden, AreAfter, IsWhole}
 use Rattle.tileprog.specs.Passing.{triangle_count, IsTile}
 use Rattle.tileprog.proofs.Biases.{unbiased, depth_small}
-use Rattle.tileprog.proofs.Lanes.{IsDepthOnly, tested_depth}
+use Rattle.tileprog.proofs.Lanes.{tested_depth}
 use Rattle.tileprog.proofs.Summing.{sum_over_none}
 use Rattle.tileprog.proofs.Under.{named_covers, passes_are, reach_is}
 

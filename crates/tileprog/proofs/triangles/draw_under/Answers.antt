@@ -1,13 +1,10 @@
-use Rattle.std.proofs.Common.{◌≡◌, ◌∙◌, ap, sym, subst, rules, ⊎_elim, inl, inr, ◌⊎◌, ◌≤◌, ℕ}
-use Rattle.gfxspec.specs.declared.geometry.PixelRect.{PixelRect}
-use Rattle.gfxspec.specs.Items.{is_in_rect}
-use Rattle.gfxspec.specs.Tiles.{IsIn}
+use Rattle.std.proofs.Common.{◌∙◌, ap, sym, subst, rules, ℕ}
 use Rattle.tileword.specs.EdgeMask.{edge_bits}
 use Rattle.tileblock.specs.Block.{pixel_at}
 use Rattle.meaning.specs.Over.{sum_over}
 use Rattle.tileprog.specs.Counting.{stroke_count}
 use Rattle.tileprog.specs.Strokes.{IsNamed, Stroked}
-use Rattle.tileprog.proofs.Under.{is_named, IsBrushOf, under_is, nothing_left, none_counted, under_counts}
+use Rattle.tileprog.proofs.Under.{is_named, IsBrushOf, under_is, under_counts}
 use Rattle.tileprog.proofs.triangles.draw_under.Goals as goal
 
 pub draw-requires-clause-named : goal.draw-requires-clause-named

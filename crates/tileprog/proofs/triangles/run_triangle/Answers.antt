@@ -1,12 +1,8 @@
-use Rattle.std.proofs.Common.{◌≡◌, ◌∙◌, ap, sym, subst, rules, ⊎_elim, inl, inr, ◌⊎◌, ◌≤◌, ℕ, true}
+use Rattle.std.proofs.Common.{◌≡◌, ◌∙◌, ap, subst, ⊎_elim, inl, inr, ◌⊎◌, ◌≤◌, ℕ, true}
 use Rattle.gfxspec.specs.declared.geometry.PixelRect.{PixelRect}
 use Rattle.gfxspec.specs.Items.{is_in_rect}
 use Rattle.gfxspec.specs.Tiles.{IsIn}
-use Rattle.tileword.specs.EdgeMask.{edge_bits}
 use Rattle.tileblock.specs.Block.{Block, pixel_at}
-use Rattle.meaning.specs.Over.{sum_over}
-use Rattle.tileprog.specs.Counting.{stroke_count}
-use Rattle.tileprog.specs.Strokes.{IsNamed, Stroked}
 use Rattle.tileprog.proofs.Under.{nothing_left, none_counted}
 use Rattle.tileprog.proofs.Hiding.{hidden_pixel, hidden_count, kept_if}
 use Rattle.tileprog.specs.Hidden.{IsWhole}
