@@ -1,3 +1,4 @@
 pub mod Block
+pub mod Bounds
 pub mod SpanStored
 pub mod Surface

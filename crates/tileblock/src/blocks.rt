@@ -47,21 +47,31 @@ impl Spans {
     }
 }
 
+/// What depths lie between.
+#[derive(Clone, Copy)]
+pub struct DepthBounds {
+    pub least: u32,
+    pub greatest: u32,
+}
+
 /// The pixels of a tile that lie on the target.
 #[derive(Drop)]
 pub struct TileBlock<A: Allocator> {
     rect: PixelRect,
     spans: Box<Spans, A>,
+    /// What the depths of the rectangle lie between, where that is known.
+    bounds: Option<DepthBounds>,
 }
 
 impl<A: Allocator> Model for TileBlock<A> {
-    ghost use Rattle.tileblock.specs.Block.{Block, IsBlock};
+    ghost use Rattle.tileblock.specs.Block.{Block};
+    ghost use Rattle.tileblock.specs.Bounds.{IsBoundedBlock};
 
     ghost Value = { Block };
 
     ghost view = { λ b. record { rect = b.rect; colors = b.spans.value.colors; depths = b.spans.value.depths; stencils = b.spans.value.stencils } };
 
-    ghost invariant = { λ b. IsBlock (record { rect = b.rect; colors = b.spans.value.colors; depths = b.spans.value.depths; stencils = b.spans.value.stencils }) };
+    ghost invariant = { λ b. IsBoundedBlock (record { rect = b.rect; colors = b.spans.value.colors; depths = b.spans.value.depths; stencils = b.spans.value.stencils }) b.bounds };
 }
 
 /// A tile that was taken out of its target.
@@ -72,12 +82,13 @@ pub struct OpenTile<A: Allocator> {
 }
 
 impl<A: Allocator> TileBlock<A> {
-    ghost use Rattle.std.specs.Prelude.{◌≡◌, ◌≢◌, ◌<◌, ◌⊎◌, ◌+◌, ◌*◌, ℕ, IfOk, slice_index, if◌then◌else◌};
+    ghost use Rattle.std.specs.Prelude.{◌≡◌, ◌≢◌, ◌<◌, ◌⊎◌, ◌+◌, ◌*◌, ℕ, IfOk, IfSome, slice_index, if◌then◌else◌};
     ghost use Rattle.std.specs.Int.{w32, to_le_bytes};
     ghost use Rattle.gfxspec.specs.Tiles.{IsIn};
     ghost use Rattle.gfxspec.specs.Items.{opening, after_item, ColorCleared, DepthStencilCleared};
     ghost use Rattle.gfxspec.specs.Tiles.{IsInTile};
     ghost use Rattle.tileblock.specs.Block.{Block, pixel_at};
+    ghost use Rattle.tileblock.specs.Bounds.{LieBetween};
     ghost use Rattle.lanes.specs.Stencil.{has};
     ghost use Rattle.tileblock.specs.SpanStored.{SpanStored};
 
@@ -95,7 +106,15 @@ impl<A: Allocator> TileBlock<A> {
                 stencils: [[0; 8]; 128],
             },
         )?;
-        Ok(TileBlock { rect, spans })
+        let bounds = Some(DepthBounds {
+            least: DEPTH_MAX,
+            greatest: DEPTH_MAX,
+        });
+        Ok(TileBlock {
+            rect,
+            spans,
+            bounds,
+        })
     }
 
     /// The tile's part of the target.
@@ -186,6 +205,7 @@ impl<A: Allocator> TileBlock<A> {
     {
         let at = (4 * row + span) as usize;
         self.spans.depths[at] = depths;
+        self.bounds = None;
     }
 
     /// Stores the depths of those of the eight pixels whose bits are set.
@@ -230,6 +250,7 @@ impl<A: Allocator> TileBlock<A> {
             → pixel_at self.new u v ≡ pixel_at self.old u v }
     {
         self.spans.set(x, y, pixel);
+        self.bounds = None;
     }
 
     /// Stores a colour in all pixels, whatever they hold.
@@ -248,5 +269,26 @@ impl<A: Allocator> TileBlock<A> {
             ≡ after_item (DepthStencilCleared value.depth value.stencil) x y (pixel_at self.old x y) }
     {
         self.spans.clear_depth_stencil(value);
+        self.bounds = Some(DepthBounds {
+            least: value.depth,
+            greatest: value.depth,
+        });
+    }
+
+    /// What the depths of the rectangle lie between, if that is known.
+    #[inline]
+    pub fn depth_bounds(&self) -> Option<DepthBounds>
+        ensures { IfSome result (λ d. LieBetween self.now d.least d.greatest) }
+    {
+        self.bounds
+    }
+
+    /// Keeps what the depths of the rectangle lie between, until one is stored.
+    #[inline]
+    pub fn keep_bounds(&mut self, least: u32, greatest: u32)
+        requires { LieBetween self.old least greatest }
+        ensures { self.new ≡ self.old }
+    {
+        self.bounds = Some(DepthBounds { least, greatest });
     }
 }

@@ -11,6 +11,7 @@ pub mod Summing
 pub mod Rowing
 pub mod Columning
 pub mod Under
+pub mod Hiding
 pub mod Targets
 pub mod Totals
 pub mod Programs

@@ -50,7 +50,7 @@ edge_named mask t r i x y l class is e =
     ⊎_elim (λ zero_bit. (class.1 i l).clear zero_bit x y is) (λ one. sym (ap (λ n. not (n == 1) || edge_holds (edge t i) (centre x y)) one) ∙ e) (either_bit (bit_at mask i) (bit_at-lt mask i))
 
 -- where the named edges hold the triangle covers
-named_covers : (mask : ℕ) (t : Triangle) (r : PixelRect) (x y : ℕ) → is_empty t ≡ false → IsClassOf (Cut mask) t r → IsIn r x y → passes_edges mask t (centre x y) ≡ true → covers t (centre x y) ≡ true
+pub named_covers : (mask : ℕ) (t : Triangle) (r : PixelRect) (x y : ℕ) → is_empty t ≡ false → IsClassOf (Cut mask) t r → IsIn r x y → passes_edges mask t (centre x y) ≡ true → covers t (centre x y) ≡ true
 named_covers mask t r x y solid class is e =
     let parts = split _ _ _ e in
     let first = edge_named mask t r 0 x y (omega arith) class is parts.0 in

@@ -1,4 +1,5 @@
 pub mod Edges
+pub mod Hidden
 pub mod Kinds
 pub mod Painting
 pub mod Brushes

@@ -11,6 +11,7 @@ mod brush;
 mod column;
 mod columns;
 mod draw;
+mod hidden;
 mod kind;
 mod order;
 mod program;

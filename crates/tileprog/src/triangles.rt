@@ -1,6 +1,6 @@
 //! A triangle's word on a tile's block.
 
-ghost use Rattle.std.specs.Prelude.{◌≡◌, ◌≤◌, ℕ, Some};
+ghost use Rattle.std.specs.Prelude.{◌≡◌, ◌≤◌, ℕ, Some, IsTrue};
 ghost use Rattle.gfxspec.specs.Items.{is_in_rect};
 ghost use Rattle.gfxspec.specs.Tiles.{IsIn};
 ghost use Rattle.tileblock.specs.Block.{pixel_at};
@@ -10,10 +10,13 @@ ghost use Rattle.classify.specs.declared.Class.TheVariants.{Cut};
 ghost use Rattle.meaning.specs.Over.{sum_over};
 ghost use Rattle.binner.specs.Program.{triangle_by};
 ghost use Rattle.binner.specs.Meaning.{IsBounded};
+ghost use Rattle.tileprog.specs.Hidden.{IsWhole};
 ghost use Rattle.tileprog.specs.Passing.{triangle_count, IsTile};
+ghost use Rattle.tileprog.specs.Strokes.{IsWithin};
 
 use crate::brush::make_brush;
 use crate::draw::draw;
+use crate::hidden::{bounds_after, is_hidden, keep_after};
 use binner::{StateEntry, TriSetup};
 use gfxspec::PixelRect;
 use std::alloc::Allocator;
@@ -36,6 +39,49 @@ fn clipped(rect: PixelRect, bounds: PixelRect) -> PixelRect
     }
 }
 
+/// A triangle under a state entry over the pixels of a clip rectangle in a tile; the answer is how many pass.
+fn draw_under<A: Allocator>(
+    block: &mut TileBlock<A>,
+    triangle: &TriSetup,
+    mask: EdgeMask,
+    entry: &StateEntry,
+    clip: PixelRect,
+) -> u32
+    requires tile { IsTile block.old.rect }
+    requires class { IsClassOf (Cut (edge_bits mask)) triangle.now.edges block.old.rect }
+    requires bounded { IsBounded triangle.now entry.now }
+    requires within { IsWithin clip block.old.rect }
+    requires inside { (u v : ℕ) → IsIn block.old.rect u v → is_in_rect clip u v ≡ is_in_rect triangle.now.bounds u v }
+    ensures rect { block.new.rect ≡ block.old.rect }
+    ensures pixels { (u v : ℕ) → IsIn block.old.rect u v → pixel_at block.new u v ≡ triangle_by mask (Some triangle.now) (Some entry.now) u v (pixel_at block.old u v) }
+    ensures count { result ≡ sum_over block.old.rect (triangle_count mask triangle.now entry.now block.old) }
+    ensures few { result ≤ 1024 }
+{
+    let brush = make_brush(
+        entry.depth_stencil,
+        triangle.front,
+        entry.reference,
+        entry.raster.depth_bias(),
+        entry.blend,
+        triangle.rgba,
+    );
+    draw(block, triangle, mask.bits(), &brush, clip)
+}
+
+/// Whether a triangle reaches each pixel of a tile, of which it reaches those of the clip rectangle that the named edges
+/// leave.
+fn is_whole(rect: PixelRect, clip: PixelRect, mask: EdgeMask) -> bool
+    ensures { IsTrue result → IsWhole rect clip mask }
+{
+    !mask.edge0
+        && !mask.edge1
+        && !mask.edge2
+        && clip.left <= rect.left
+        && clip.top <= rect.top
+        && rect.right <= clip.right
+        && rect.bottom <= clip.bottom
+}
+
 /// A triangle under a state entry over a tile; the answer is how many pixels pass.
 pub(crate) fn run_triangle<A: Allocator>(
     block: &mut TileBlock<A>,
@@ -51,17 +97,21 @@ pub(crate) fn run_triangle<A: Allocator>(
     ensures count { result ≡ sum_over block.old.rect (triangle_count mask triangle.now entry.now block.old) }
     ensures few { result ≤ 1024 }
 {
-    let clip = clipped(block.rect(), triangle.bounds);
+    let rect = block.rect();
+    let clip = clipped(rect, triangle.bounds);
     if clip.left >= clip.right || clip.top >= clip.bottom {
         return 0;
     }
-    let brush = make_brush(
-        entry.depth_stencil,
-        triangle.front,
-        entry.reference,
-        entry.raster.depth_bias(),
-        entry.blend,
-        triangle.rgba,
-    );
-    draw(block, triangle, mask.bits(), &brush, clip)
+    let stored = block.depth_bounds();
+    let least = triangle.least_depth;
+    let greatest = triangle.greatest_depth;
+    let hidden = is_hidden(entry, least, greatest, stored);
+    if hidden {
+        return 0;
+    }
+    let whole = is_whole(rect, clip, mask);
+    let after = bounds_after(entry, least, greatest, whole, stored);
+    let passed = draw_under(block, triangle, mask, entry, clip);
+    keep_after(block, after);
+    passed
 }

@@ -1,0 +1,97 @@
+//! Whether a triangle can't pass the depth test at any pixel of a tile.
+
+ghost use Rattle.std.specs.Prelude.{◌≡◌, IsTrue, IfSome};
+ghost use Rattle.tileblock.specs.Bounds.{LieBetween};
+ghost use Rattle.tileprog.specs.Hidden.{none_passes, greatest_after, IsHidden, AreAfter};
+
+use binner::StateEntry;
+use gfxspec::Compare;
+use std::alloc::Allocator;
+use tileblock::{DepthBounds, TileBlock};
+
+/// No depth from `least` to `greatest` passes against any of the stored ones.
+fn none_passes(func: Compare, least: u32, greatest: u32, stored: DepthBounds) -> bool
+    ensures { result ≡ none_passes func least greatest stored.least stored.greatest }
+{
+    match func {
+        Compare::Never => true,
+        Compare::Less => stored.greatest <= least,
+        Compare::Equal => greatest < stored.least || stored.greatest < least,
+        Compare::LessEqual => stored.greatest < least,
+        Compare::Greater => greatest <= stored.least,
+        Compare::NotEqual => {
+            least == greatest && (stored.least == stored.greatest && least == stored.least)
+        }
+        Compare::GreaterEqual => greatest < stored.least,
+        Compare::Always => false,
+    }
+}
+
+/// Whether depths from `least` to `greatest` change nothing under an entry, against what is stored.
+pub(crate) fn is_hidden(
+    entry: &StateEntry,
+    least: u32,
+    greatest: u32,
+    stored: Option<DepthBounds>,
+) -> bool
+    ensures { IsTrue result → IsHidden entry.now.depth_stencil entry.now.raster.depth_bias least greatest stored }
+{
+    let state = entry.depth_stencil;
+    let Some(known) = stored else {
+        return false;
+    };
+    if state.stencil() || !state.depth() || entry.raster.depth_bias() != 0 {
+        return false;
+    }
+    none_passes(state.func(), least, greatest, known)
+}
+
+/// The greatest depth of a tile after a triangle that stores depths, on the whole tile or on a part of it.
+fn greatest_after(func: Compare, whole: bool, stored: u32, greatest: u32) -> u32
+    ensures { result ≡ greatest_after func whole stored greatest }
+{
+    match func {
+        Compare::Less | Compare::LessEqual => { if whole { stored.min(greatest) } else { stored } }
+        Compare::Never
+        | Compare::Equal
+        | Compare::Greater
+        | Compare::NotEqual
+        | Compare::GreaterEqual
+        | Compare::Always => stored.max(greatest),
+    }
+}
+
+/// What the depths of a tile lie between after a triangle whose depths are `least` to `greatest`, where that has to be
+/// kept: a block that stores no depth keeps what it knows.
+pub(crate) fn bounds_after(
+    entry: &StateEntry,
+    least: u32,
+    greatest: u32,
+    whole: bool,
+    stored: Option<DepthBounds>,
+) -> Option<DepthBounds>
+    ensures { IfSome result (AreAfter entry.now.depth_stencil entry.now.raster.depth_bias least greatest whole stored) }
+{
+    let state = entry.depth_stencil;
+    let Some(known) = stored else {
+        return None;
+    };
+    if state.stencil() || !state.depth() || !state.write() || entry.raster.depth_bias() != 0 {
+        return None;
+    }
+    Some(DepthBounds {
+        least: known.least.min(least),
+        greatest: greatest_after(state.func(), whole, known.greatest, greatest),
+    })
+}
+
+/// Keeps what the depths of a block lie between, where that is known.
+pub(crate) fn keep_after<A: Allocator>(block: &mut TileBlock<A>, after: Option<DepthBounds>)
+    requires { IfSome after (λ d. LieBetween block.old d.least d.greatest) }
+    ensures { block.new ≡ block.old }
+{
+    let Some(known) = after else {
+        return;
+    };
+    block.keep_bounds(known.least, known.greatest);
+}
