@@ -224,7 +224,7 @@ fn add_indexed<A: Allocator + Copy>(
 }
 
 /// Adds what a command draws or clears under a state, with the open issues as bits.
-pub fn add_command<A: Allocator + Copy>(
+pub(crate) fn add_command<A: Allocator + Copy>(
     compiling: &mut Compiling<A>,
     command: &Command<A>,
     state: &State<'_>,
@@ -283,7 +283,7 @@ fn forget_unless<A: Allocator>(compiling: &mut Compiling<A>, kept: bool, before:
 }
 
 /// Adds what the commands of a list draw and clear, from the default state on, and tells how many issues they begin.
-pub fn add_commands<A: Allocator + Copy>(
+pub(crate) fn add_commands<A: Allocator + Copy>(
     compiling: &mut Compiling<A>,
     commands: &[Command<A>],
 ) -> Result<u32, AllocError>

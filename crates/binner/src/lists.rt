@@ -165,7 +165,7 @@ fn add_triangle<A: Allocator + Copy>(
 }
 
 /// Adds a triangle to each tile that its bounds meet.
-pub fn add_to_tiles<A: Allocator + Copy>(
+pub(crate) fn add_to_tiles<A: Allocator + Copy>(
     lists: &mut Lists<A>,
     setup: &TriSetup,
     current: Current,
@@ -266,7 +266,10 @@ fn add_clear<A: Allocator + Copy>(
 }
 
 /// Adds a clear to every tile, which leaves the state in force, or drops it with all that is hidden.
-pub fn add_to_all<A: Allocator + Copy>(lists: &mut Lists<A>, word: Word) -> Result<(), AllocError>
+pub(crate) fn add_to_all<A: Allocator + Copy>(
+    lists: &mut Lists<A>,
+    word: Word,
+) -> Result<(), AllocError>
     requires sound { IsLists lists.old }
     requires room { IsShort 239998 lists.old }
     ensures bins { length lists.new.bins ≡ length lists.old.bins }

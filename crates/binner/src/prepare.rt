@@ -62,7 +62,7 @@ fn is_seen(bounds: PixelRect, size: Size) -> bool
 
 /// A triangle under these settings, unless it is dropped or reaches no pixel of the target; the leading vertex is first.
 #[tactic(auto, using(gfxspec::proofs::Threes::All_three))]
-pub fn prepared(vertices: &[Vertex; 3], state: &State<'_>, size: Size) -> Option<TriSetup>
+pub(crate) fn prepared(vertices: &[Vertex; 3], state: &State<'_>, size: Size) -> Option<TriSetup>
     requires { IsReady (primitive_of (record { v = vertices.now })) }
     ensures setup { IfSome result (λ t. IsSetupOf t (primitive_of (record { v = vertices.now })) (state_value state.now)) }
     ensures dropped { IsNone result → (x y : ℕ) → x < 4096 → y < 4096 → x < size.width → y < size.height

@@ -52,7 +52,7 @@ fn push_large(vertices: &mut Vec<Vertex>, seed: u32) -> Result<u32, GfxError> {
 }
 
 /// A list of so many draws of so many triangles each, small or large.
-pub fn list(
+pub(crate) fn list(
     alloc: Global,
     draws: u32,
     triangles: u32,

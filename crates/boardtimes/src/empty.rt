@@ -77,7 +77,7 @@ impl TileJob for Idle {
     ghost small_counts = { λ job tile done issue h less. Prim.omega arith };
 }
 
-pub fn make_idle(tiles: u32) -> Idle
+pub(crate) fn make_idle(tiles: u32) -> Idle
     requires { tiles ≤ 16384 }
     ensures { result.tiles ≡ tiles }
 {
@@ -85,7 +85,7 @@ pub fn make_idle(tiles: u32) -> Idle
 }
 
 /// Puts all tiles on a new board.
-pub fn place_all(board: &Board<'_, Idle, Global>, seat: &mut Seat<Idle>, tiles: u32)
+pub(crate) fn place_all(board: &Board<'_, Idle, Global>, seat: &mut Seat<Idle>, tiles: u32)
     requires own { IsSeatOf board.now seat.old × (board.now.job.tiles ≡ tiles) }
     requires first { (seat.old.view.weight ≡ 16) × (seat.old.view.hand ≡ nothing)
         × (length seat.old.view.placed ≡ 0) }

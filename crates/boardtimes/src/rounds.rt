@@ -35,7 +35,7 @@ fn sum_of(finished: &mut Finished<'_, Idle, Global>, tiles: u32) -> u64 {
 }
 
 /// A board whose tiles are claimed in order, by so many threads beside the caller.
-pub fn in_order<R: Clock + Threads + Sync>(
+pub(crate) fn in_order<R: Clock + Threads + Sync>(
     rt: &R,
     alloc: Global,
     tiles: u32,
@@ -69,7 +69,7 @@ pub fn in_order<R: Clock + Threads + Sync>(
 }
 
 /// A board whose tiles are dealt to so many threads beside the caller.
-pub fn dealt<R: Clock + Threads + Sync>(
+pub(crate) fn dealt<R: Clock + Threads + Sync>(
     rt: &R,
     alloc: Global,
     tiles: u32,

@@ -12,7 +12,7 @@ use tilecore::TileJob;
 use workers::{NoGate, drain};
 
 /// The worker of that number, and so many behind it.
-pub fn drain_together<'a, J: TileJob + Sync, A: Allocator + Sync, R: Threads + Sync>(
+pub(crate) fn drain_together<'a, J: TileJob + Sync, A: Allocator + Sync, R: Threads + Sync>(
     rt: &R,
     board: &Board<'a, J, A>,
     seat: Seat<J>,

@@ -32,7 +32,10 @@ pub enum Call<'a> {
 }
 
 /// The command of a call. Vertices and indices are copied; no other call takes memory.
-pub fn command_of<A: Allocator + Copy>(alloc: A, call: &Call<'_>) -> Result<Command<A>, AllocError>
+pub(crate) fn command_of<A: Allocator + Copy>(
+    alloc: A,
+    call: &Call<'_>,
+) -> Result<Command<A>, AllocError>
     ensures { IfOk result (λ command. command_value command ≡ call_value call.now) }
 {
     Ok(match *call {

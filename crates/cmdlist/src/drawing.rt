@@ -32,7 +32,7 @@ fn are_indices_used_well(topology: Topology, count: usize, base: i32, indices: &
 }
 
 /// The number of triangles of a draw without indices. Refused with TopologyUnset, DrawRange.
-pub fn drawn_triangles(state: &State<'_>, count: u32, start: u32) -> Result<u32, GfxError>
+pub(crate) fn drawn_triangles(state: &State<'_>, count: u32, start: u32) -> Result<u32, GfxError>
     requires { AreSound (state_value state.now) }
     ensures count { IfOk result (λ n. n ≡ length (draw_primitives (state_value state.now) count start)) }
     ensures accepted { OnOk result (first_row (draw_rows (state_value state.now) count start) ≡ None) }
@@ -56,7 +56,7 @@ pub fn drawn_triangles(state: &State<'_>, count: u32, start: u32) -> Result<u32,
 }
 
 /// The number of triangles of a draw by indices. Refused with TopologyUnset, DrawRange, IndexRange.
-pub fn drawn_indexed_triangles(
+pub(crate) fn drawn_indexed_triangles(
     state: &State<'_>,
     count: u32,
     start: u32,

@@ -62,7 +62,7 @@ fn put<A: Allocator>(owner: &mut Owner<A>, task: Task) -> bool
 
 impl<A: Allocator + Clone + Drop> Pile<A> {
     /// The numbers from `first` on in steps of `step`, as far as memory allows; none where it allows not one.
-    pub fn deal(alloc: A, first: u32, step: u32, tiles: u32) -> Option<Pile<A>>
+    pub(crate) fn deal(alloc: A, first: u32, step: u32, tiles: u32) -> Option<Pile<A>>
         requires { (first < tiles) × (0 < step) }
         ensures { IfSome result (λ p. p ≡ tiles) }
     {
@@ -84,7 +84,7 @@ impl<A: Allocator + Clone + Drop> Pile<A> {
 
 impl<A: Allocator> Pile<A> {
     /// A way for another worker to steal from this pile.
-    pub fn theft(&mut self) -> Option<Theft<A>>
+    pub(crate) fn theft(&mut self) -> Option<Theft<A>>
         ensures same { self.new ≡ self.old }
         ensures theft { IfSome result (λ t. t ≡ self.old) }
     {
@@ -100,7 +100,7 @@ impl<A: Allocator> Pile<A> {
     }
 
     /// A number of the pile.
-    pub fn pop(&mut self) -> Option<u32>
+    pub(crate) fn pop(&mut self) -> Option<u32>
         ensures same { self.new ≡ self.old }
         ensures in_range { IfSome result (λ n. n < self.old) }
     {
@@ -113,7 +113,7 @@ impl<A: Allocator> Pile<A> {
 
 impl<A: Allocator> Theft<A> {
     /// A number of the pile. Where another thread was faster the pile counts as empty.
-    pub fn steal(&mut self) -> Option<u32>
+    pub(crate) fn steal(&mut self) -> Option<u32>
         ensures same { self.new ≡ self.old }
         ensures in_range { IfSome result (λ n. n < self.old) }
     {

@@ -12,21 +12,21 @@ use crate::range::{COLOR_MASK, COMPARISON, CULL, LOGIC_OP, STENCIL_OP, TOPOLOGY}
 use gfxspec::{Compare, Cull, LogicOp, StencilOp, Topology};
 use states::{ColorMask, Face};
 
-pub fn topology_of(number: u32) -> Topology
+pub(crate) fn topology_of(number: u32) -> Topology
     requires { IsIn TOPOLOGY number }
     ensures { topology_number result ≡ number }
 {
     Topology::from_number(number).unwrap()
 }
 
-pub fn cull_of(number: u32) -> Cull
+pub(crate) fn cull_of(number: u32) -> Cull
     requires { IsIn CULL number }
     ensures { cull_number result ≡ number }
 {
     Cull::from_number(number).unwrap()
 }
 
-pub fn comparison_of(number: u32) -> Compare
+pub(crate) fn comparison_of(number: u32) -> Compare
     requires { IsIn COMPARISON number }
     ensures { compare_number result ≡ number }
 {
@@ -41,7 +41,7 @@ fn stencil_op_of(number: u32) -> StencilOp
 }
 
 /// A face's operations where the stencil test fails, where the depth test does and where both pass, and its comparison.
-pub fn face_of(fail: u32, depth_fail: u32, pass: u32, func: u32) -> Face
+pub(crate) fn face_of(fail: u32, depth_fail: u32, pass: u32, func: u32) -> Face
     requires { AreIn face_ranges (fail ∷ depth_fail ∷ pass ∷ func ∷ []) }
     ensures { face_numbers (face_setting result) ≡ fail ∷ depth_fail ∷ pass ∷ func ∷ [] }
 {
@@ -53,14 +53,14 @@ pub fn face_of(fail: u32, depth_fail: u32, pass: u32, func: u32) -> Face
     }
 }
 
-pub fn logic_op_of(number: u32) -> LogicOp
+pub(crate) fn logic_op_of(number: u32) -> LogicOp
     requires { IsIn LOGIC_OP number }
     ensures { logic_op_number result ≡ number }
 {
     LogicOp::from_number(number).unwrap()
 }
 
-pub fn color_mask_of(bits: u32) -> ColorMask
+pub(crate) fn color_mask_of(bits: u32) -> ColorMask
     requires { IsIn COLOR_MASK bits }
     ensures { mask_bits result ≡ bits }
 {

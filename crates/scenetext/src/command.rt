@@ -29,7 +29,7 @@ impl CommandWord {
     ghost use Rattle.scenetext.specs.Commands.{name, serves, command_named};
 
     /// The command of a word, if it is one of the immediate context or, as `immediate` says, of a deferred one.
-    pub fn named(word: &[u8], immediate: bool) -> Option<CommandWord>
+    pub(crate) fn named(word: &[u8], immediate: bool) -> Option<CommandWord>
         ensures value { result ≡ command_named word.now immediate }
         ensures some { IfSome result (λ c. (word.now ≡ name c) × (serves c immediate ≡ true)) }
     {

@@ -20,7 +20,7 @@ pub enum Fault {
 
 impl Fault {
     /// The number that a `refused` line gives.
-    pub fn number(self) -> u32
+    pub(crate) fn number(self) -> u32
         ensures { result ≡ number_of_fault self }
     {
         match self {

@@ -71,7 +71,7 @@ fn head_of(words: &mut Words) -> Result<(Actor, CommandWord), ReadError>
 }
 
 /// A later line, where the contexts have finished so many lists.
-pub fn line_of<A: Allocator>(
+pub(crate) fn line_of<A: Allocator>(
     alloc: A,
     finished: &[u64; 8],
     line: &[u8],
@@ -89,7 +89,7 @@ pub fn line_of<A: Allocator>(
 }
 
 /// The size that the first line gives.
-pub fn size_of(line: &[u8]) -> Result<Size, ReadError>
+pub(crate) fn size_of(line: &[u8]) -> Result<Size, ReadError>
     ensures ok { IfOk result (ReadsSize line.now) }
     ensures err { IfErr result (RefusesFirst line.now) }
 {

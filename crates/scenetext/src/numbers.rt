@@ -15,7 +15,7 @@ use crate::words::{Words, context, integer, natural};
 use gfxspec::Vertex;
 
 /// The number of the range that a word spells.
-pub fn natural_in(word: &[u8], range: Range) -> Option<u32>
+pub(crate) fn natural_in(word: &[u8], range: Range) -> Option<u32>
     ensures spelled { IfSome result (λ n. (word.now ≡ decimal n) × IsIn range n) }
     ensures none { IfNone result (fits_kind (kind_of range) word.now ≡ false) }
 {
@@ -27,7 +27,7 @@ pub fn natural_in(word: &[u8], range: Range) -> Option<u32>
 }
 
 /// The number that the next word spells.
-pub fn next_natural(words: &mut Words, range: Range) -> Result<u32, ReadError>
+pub(crate) fn next_natural(words: &mut Words, range: Range) -> Result<u32, ReadError>
     requires { 0 < length words.old }
     ensures ok { IfOk result (λ n. (words.old ≡ decimal n ∷ words.new) × IsIn range n) }
     ensures err { IfErr result (λ e. (e ≡ ReadError.Fault Fault.Argument) × (fits_kind (kind_of range) (word words.old 0) ≡ false)) }
@@ -39,7 +39,7 @@ pub fn next_natural(words: &mut Words, range: Range) -> Result<u32, ReadError>
 }
 
 /// The number, which may be negative, that the next word spells.
-pub fn next_integer(words: &mut Words) -> Result<i32, ReadError>
+pub(crate) fn next_integer(words: &mut Words) -> Result<i32, ReadError>
     requires { 0 < length words.old }
     ensures ok { IfOk result (λ z. words.old ≡ signed_decimal z ∷ words.new) }
     ensures err { IfErr result (λ e. (e ≡ ReadError.Fault Fault.Argument) × (fits_kind i32s (word words.old 0) ≡ false)) }
@@ -51,7 +51,7 @@ pub fn next_integer(words: &mut Words) -> Result<i32, ReadError>
 }
 
 /// The numbers that the next words spell, one for each range.
-pub fn next_naturals<const N: usize>(
+pub(crate) fn next_naturals<const N: usize>(
     words: &mut Words,
     ranges: [Range; N],
 ) -> Result<[u32; N], ReadError>
@@ -67,7 +67,7 @@ pub fn next_naturals<const N: usize>(
 }
 
 /// Tests how many arguments there are.
-pub fn expect(words: &Words, count: usize) -> Result<(), ReadError>
+pub(crate) fn expect(words: &Words, count: usize) -> Result<(), ReadError>
     ensures ok { OnOk result (length words.now ≡ count) }
     ensures err { IfErr result (λ e. (e ≡ ReadError.Fault Fault.ArgumentCount) × (length words.now ≢ count)) }
 {
@@ -79,7 +79,7 @@ pub fn expect(words: &Words, count: usize) -> Result<(), ReadError>
 }
 
 /// The numbers that all words spell, one for each range.
-pub fn naturals<const N: usize>(
+pub(crate) fn naturals<const N: usize>(
     words: &mut Words,
     ranges: [Range; N],
 ) -> Result<[u32; N], ReadError>
@@ -92,7 +92,7 @@ pub fn naturals<const N: usize>(
 }
 
 /// The context that the next word names.
-pub fn next_context(words: &mut Words) -> Result<u32, ReadError>
+pub(crate) fn next_context(words: &mut Words) -> Result<u32, ReadError>
     requires { 0 < length words.old }
     ensures ok { IfOk result (λ k. (words.old ≡ context_word k ∷ words.new) × (k < 8)) }
     ensures err { IfErr result (λ e. (e ≡ ReadError.Fault Fault.Argument) × (is_context (word words.old 0) ≡ false)) }
@@ -104,7 +104,7 @@ pub fn next_context(words: &mut Words) -> Result<u32, ReadError>
 }
 
 /// The vertex that the next seven words spell.
-pub fn next_vertex(words: &mut Words) -> Result<Vertex, ReadError>
+pub(crate) fn next_vertex(words: &mut Words) -> Result<Vertex, ReadError>
     requires { 7 ≤ length words.old }
     ensures ok { IfOk result (λ v. (words.old ≡ vertex_words v ++ words.new) × IsVertex v) }
     ensures err { IfErr result (λ e. (e ≡ ReadError.Fault Fault.Argument) × (fit vertex_kinds words.old ≡ false)) }

@@ -31,7 +31,7 @@ fn formed_end(text: &[u8]) -> Option<usize>
 }
 
 /// The first line of a text, and what stands behind it.
-pub fn cut_line(text: &[u8]) -> Result<(&[u8], &[u8]), ReadError>
+pub(crate) fn cut_line(text: &[u8]) -> Result<(&[u8], &[u8]), ReadError>
     requires { 0 < length text.now }
     ensures ok { IfOk result (λ cut. CutsLine text.now cut.0.now cut.1.now) }
     ensures err { IfErr result (λ e. (e ≡ ReadError.Fault Fault.LineForm) × BadForm text.now) }

@@ -224,7 +224,7 @@ fn pixel<A: Allocator>(words: &mut Words) -> Result<Verb<A>, ReadError>
 }
 
 /// The verb of a command with these arguments.
-pub fn verb_of<A: Allocator>(
+pub(crate) fn verb_of<A: Allocator>(
     alloc: A,
     command: CommandWord,
     words: &mut Words,

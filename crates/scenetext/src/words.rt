@@ -36,7 +36,7 @@ fn may_be_decimal(word: &[u8]) -> bool
 }
 
 /// The number that a word spells in plain decimal.
-pub fn natural(word: &[u8]) -> Option<u32>
+pub(crate) fn natural(word: &[u8]) -> Option<u32>
     ensures spelled { IfSome result (λ n. word.now ≡ decimal n) }
     ensures none { IfNone result ((n : ℕ) → n < 2 ^ 32 → word.now ≢ decimal n) }
 {
@@ -69,7 +69,7 @@ fn behind_minus(word: &[u8]) -> Option<&[u8]>
 }
 
 /// The number, which may be negative, that a word spells in plain decimal.
-pub fn integer(word: &[u8]) -> Option<i32>
+pub(crate) fn integer(word: &[u8]) -> Option<i32>
     ensures spelled { IfSome result (λ z. word.now ≡ signed_decimal z) }
     ensures none { IfNone result ((z : ℤ) → FitsSigned w32 z → word.now ≢ signed_decimal z) }
 {
@@ -117,14 +117,14 @@ impl<'a> Words<'a> {
     ghost use Rattle.scenetext.specs.Text.{words_of};
 
     /// All words of a line.
-    pub fn new(line: &'a [u8]) -> Self
+    pub(crate) fn new(line: &'a [u8]) -> Self
         ensures { result ≡ words_of line.now }
     {
         Words { rest: Some(line) }
     }
 
     /// How many words are left.
-    pub fn count(&self) -> usize
+    pub(crate) fn count(&self) -> usize
         ensures { result ≡ length self.now }
     {
         match self.rest {
@@ -134,7 +134,7 @@ impl<'a> Words<'a> {
     }
 
     /// The next word.
-    pub fn next(&mut self) -> Option<&'a [u8]>
+    pub(crate) fn next(&mut self) -> Option<&'a [u8]>
         ensures some { IfSome result (λ word. self.old ≡ word.now ∷ self.new) }
         ensures none { IfNone result (self.old ≡ []) }
     {
@@ -153,7 +153,7 @@ impl<'a> Words<'a> {
 }
 
 /// The context that a word names, `d0` to `d7`.
-pub fn context(word: &[u8]) -> Option<u32>
+pub(crate) fn context(word: &[u8]) -> Option<u32>
     ensures some { IfSome result (λ k. (word.now ≡ context_word k) × (k < 8)) }
     ensures none { IfNone result (is_context word.now ≡ false) }
 {

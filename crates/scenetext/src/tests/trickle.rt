@@ -15,7 +15,7 @@ pub struct Trickle<'a> {
 impl<'a> Trickle<'a> {
     ghost use Rattle.std.specs.Prelude.{◌≡◌};
 
-    pub fn new(rest: &'a [u8], piece: usize, failing: u64) -> Self
+    pub(crate) fn new(rest: &'a [u8], piece: usize, failing: u64) -> Self
         ensures { result.failures ≡ 0 }
     {
         Trickle {

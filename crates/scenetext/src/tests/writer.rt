@@ -108,7 +108,7 @@ fn write_line(text: &mut String, line: &Line<Global>) -> Result<(), AllocError> 
 }
 
 /// The script of a scene.
-pub fn script(alloc: Global, scene: &Scene<Global>) -> Result<String, AllocError> {
+pub(crate) fn script(alloc: Global, scene: &Scene<Global>) -> Result<String, AllocError> {
     let mut text = String::new(alloc);
     write!(text, "target {} {}\n", scene.size.width, scene.size.height)?;
     for line in scene.lines.as_slice() {

@@ -87,7 +87,7 @@ impl TileJob for Amounts {
     ghost small_counts = { λ j t d i h less. Prim.omega arith };
 }
 
-pub fn make_amounts(tiles: u32) -> Amounts
+pub(crate) fn make_amounts(tiles: u32) -> Amounts
     requires { tiles ≤ 16384 }
     ensures { result.tiles ≡ tiles }
 {
@@ -95,7 +95,11 @@ pub fn make_amounts(tiles: u32) -> Amounts
 }
 
 /// Puts all tiles on a new board.
-pub fn place_all<A: Allocator>(board: &Board<'_, Amounts, A>, seat: &mut Seat<Amounts>, tiles: u32)
+pub(crate) fn place_all<A: Allocator>(
+    board: &Board<'_, Amounts, A>,
+    seat: &mut Seat<Amounts>,
+    tiles: u32,
+)
     requires own { IsSeatOf board.now seat.old × (board.now.job.tiles ≡ tiles) }
     requires first { (seat.old.view.weight ≡ 16) × (seat.old.view.hand ≡ Empty) × (length seat.old.view.placed ≡ 0) }
     ensures own { IsSeatOf board.now seat.new }

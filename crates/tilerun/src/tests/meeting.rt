@@ -22,7 +22,7 @@ pub struct Meeting {
 }
 
 impl Meeting {
-    pub fn new(want: u64) -> Meeting {
+    pub(crate) fn new(want: u64) -> Meeting {
         Meeting {
             come: AtomicU64::new(0),
             late: AtomicU64::new(0),
@@ -54,13 +54,13 @@ pub struct AllAtOnce {
 }
 
 impl AllAtOnce {
-    pub fn new(want: u64) -> AllAtOnce {
+    pub(crate) fn new(want: u64) -> AllAtOnce {
         AllAtOnce {
             first_claims: Meeting::new(want),
         }
     }
 
-    pub fn all_came(&self) -> bool {
+    pub(crate) fn all_came(&self) -> bool {
         self.first_claims.all_came()
     }
 }
