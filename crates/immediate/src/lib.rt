@@ -15,7 +15,5 @@ mod context;
 mod counts;
 mod crew;
 mod output;
-#[cfg(test)]
-mod tests;
 
 pub use context::ImmediateContext;

@@ -23,5 +23,3 @@ pub use law::one_reading;
 pub use reader::read;
 pub use scene::{Actor, Indices, Line, Lines, Scene, Verb, Vertices};
 
-#[cfg(test)]
-mod tests;

@@ -14,8 +14,6 @@ mod ending;
 mod outcome;
 mod own;
 mod perform;
-#[cfg(test)]
-mod tests;
 mod threads;
 
 pub use bytes::{session, session_alone};

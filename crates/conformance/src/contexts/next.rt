@@ -2,10 +2,10 @@
 
 ghost use Rattle.std.specs.Prelude.{◌≡◌, ◌∷◌, []};
 
-use crate::ImmediateContext;
-use crate::tests::clearing;
+use crate::contexts::clearing;
 use cmdlist::CommandList;
 use gfxspec::GfxError;
+use immediate::ImmediateContext;
 use port::Ports;
 use std::alloc::Global;
 use std::test::Fail;

@@ -1,8 +1,8 @@
 //! Each growth refused in turn, and how many growths a settled context asks for.
 
-use crate::ImmediateContext;
 use cmdlist::{CommandList, DeferredContext, DeviceContext};
 use gfxspec::{DEPTH_MAX, GfxError, Topology, Vertex};
+use immediate::ImmediateContext;
 use refusing::Refusing;
 use std::alloc::Allocator;
 use std::test::Fail;

@@ -1,9 +1,9 @@
 //! Refusals of sixteen workers in their place among the others. A script can't ask for so many.
 
-use crate::ImmediateContext;
-use crate::tests::clearing;
+use crate::contexts::clearing;
 use cmdlist::{CommandList, DeviceContext};
 use gfxspec::GfxError;
+use immediate::ImmediateContext;
 use std::alloc::Global;
 use std::process::Abort;
 use std::test::Fail;

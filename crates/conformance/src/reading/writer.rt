@@ -1,7 +1,7 @@
 //! Writes a scene as a script, by the names of its fields.
 
-use crate::{Actor, Line, Scene, Verb};
 use gfxspec::Vertex;
+use scenetext::{Actor, Line, Scene, Verb};
 use states::Face;
 use std::alloc::{AllocError, Global};
 use std::fmt::Write;

@@ -1,5 +1,5 @@
 use Rattle.std.proofs.Crossing.{frees}
-use Rattle.immediate.proofs.tests.growths.questions_of_a_settled_context_take_no_memory.Goals as goal
+use Rattle.conformance.proofs.contexts.growths.questions_of_a_settled_context_take_no_memory.Goals as goal
 
 pub ask-requires-frees-A-Allocator : goal.ask-requires-frees-A-Allocator
 ask-requires-frees-A-Allocator g c κs = record { frees = λ r τ p. frees.frees r.now.inner τ p }

@@ -3,11 +3,11 @@
 mod trickle;
 mod writer;
 
-use crate::{Actor, Indices, Line, Lines, Scene, Verb, Vertices, one_reading, read};
 use gfxspec::{
     Compare, Cull, GatherError, LogicOp, PixelRect, StencilOp, Topology, Vertex, gather,
 };
 use refusing::Refusing;
+use scenetext::{Actor, Indices, Line, Lines, Scene, Verb, Vertices, one_reading, read};
 use states::{
     BlendDesc, BlendState, ColorMask, DepthStencilDesc, DepthStencilState, Face, RasterDesc,
     RasterState,

@@ -1,9 +1,9 @@
 //! Whether all threads work: a gate holds the first claim of each until all have come.
 
-use crate::ImmediateContext;
-use crate::tests::clearing;
+use crate::contexts::clearing;
 use cmdlist::DeviceContext;
 use gfxspec::GfxError;
+use immediate::ImmediateContext;
 use std::alloc::Global;
 use std::sync::atomic::AtomicU64;
 use std::sync::atomic::Ordering::SeqCst;

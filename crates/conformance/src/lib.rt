@@ -1,0 +1,12 @@
+//! Tests of what no contract says, over what the crates below hand out: scripts from bytes to bytes, the calls of the
+//! immediate context that no script reaches, and the reading of scripts.
+//!
+//! They stand in a crate of their own because a crate with tests is proved once more with them. Nothing here is handed out.
+#![tactic(auto)]
+
+#[cfg(test)]
+mod contexts;
+#[cfg(test)]
+mod reading;
+#[cfg(test)]
+mod scripts;
