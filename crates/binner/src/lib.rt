@@ -17,6 +17,3 @@ mod setup;
 pub use compiled::{Compiled, compile, programs_count_the_target};
 pub use entry::StateEntry;
 pub use setup::TriSetup;
-
-#[cfg(test)]
-mod tests;

@@ -26,6 +26,3 @@ pub use context::DeferredContext;
 pub use device_context::DeviceContext;
 pub use list::CommandList;
 pub use settings::{Settings, State};
-
-#[cfg(test)]
-mod tests;

@@ -1,5 +1,5 @@
 //! What no script reaches: that each call uses its workers, refusals of sixteen workers in their order, the execution of
-//! submissions, and each growth refused in turn. Worked scenes run from bytes to bytes in `sessions`.
+//! submissions, and each growth refused in turn. Worked scenes run from bytes to bytes in `scripts`.
 
 mod gate;
 mod growths;

@@ -1,12 +1,17 @@
-//! Tests of what no contract says, over what the crates below hand out: scripts from bytes to bytes, the calls of the
-//! immediate context that no script reaches, and the reading of scripts.
+//! Tests of what no contract says, over what the crates below hand out: scripts from bytes to bytes (`scripts`), the calls
+//! of the immediate context that no script reaches (`contexts`), recorded calls (`recording`), compiled lists (`compiling`) and
+//! the reading of scripts (`reading`).
 //!
 //! They stand in a crate of their own because a crate with tests is proved once more with them. Nothing here is handed out.
 #![tactic(auto)]
 
 #[cfg(test)]
+mod compiling;
+#[cfg(test)]
 mod contexts;
 #[cfg(test)]
 mod reading;
+#[cfg(test)]
+mod recording;
 #[cfg(test)]
 mod scripts;

@@ -3,14 +3,11 @@
 mod trickle;
 mod writer;
 
-use gfxspec::{
-    Compare, Cull, GatherError, LogicOp, PixelRect, StencilOp, Topology, Vertex, gather,
-};
+use gfxspec::{Compare, GatherError, LogicOp, PixelRect, StencilOp, Topology, Vertex, gather};
 use refusing::Refusing;
 use scenetext::{Actor, Indices, Line, Lines, Scene, Verb, Vertices, one_reading, read};
 use states::{
-    BlendDesc, BlendState, ColorMask, DepthStencilDesc, DepthStencilState, Face, RasterDesc,
-    RasterState,
+    BlendDesc, BlendState, ColorMask, DepthStencilDesc, DepthStencilState, Face, RasterState,
 };
 use std::alloc::Global;
 use std::process::Abort;
@@ -26,30 +23,6 @@ fn scene(rt: &HostRuntime, text: &str) -> Result<Scene<Global>, Fail> {
     )
 }
 
-fn assert_actors(rt: &impl Abort, lines: &[Line<Global>], wanted: &[Actor]) {
-    assert_eq!(rt; lines.len(), wanted.len());
-    for (line, actor) in lines.iter().zip(wanted) {
-        assert_eq!(rt; line.actor, *actor);
-    }
-}
-
-/// Four vertices or three, at the corners of a square of 33 or 4 pixels.
-fn assert_corners(rt: &impl Abort, verb: &Verb<Global>, wanted: &[(i32, i32, u8)]) {
-    let Verb::SetVertices(vertices) = verb else {
-        panic!(rt; "a line of vertices")
-    };
-    assert_eq!(rt; vertices.as_slice().len(), wanted.len());
-    for (vertex, (x, y, c)) in vertices.as_slice().iter().zip(wanted) {
-        let corner = Vertex {
-            x: *x,
-            y: *y,
-            z: 0,
-            rgba: [*c, *c, *c, *c],
-        };
-        assert_eq!(rt; *vertex, corner);
-    }
-}
-
 const FOUR_TILES: &str = "target 33 33
 i vb 0 0 0 1 1 1 1 2162688 0 0 2 2 2 2 0 2162688 0 3 3 3 3 2162688 2162688 0 4 4 4 4
 i ib 1 3 2
@@ -57,29 +30,6 @@ i topology 4
 i draw 3 0
 i drawi 3 0 0
 ";
-
-#[test]
-fn four_tiles(rt: HostRuntime) -> Result<(), Fail> {
-    let scene = scene(&rt, FOUR_TILES)?;
-    assert_eq!(rt; (scene.size.width, scene.size.height), (33, 33));
-    let lines = scene.lines.as_slice();
-    assert_actors(&rt, lines, &[Actor::Immediate; 5]);
-    if let [vb, ib, topology, draw, drawi] = lines {
-        let side = 2162688;
-        assert_corners(
-            &rt,
-            &vb.verb,
-            &[(0, 0, 1), (side, 0, 2), (0, side, 3), (side, side, 4)],
-        );
-        assert!(rt;
-            matches!(&ib.verb, Verb::SetIndices(indices) if indices.as_slice() == [1, 3, 2].as_slice())
-        );
-        assert!(rt; matches!(topology.verb, Verb::SetTopology(Topology::TriangleList)));
-        assert!(rt; matches!(draw.verb, Verb::Draw(3, 0)));
-        assert!(rt; matches!(drawi.verb, Verb::DrawIndexed(3, 0, 0)));
-    }
-    Ok(())
-}
 
 const LIST_INHERITS_NOTHING: &str = "target 4 4
 d0 vb 0 0 0 9 9 9 9 0 262144 0 9 9 9 9 262144 0 0 9 9 9 9
@@ -92,31 +42,6 @@ i raster 1 0 0
 i exec d0 0 1
 i draw 3 0
 ";
-
-#[test]
-fn list_inherits_nothing(rt: HostRuntime) -> Result<(), Fail> {
-    let scene = scene(&rt, LIST_INHERITS_NOTHING)?;
-    let lines = scene.lines.as_slice();
-    let d0 = Actor::Deferred(0);
-    let i = Actor::Immediate;
-    assert_actors(&rt, lines, &[d0, d0, d0, d0, i, i, i, i, i]);
-    let corners = [(0, 0, 9), (0, 262144, 9), (262144, 0, 9)];
-    if let [vb, topology, draw, finish, again, _, raster, exec, _] = lines {
-        assert_corners(&rt, &vb.verb, &corners);
-        assert!(rt; matches!(topology.verb, Verb::SetTopology(Topology::TriangleList)));
-        assert!(rt; matches!(draw.verb, Verb::Draw(3, 0)));
-        assert!(rt; matches!(finish.verb, Verb::Finish(false)));
-        assert_corners(&rt, &again.verb, &corners);
-        let unculled = RasterState::new(RasterDesc {
-            cull: Cull::None,
-            front_ccw: false,
-            scissor: false,
-        });
-        assert!(rt; matches!(raster.verb, Verb::SetRaster(state) if state == unculled));
-        assert!(rt; matches!(exec.verb, Verb::Execute(0, 0, true)));
-    }
-    Ok(())
-}
 
 const DEFAULTS: &str = "target 1 1
 d7 raster 3 0 0
@@ -299,24 +224,6 @@ i end 64
 i query 0
 i query 4294967295
 ";
-
-#[test]
-fn queries(rt: HostRuntime) -> Result<(), Fail> {
-    let scene = scene(&rt, QUERIES)?;
-    if let [begin, end, own_begin, own_end, first, last] = scene.lines.as_slice() {
-        assert_eq!(rt; begin.actor, Actor::Deferred(3));
-        assert!(rt; matches!(begin.verb, Verb::Begin(0)));
-        assert!(rt; matches!(end.verb, Verb::End(63)));
-        assert_eq!(rt; own_begin.actor, Actor::Immediate);
-        assert!(rt; matches!(own_begin.verb, Verb::Begin(4294967295)));
-        assert!(rt; matches!(own_end.verb, Verb::End(64)));
-        assert!(rt; matches!(first.verb, Verb::Query(0)));
-        assert!(rt; matches!(last.verb, Verb::Query(4294967295)));
-    } else {
-        panic!(rt; "six lines")
-    }
-    Ok(())
-}
 
 // Lists are numbered by their context's own lines; the greatest numbers that may stand.
 const MANY_LISTS: &str = "target 4294967295 4294967295

@@ -22,4 +22,3 @@ mod words;
 pub use law::one_reading;
 pub use reader::read;
 pub use scene::{Actor, Indices, Line, Lines, Scene, Verb, Vertices};
-

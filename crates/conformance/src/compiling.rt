@@ -3,8 +3,8 @@
 ghost use Rattle.std.specs.Prelude.{◌≡◌, ◌<◌, ◌≤◌, length, unsigned_abs, IfOk};
 ghost use Rattle.gfxspec.specs.Tiles.{tile_count};
 
-use super::*;
 use binmem::Bins;
+use binner::{Compiled, compile};
 use cmdlist::{CommandList, DeferredContext, DeviceContext};
 use gfxspec::{DepthStencil, GfxError, Size, Topology, Vertex, tile_count};
 use refusing::Refusing;

@@ -1,6 +1,6 @@
-//! Each call through the trait, queries, and refused growths. Worked lists and limits run from bytes to bytes in `sessions`.
+//! Each call through the trait, queries, and refused growths. Worked lists and limits run from bytes to bytes in `scripts`.
 
-use super::*;
+use cmdlist::{Command, DeferredContext, DeviceContext};
 use gfxspec::{GfxError, PixelRect, Topology, Vertex};
 use refusing::Refusing;
 use states::{BlendState, DepthStencilState, RasterState};
