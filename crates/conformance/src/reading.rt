@@ -3,9 +3,9 @@
 mod trickle;
 mod writer;
 
-use gfxspec::{Compare, GatherError, LogicOp, PixelRect, StencilOp, Topology, Vertex, gather};
+use gfxspec::{Compare, GatherError, LogicOp, PixelRect, StencilOp, Topology, gather};
 use refusing::Refusing;
-use scenetext::{Actor, Indices, Line, Lines, Scene, Verb, Vertices, one_reading, read};
+use scenetext::{Actor, Scene, Verb, one_reading, read};
 use states::{
     BlendDesc, BlendState, ColorMask, DepthStencilDesc, DepthStencilState, Face, RasterState,
 };
@@ -58,8 +58,8 @@ i drawi 1 2 -2147483648
 
 #[test]
 fn defaults_and_the_other_words(rt: HostRuntime) -> Result<(), Fail> {
+    one_reading();
     let scene = scene(&rt, DEFAULTS)?;
-    let lines = scene.lines.into_vec();
     if let [
         raster,
         scissor,
@@ -71,7 +71,7 @@ fn defaults_and_the_other_words(rt: HostRuntime) -> Result<(), Fail> {
         ib,
         vb,
         drawi,
-    ] = lines.as_slice()
+    ] = scene.lines.as_slice()
     {
         let nowhere = PixelRect {
             left: 0,
@@ -473,30 +473,6 @@ fn from_a_source(rt: HostRuntime) -> Result<(), Fail> {
         let mut source = Trickle::new(FOUR_TILES.as_bytes(), 30, failing);
         let failed = gather(rt.alloc(), &mut source).err();
         assert_eq!(rt; failed, Some(GatherError::Read), "call {failing}");
-    }
-    Ok(())
-}
-
-#[test]
-fn lists_by_value(rt: HostRuntime) -> Result<(), Fail> {
-    one_reading();
-    let indices = Indices::from_vec(vec![in rt.alloc(); 1, 65535]?);
-    assert_eq!(rt; indices.into_vec().as_slice(), [1, 65535].as_slice());
-    let vertex = Vertex {
-        x: -1,
-        y: 2,
-        z: 3,
-        rgba: [4, 5, 6, 7],
-    };
-    let vertices = Vertices::from_vec(vec![in rt.alloc(); vertex]?);
-    assert_eq!(rt; vertices.into_vec().as_slice(), [vertex].as_slice());
-    let line = Line {
-        actor: Actor::Deferred(2),
-        verb: Verb::Finish(true),
-    };
-    let lines = Lines::from_vec(vec![in rt.alloc(); line]?);
-    for line in lines.into_vec() {
-        assert!(rt; line.actor == Actor::Deferred(2) && matches!(line.verb, Verb::Finish(true)));
     }
     Ok(())
 }

@@ -1,5 +1,5 @@
--- Words that spell numbers, and names of commands.
-use Rattle.std.proofs.Common.{◌≡◌, ◌≢◌, ℕ, ℤ, pos, negsuc, neg_ℤ, ◌-ℤ◌, zero, suc, ◌+◌, ◌-◌, ◌*◌, ◌^◌, ◌<◌, ◌≤◌, Bool, true, false, eqb, List, [], ◌∷◌, ◌++◌, length, get_or, take, drop, take_all, length-take-le, Some, Result, Ok, Err, refl, sym, ap, subst, ◌∙◌, arith}
+-- Words that spell numbers.
+use Rattle.std.proofs.Common.{◌≡◌, ◌≢◌, ℕ, ℤ, pos, negsuc, neg_ℤ, ◌-ℤ◌, zero, suc, ◌+◌, ◌-◌, ◌*◌, ◌^◌, ◌<◌, ◌≤◌, true, false, eqb, List, [], ◌∷◌, ◌++◌, length, get_or, take, drop, take_all, length-take-le, Some, Result, Ok, Err, refl, sym, ap, subst, ◌∙◌, arith}
 use Rattle.std.specs.Prelude.{decimal, IfSome, IfNone, FitsSigned}
 use Rattle.std.specs.Int.{w32, w64}
 use Rattle.std.specs.Result.{OkIff, result_ok}
@@ -12,11 +12,7 @@ use Rattle.std.proofs.lemmas.Str.Parse.{digits_value_short, digit_at}
 use Rattle.std.proofs.lemmas.Fmt.{digits_decimal, decimal-digits_value, decimal_nonempty, first_decimal, length-decimal-le, decimal_injective}
 use Rattle.std.proofs.lemmas.Int.{ints, to_z-of_z}
 use mir.Val.{to_z, of_z}
-use Rattle.std.proofs.lemmas.Slice.Eq.{HasBytesAt, text_from_reads}
-use Rattle.scenetext.specs.declared.command.CommandWord.{CommandWord}
-use Rattle.scenetext.specs.Commands.{name, serves, command_named}
 use Rattle.scenetext.proofs.NumberLemmas.{own, no_minus, value, value-decimal}
-use Rattle.scenetext.proofs.VerbLemmas.{command_named-name}
 
 -- ---- one digit more
 
@@ -72,14 +68,6 @@ is_decimal bs n h e =
 
 pub spelled : (bs : List ℕ) → 0 < length bs → (get_or bs 0 0 ≡ 48 → length bs ≡ 1) → AllDigits 10 bs → value bs < 2 ^ 32 → bs ≡ decimal (value bs)
 spelled bs l f a h = sym (decimal-digits_value own bs a l f (omega arith))
-
--- ---- the name of a command
-
--- a word with the bytes of a name
-pub named_as : (w : List ℕ) (im : Bool) (c : CommandWord) → length w ≡ length (name c) → HasBytesAt w 0 (name c) → serves c im ≡ true → (Some c ≡ command_named w im) × (w ≡ name c) × (serves c im ≡ true)
-named_as w im c l h s =
-    let e = text_from_reads w (name c) l h in
-    (sym (ap (λ x. command_named x im) e ∙ command_named-name c im s), e, s)
 
 -- ---- what the parts of `natural` come to
 

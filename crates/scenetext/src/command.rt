@@ -3,7 +3,7 @@
 ghost use Rattle.std.specs.Prelude.{◌≡◌, true, IfSome};
 
 /// A command word.
-#[derive(Clone, Copy, Debug, PartialEq, Eq)]
+#[derive(Clone, Copy)]
 pub enum CommandWord {
     Vb,
     Ib,
@@ -25,34 +25,84 @@ pub enum CommandWord {
     Pixel,
 }
 
+const COMMANDS: [CommandWord; 18] = [
+    CommandWord::Vb,
+    CommandWord::Ib,
+    CommandWord::Topology,
+    CommandWord::Raster,
+    CommandWord::Scissor,
+    CommandWord::Ds,
+    CommandWord::Blend,
+    CommandWord::Draw,
+    CommandWord::Drawi,
+    CommandWord::Clearc,
+    CommandWord::Cleards,
+    CommandWord::Begin,
+    CommandWord::End,
+    CommandWord::Finish,
+    CommandWord::Flush,
+    CommandWord::Exec,
+    CommandWord::Query,
+    CommandWord::Pixel,
+];
+
 impl CommandWord {
     ghost use Rattle.scenetext.specs.Commands.{name, serves, command_named};
+
+    fn text(self) -> &'static [u8]
+        ensures { result.now ≡ name self }
+    {
+        match self {
+            CommandWord::Vb => b"vb",
+            CommandWord::Ib => b"ib",
+            CommandWord::Topology => b"topology",
+            CommandWord::Raster => b"raster",
+            CommandWord::Scissor => b"scissor",
+            CommandWord::Ds => b"ds",
+            CommandWord::Blend => b"blend",
+            CommandWord::Draw => b"draw",
+            CommandWord::Drawi => b"drawi",
+            CommandWord::Clearc => b"clearc",
+            CommandWord::Cleards => b"cleards",
+            CommandWord::Begin => b"begin",
+            CommandWord::End => b"end",
+            CommandWord::Finish => b"finish",
+            CommandWord::Flush => b"flush",
+            CommandWord::Exec => b"exec",
+            CommandWord::Query => b"query",
+            CommandWord::Pixel => b"pixel",
+        }
+    }
+
+    /// Whether the immediate context has the command or, as `immediate` says, a deferred one.
+    fn is_for(self, immediate: bool) -> bool
+        ensures { result ≡ serves self immediate }
+    {
+        match self {
+            CommandWord::Vb
+            | CommandWord::Ib
+            | CommandWord::Topology
+            | CommandWord::Raster
+            | CommandWord::Scissor
+            | CommandWord::Ds
+            | CommandWord::Blend
+            | CommandWord::Draw
+            | CommandWord::Drawi
+            | CommandWord::Clearc
+            | CommandWord::Cleards
+            | CommandWord::Begin
+            | CommandWord::End => true,
+            CommandWord::Finish => !immediate,
+            CommandWord::Flush | CommandWord::Exec | CommandWord::Query | CommandWord::Pixel =>
+                immediate,
+        }
+    }
 
     /// The command of a word, if it is one of the immediate context or, as `immediate` says, of a deferred one.
     pub(crate) fn named(word: &[u8], immediate: bool) -> Option<CommandWord>
         ensures value { result ≡ command_named word.now immediate }
         ensures some { IfSome result (λ c. (word.now ≡ name c) × (serves c immediate ≡ true)) }
     {
-        match word {
-            b"vb" => Some(CommandWord::Vb),
-            b"ib" => Some(CommandWord::Ib),
-            b"topology" => Some(CommandWord::Topology),
-            b"raster" => Some(CommandWord::Raster),
-            b"scissor" => Some(CommandWord::Scissor),
-            b"ds" => Some(CommandWord::Ds),
-            b"blend" => Some(CommandWord::Blend),
-            b"draw" => Some(CommandWord::Draw),
-            b"drawi" => Some(CommandWord::Drawi),
-            b"clearc" => Some(CommandWord::Clearc),
-            b"cleards" => Some(CommandWord::Cleards),
-            b"begin" => Some(CommandWord::Begin),
-            b"end" => Some(CommandWord::End),
-            b"finish" if !immediate => Some(CommandWord::Finish),
-            b"flush" if immediate => Some(CommandWord::Flush),
-            b"exec" if immediate => Some(CommandWord::Exec),
-            b"query" if immediate => Some(CommandWord::Query),
-            b"pixel" if immediate => Some(CommandWord::Pixel),
-            _ => None,
-        }
+        COMMANDS.iter().copied().find(|command| word == command.text() && command.is_for(immediate))
     }
 }

@@ -7,7 +7,7 @@ ghost use Rattle.scenetext.specs.Faults.{number_of_fault};
 use std::alloc::{AllocError, AllocFailed};
 
 /// What is wrong with a line, in the order in which it is looked for.
-#[derive(Clone, Copy, Debug, PartialEq, Eq)]
+#[derive(Clone, Copy)]
 pub enum Fault {
     LineForm,
     FirstLine,
@@ -36,7 +36,7 @@ impl Fault {
 }
 
 /// Why a line could not be read.
-#[derive(Debug, Drop)]
+#[derive(Drop)]
 pub enum ReadError {
     Memory,
     Fault(Fault),

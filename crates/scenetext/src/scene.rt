@@ -13,7 +13,7 @@ pub enum Actor {
 }
 
 /// Vertices in order.
-#[derive(Debug, Drop)]
+#[derive(Drop)]
 pub struct Vertices<A: Allocator> {
     items: Vec<Vertex, A>,
 }
@@ -30,7 +30,7 @@ impl<A: Allocator> Model for Vertices<A> {
 impl<A: Allocator> Vertices<A> {
     ghost use Rattle.std.specs.Prelude.{◌≡◌};
 
-    pub fn from_vec(items: Vec<Vertex, A>) -> Self
+    pub(crate) fn from_vec(items: Vec<Vertex, A>) -> Self
         ensures { result ≡ items.items }
     {
         Vertices { items }
@@ -41,16 +41,10 @@ impl<A: Allocator> Vertices<A> {
     {
         self.items.as_slice()
     }
-
-    pub fn into_vec(self) -> Vec<Vertex, A>
-        ensures { result.items ≡ self }
-    {
-        self.items
-    }
 }
 
 /// Indices in order.
-#[derive(Debug, Drop)]
+#[derive(Drop)]
 pub struct Indices<A: Allocator> {
     items: Vec<u16, A>,
 }
@@ -66,7 +60,7 @@ impl<A: Allocator> Model for Indices<A> {
 impl<A: Allocator> Indices<A> {
     ghost use Rattle.std.specs.Prelude.{◌≡◌};
 
-    pub fn from_vec(items: Vec<u16, A>) -> Self
+    pub(crate) fn from_vec(items: Vec<u16, A>) -> Self
         ensures { result ≡ items.items }
     {
         Indices { items }
@@ -77,16 +71,10 @@ impl<A: Allocator> Indices<A> {
     {
         self.items.as_slice()
     }
-
-    pub fn into_vec(self) -> Vec<u16, A>
-        ensures { result.items ≡ self }
-    {
-        self.items
-    }
 }
 
 /// A command word with its arguments in order.
-#[derive(Debug, Drop)]
+#[derive(Drop)]
 pub enum Verb<A: Allocator> {
     SetVertices(Vertices<A>),
     SetIndices(Indices<A>),
@@ -119,7 +107,7 @@ pub enum Verb<A: Allocator> {
     Pixel(u32, u32),
 }
 
-#[derive(Debug, Drop)]
+#[derive(Drop)]
 pub struct Line<A: Allocator> {
     pub actor: Actor,
     pub verb: Verb<A>,
@@ -129,7 +117,7 @@ pub struct Line<A: Allocator> {
 const _: () = prove!(size_of::<Line<Global>>() <= 40);
 
 /// Lines in order.
-#[derive(Debug, Drop)]
+#[derive(Drop)]
 pub struct Lines<A: Allocator> {
     items: Vec<Line<A>, A>,
 }
@@ -149,7 +137,7 @@ impl<A: Allocator> Lines<A> {
     ghost use Rattle.std.specs.Prelude.{◌≡◌, map};
     ghost use Rattle.scenetext.specs.Seen.{line_value};
 
-    pub fn from_vec(items: Vec<Line<A>, A>) -> Self
+    pub(crate) fn from_vec(items: Vec<Line<A>, A>) -> Self
         ensures { result ≡ map line_value items.items }
     {
         Lines { items }
@@ -160,16 +148,10 @@ impl<A: Allocator> Lines<A> {
     {
         self.items.as_slice()
     }
-
-    pub fn into_vec(self) -> Vec<Line<A>, A>
-        ensures { map line_value result.items ≡ self }
-    {
-        self.items
-    }
 }
 
 /// The size that the first line gives, and the lines behind it.
-#[derive(Debug, Drop)]
+#[derive(Drop)]
 pub struct Scene<A: Allocator> {
     pub size: Size,
     pub lines: Lines<A>,
