@@ -51,19 +51,33 @@ fn asked<R: Env + AllocGlobal>(rt: &R) -> io::Result<Option<u16>> {
 fn all<R: Env + Clock + Print + AllocGlobal>(rt: &R) -> io::Result<()> {
     let asked = asked(rt)?;
     for (name, draws, triangles, small) in SCENES {
-        let Ok(list) = scenes::list(rt.alloc(), draws, triangles, small) else {
+        let Some(found) = made_and_timed(rt, draws, triangles, small, asked.unwrap_or(1)) else {
             return Ok(());
         };
-        let Some((words, sum, least)) = timed(rt, &list, asked.unwrap_or(1)) else {
-            return Ok(());
-        };
-        if asked.is_some() {
-            println!(rt; "{name}: {words} words, sum {sum}, {least} ns")?;
-        } else {
-            println!(rt; "{name}: {words} words, sum {sum}")?;
-        }
+        show(rt, name, found, asked.is_some())?;
     }
     Ok(())
+}
+
+/// Prints what was found of a list, and its time where that was asked for.
+fn show<R: Print>(rt: &R, name: &str, found: (u64, u64, u128), timed: bool) -> io::Result<()> {
+    let (words, sum, least) = found;
+    if timed {
+        return println!(rt; "{name}: {words} words, sum {sum}, {least} ns");
+    }
+    println!(rt; "{name}: {words} words, sum {sum}")
+}
+
+/// Makes a list and compiles it so many times.
+fn made_and_timed<R: Clock + AllocGlobal>(
+    rt: &R,
+    draws: u32,
+    triangles: u32,
+    small: bool,
+    rounds: u16,
+) -> Option<(u64, u64, u128)> {
+    let list = scenes::list(rt.alloc(), draws, triangles, small).ok()?;
+    timed(rt, &list, rounds)
 }
 
 /// Compiles a list so many times. Answers how many words it has, a sum of them, and the nanoseconds of the quickest round.

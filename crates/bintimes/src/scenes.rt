@@ -51,6 +51,49 @@ fn push_large(vertices: &mut Vec<Vertex>, seed: u32) -> Result<u32, GfxError> {
     Ok(seed)
 }
 
+/// Pushes so many triangles, small or large, and answers the next seed.
+fn push_all(
+    vertices: &mut Vec<Vertex>,
+    seed: u32,
+    triangles: u32,
+    small: bool,
+) -> Result<u32, GfxError> {
+    let mut seed = seed;
+    for _triangle in 0..triangles {
+        seed = if small {
+            push_small(vertices, seed)?
+        } else {
+            push_large(vertices, seed)?
+        };
+    }
+    Ok(seed)
+}
+
+/// Draws so many triangles, small or large, and answers the next seed.
+fn draw_all(
+    context: &mut DeferredContext<Global>,
+    alloc: Global,
+    seed: u32,
+    triangles: u32,
+    small: bool,
+) -> Result<u32, GfxError> {
+    let mut vertices = Vec::new(alloc);
+    let next_seed = push_all(&mut vertices, seed, triangles, small)?;
+    context.ia_set_vertices(vertices.as_slice())?;
+    context.draw(triangles.wrapping_mul(3), 0)?;
+    Ok(next_seed)
+}
+
+/// Draws lists of triangles that face either way.
+fn set_up(context: &mut DeferredContext<Global>) -> Result<(), GfxError> {
+    context.rs_set_state(RasterState::new(RasterDesc {
+        cull: Cull::None,
+        front_ccw: false,
+        scissor: false,
+    }))?;
+    context.ia_set_topology(Topology::TriangleList)
+}
+
 /// A list of so many draws of so many triangles each, small or large.
 pub(crate) fn list(
     alloc: Global,
@@ -59,24 +102,10 @@ pub(crate) fn list(
     small: bool,
 ) -> Result<CommandList<Global>, GfxError> {
     let mut context = DeferredContext::new(alloc);
-    context.rs_set_state(RasterState::new(RasterDesc {
-        cull: Cull::None,
-        front_ccw: false,
-        scissor: false,
-    }))?;
-    context.ia_set_topology(Topology::TriangleList)?;
+    set_up(&mut context)?;
     let mut seed = 2463534242;
     for _draw in 0..draws {
-        let mut vertices = Vec::new(alloc);
-        for _triangle in 0..triangles {
-            seed = if small {
-                push_small(&mut vertices, seed)?
-            } else {
-                push_large(&mut vertices, seed)?
-            };
-        }
-        context.ia_set_vertices(vertices.as_slice())?;
-        context.draw(triangles.wrapping_mul(3), 0)?;
+        seed = draw_all(&mut context, alloc, seed, triangles, small)?;
     }
     context.finish(false)
 }

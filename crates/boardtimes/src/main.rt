@@ -14,6 +14,7 @@ mod together;
 use crate::rounds::{Times, dealt, in_order};
 use std::alloc::Global;
 use std::env::Env;
+use std::io::ErrorKind;
 use std::process::ExitCode;
 use std::rt::Clock;
 use std::thread::Threads;
@@ -52,6 +53,20 @@ fn added(all: &mut Times, more: Times) {
     all.sum = all.sum.wrapping_add(more.sum);
 }
 
+/// Prints the parts of a board's life.
+fn show_parts<R: Print>(rt: &R, times: &Times, rounds: u16) -> io::Result<()> {
+    show(rt, "new", times.made, rounds)?;
+    show(rt, "place", times.placed, rounds)?;
+    show(rt, "claim and hand_in", times.served, rounds)?;
+    show(rt, "close", times.closed, rounds)?;
+    show(rt, "next_tile", times.taken, rounds)
+}
+
+/// A round, or that there was none.
+fn had(times: Option<Times>) -> io::Result<Times> {
+    times.ok_or(ErrorKind::Other.into())
+}
+
 fn one_seat<R: Clock + Print + Threads + Sync>(
     rt: &R,
     alloc: Global,
@@ -60,14 +75,10 @@ fn one_seat<R: Clock + Print + Threads + Sync>(
     let rounds = asked.unwrap_or(1);
     let mut times = Times::default();
     for _ in 0..rounds {
-        added(&mut times, in_order(rt, alloc, TILES, 0)?);
+        added(&mut times, had(in_order(rt, alloc, TILES, 0))?);
     }
     if asked.is_some() {
-        show(rt, "new", times.made, rounds)?;
-        show(rt, "place", times.placed, rounds)?;
-        show(rt, "claim and hand_in", times.served, rounds)?;
-        show(rt, "close", times.closed, rounds)?;
-        show(rt, "next_tile", times.taken, rounds)?;
+        show_parts(rt, &times, rounds)?;
     }
     println!(rt; "one seat: sum {}", times.sum)
 }
@@ -84,8 +95,8 @@ fn threads<R: Clock + Print + Threads + Sync>(
     let mut ordered = Times::default();
     let mut stolen = Times::default();
     for _ in 0..rounds {
-        added(&mut ordered, in_order(rt, alloc, TILES, workers)?);
-        added(&mut stolen, dealt(rt, alloc, TILES, workers)?);
+        added(&mut ordered, had(in_order(rt, alloc, TILES, workers))?);
+        added(&mut stolen, had(dealt(rt, alloc, TILES, workers))?);
     }
     if asked.is_some() {
         show(rt, "claim word", ordered.served, rounds)?;

@@ -1,12 +1,13 @@
 //! Boards from the first tile placed to the last result taken.
 
-ghost use Rattle.std.specs.Prelude.{◌≤◌};
+ghost use Rattle.std.specs.Prelude.{◌≡◌, ◌≤◌};
+ghost use Rattle.board.specs.Known.{IsSeatOf};
+ghost use Rattle.board.specs.Views.{handed};
 
 use crate::empty::{Idle, make_idle, place_all};
 use crate::together::drain_together;
-use board::{Board, Finished};
+use board::{Board, Finished, Seat};
 use std::alloc::Global;
-use std::io::{self, ErrorKind};
 use std::rt::Clock;
 use std::thread::Threads;
 use std::time::Instant;
@@ -34,66 +35,95 @@ fn sum_of(finished: &mut Finished<'_, Idle, Global>, tiles: u32) -> u64 {
     sum
 }
 
-/// A board whose tiles are claimed in order, by so many threads beside the caller.
+// The clock, if it can be read.
+fn mark<R: Clock>(rt: &R) -> Option<Instant> {
+    Instant::now(rt).ok()
+}
+
+// The nanoseconds between two marks, if there are both.
+fn between(from: Option<Instant>, to: Option<Instant>) -> Option<u128> {
+    Some(to?.duration_since(from?).as_nanos())
+}
+
+// Ends a board, and says how long that took: its closing, and the taking of all results, which it sums.
+fn ended<R: Clock>(
+    rt: &R,
+    board: Board<'_, Idle, Global>,
+    seat: Seat<Idle>,
+    tiles: u32,
+) -> Option<(u128, u128, u64)>
+    requires own { IsSeatOf board seat }
+    requires all { handed seat.view ≡ board.job.tiles }
+{
+    let start = mark(rt);
+    let Ok(mut finished) = board.close(seat) else {
+        unreachable!()
+    };
+    let closed = mark(rt);
+    let sum = sum_of(&mut finished, tiles);
+    let taken = mark(rt);
+    Some((between(start, closed)?, between(closed, taken)?, sum))
+}
+
+// A round with the clock as it was read before its parts, and behind the last but the two of the board's end.
+fn timed(marks: [Option<Instant>; 4], end: Option<(u128, u128, u64)>) -> Option<Times> {
+    let (closed, taken, sum) = end?;
+    Some(Times {
+        made: between(marks[0], marks[1])?,
+        placed: between(marks[1], marks[2])?,
+        served: between(marks[2], marks[3])?,
+        closed,
+        taken,
+        sum,
+    })
+}
+
+/// A board whose tiles are claimed in order, by so many threads beside the caller. None where the clock can't be read,
+/// or memory is short.
 pub(crate) fn in_order<R: Clock + Threads + Sync>(
     rt: &R,
     alloc: Global,
     tiles: u32,
     workers: u32,
-) -> io::Result<Times>
+) -> Option<Times>
     requires tiles { tiles ≤ 16384 }
     requires workers { workers ≤ 15 }
 {
-    let mut times = Times::default();
     let job = make_idle(tiles);
-    let start = Instant::now(rt)?;
+    let start = mark(rt);
     let Ok((board, mut seat)) = Board::new(&alloc, &job) else {
-        return Err(ErrorKind::OutOfMemory.into());
+        return None;
     };
-    times.made = start.elapsed(rt)?.as_nanos();
-    let start = Instant::now(rt)?;
+    let made = mark(rt);
     place_all(&board, &mut seat, tiles);
-    times.placed = start.elapsed(rt)?.as_nanos();
-    let start = Instant::now(rt)?;
+    let placed = mark(rt);
     let seat = drain_together(rt, &board, seat, &job, 0, workers);
-    times.served = start.elapsed(rt)?.as_nanos();
-    let start = Instant::now(rt)?;
-    let Ok(mut finished) = board.close(seat) else {
-        unreachable!()
-    };
-    times.closed = start.elapsed(rt)?.as_nanos();
-    let start = Instant::now(rt)?;
-    times.sum = sum_of(&mut finished, tiles);
-    times.taken = start.elapsed(rt)?.as_nanos();
-    Ok(times)
+    let served = mark(rt);
+    let end = ended(rt, board, seat, tiles);
+    timed([start, made, placed, served], end)
 }
 
-/// A board whose tiles are dealt to so many threads beside the caller.
+/// A board whose tiles are dealt to so many threads beside the caller. None where the clock can't be read, or memory is
+/// short.
 pub(crate) fn dealt<R: Clock + Threads + Sync>(
     rt: &R,
     alloc: Global,
     tiles: u32,
     workers: u32,
-) -> io::Result<Times>
+) -> Option<Times>
     requires tiles { tiles ≤ 16384 }
     requires workers { workers ≤ 15 }
 {
-    let mut times = Times::default();
     let job = make_idle(tiles);
-    let start = Instant::now(rt)?;
+    let start = mark(rt);
     let Ok((board, mut seat)) = Board::new_named(&alloc, &job) else {
-        return Err(ErrorKind::OutOfMemory.into());
+        return None;
     };
-    times.made = start.elapsed(rt)?.as_nanos();
-    let start = Instant::now(rt)?;
+    let made = mark(rt);
     place_all(&board, &mut seat, tiles);
-    times.placed = start.elapsed(rt)?.as_nanos();
-    let start = Instant::now(rt)?;
+    let placed = mark(rt);
     let seat = run_all(rt, &board, seat, &job, workers, &NoGate);
-    times.served = start.elapsed(rt)?.as_nanos();
-    let Ok(mut finished) = board.close(seat) else {
-        unreachable!()
-    };
-    times.sum = sum_of(&mut finished, tiles);
-    Ok(times)
+    let served = mark(rt);
+    let end = ended(rt, board, seat, tiles);
+    timed([start, made, placed, served], end)
 }

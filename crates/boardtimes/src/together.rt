@@ -6,15 +6,15 @@ ghost use Rattle.board.specs.Known.{IsSeatOf, IsReady, IsDrained};
 ghost use Rattle.board.specs.Views.{handed};
 
 use board::{Board, Seat};
-use std::alloc::Allocator;
+use std::alloc::Global;
 use std::thread::{Threads, join};
 use tilecore::TileJob;
 use workers::{NoGate, drain};
 
 /// The worker of that number, and so many behind it.
-pub(crate) fn drain_together<'a, J: TileJob + Sync, A: Allocator + Sync, R: Threads + Sync>(
+pub(crate) fn drain_together<'a, J: TileJob + Sync, R: Threads + Sync>(
     rt: &R,
-    board: &Board<'a, J, A>,
+    board: &Board<'a, J, Global>,
     seat: Seat<J>,
     job: &J,
     first: u32,

@@ -100,20 +100,13 @@ fn pass_over<'a, J: TileJob, A: Allocator, G: Gate>(
 }
 
 // The workers from `first` on, each with a kit.
-fn drain_kits<
-    'a,
-    J: TileJob + Sync,
-    A: Allocator + Sync,
-    B: Allocator + Drop + Send + Sync,
-    G: Gate + Sync,
-    R: Threads + Sync,
->(
+fn drain_kits<'a, 'k, J: TileJob + Sync, A: Allocator + Sync, G: Gate + Sync, R: Threads + Sync>(
     rt: &R,
     board: &Board<'a, J, A>,
     seat: Seat<J>,
     job: &J,
     first: u32,
-    kits: &mut [Kit<B>],
+    kits: &mut [Kit<&'k A>],
     gate: &G,
 ) -> (Seat<J>, u64)
     requires own { IsSeatOf board.now seat × (job.now ≡ board.now.job) }
