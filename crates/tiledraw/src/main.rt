@@ -4,19 +4,13 @@
 //! which), 2 where the words are wrong or ask for help, and 3 where a file could not be read or written.
 #![tactic(auto)]
 
-mod command_line;
-mod report;
-mod settings;
-#[cfg(test)]
-mod tests;
-
 ghost use Rattle.std.specs.Prelude.{◌≡◌, ◌<◌, ◌≤◌, ◌^◌, IfOk};
 ghost use Rattle.std.specs.Process.{exit_status};
-ghost use Rattle.tiledraw.specs.Report.{reported};
+ghost use Rattle.commandline.specs.Report.{reported};
 
+use commandline::{Settings, SettingsFault, not_text, report, settings};
 use gfxspec::{FromRead, Sink, Source, ToWrite};
 use sessions::{Ended, SessionFault};
-use settings::{Settings, SettingsFault};
 use std::env::Env;
 use std::fs::File;
 use std::process::ExitCode;
@@ -38,7 +32,7 @@ fn asked<R: Env + AllocGlobal>(rt: &R) -> Result<Settings, SettingsFault>
     ensures few { IfOk result (λ s. s.workers ≤ 15) }
 {
     let words = words(rt)?;
-    command_line::settings(rt.alloc(), words.as_slice())
+    settings(rt.alloc(), words.as_slice())
 }
 
 /// The words after the program's name.
@@ -47,7 +41,7 @@ fn words<R: Env + AllocGlobal>(rt: &R) -> Result<Vec<String>, SettingsFault> {
         Ok(all) => Ok(all.skip(1).collect(rt.alloc())?),
         Err(error) => {
             if error.kind() == io::ErrorKind::InvalidData {
-                Err(SettingsFault::from(command_line::not_text(rt.alloc())?))
+                Err(SettingsFault::from(not_text(rt.alloc())?))
             } else {
                 Err(SettingsFault::Memory)
             }
@@ -94,7 +88,7 @@ fn run<R: AllocGlobal + Threads + Wait + Sync, S: Source, I: Sink, L: Sink>(
 fn told<R: Eprint>(rt: &R, outcome: &Result<Ended, SessionFault>) -> ExitCode
     ensures { exit_status result ≡ (reported outcome.now).0 }
 {
-    let (status, text) = report::report(outcome);
+    let (status, text) = report(outcome);
     if !text.is_empty() {
         let _ = rt.eprintln(text);
     }
