@@ -416,18 +416,26 @@ def random_scene(seed):
     return lines + [f"i query {part}" for part in range(20)]
 
 
+def asked_scene(seed):
+    """A random scene, and behind it each pixel of the target."""
+    lines = random_scene(seed)
+    width, height = map(int, lines[0].split()[1:])
+    return lines + [f"i pixel {x} {y}" for y in range(height) for x in range(width)]
+
+
 EXAMPLES = {
     "fan": fan, "shared-edges": shared_edges, "pile": pile, "slivers": slivers, "far": far, "large": large,
     "ribbon": ribbon, "mesh": mesh, "bowl": bowl, "shadow-volumes": shadow_volumes, "two-faced-count": two_faced_count,
     "logic-operations": logic_operations, "eight-contexts": eight_contexts,
     **{f"width-{columns}": lambda columns=columns: width(columns) for columns in range(1, 34)},
     **{f"scene-{seed}": lambda seed=seed: random_scene(seed) for seed in range(10)},
+    **{f"scene-{seed}": lambda seed=seed: asked_scene(seed) for seed in range(10, 13)},
 }
 
 
 def main():
     parser = argparse.ArgumentParser(description=__doc__, formatter_class=argparse.RawDescriptionHelpFormatter)
-    parser.add_argument("names", metavar="NAME", nargs="*", help=f"of {', '.join(it for it in EXAMPLES if '-' not in it or not it[-1].isdigit())}, width-1 to width-33, scene-0 to scene-9; without one, all")
+    parser.add_argument("names", metavar="NAME", nargs="*", help=f"of {', '.join(it for it in EXAMPLES if '-' not in it or not it[-1].isdigit())}, width-1 to width-33, scene-0 to scene-12; without one, all")
     parser.add_argument("--folder", type=pathlib.Path, default=FOLDER, help="where the scripts are written")
     given = parser.parse_args()
     unknown = [it for it in given.names if it not in EXAMPLES]

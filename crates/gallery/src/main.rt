@@ -1,4 +1,4 @@
-//! Draws each example of data/, and prints its answers and the SHA-256 of its image.
+//! Draws each example that data/index names, and prints its answers and the SHA-256 of its image.
 //!
 //! A word gives a number of workers, 0 to 15: each example is then drawn once more with so many workers beside the caller,
 //! and what that leaves is printed too where it differs. The exit status is 1 where an example differs or can't be drawn,
@@ -18,7 +18,7 @@ use std::process::ExitCode;
 use std::rt::Files;
 use std::sync::Wait;
 use std::thread::Threads;
-use std::{env, io};
+use std::{env, fs, io};
 use workers::NoGate;
 
 /// Keeps the bytes of answer lines.
@@ -67,73 +67,6 @@ impl Sink for Digesting {
     }
 }
 
-const EXAMPLES: [&str; 64] = [
-    "clear.txt",
-    "slope.txt",
-    "lists.txt",
-    "default-state.txt",
-    "strip.txt",
-    "cut-strip.txt",
-    "cut-in-a-list.txt",
-    "faces.txt",
-    "fan.txt",
-    "shared-edges.txt",
-    "pile.txt",
-    "slivers.txt",
-    "far.txt",
-    "large.txt",
-    "ribbon.txt",
-    "mesh.txt",
-    "bowl.txt",
-    "shadow-volumes.txt",
-    "two-faced-count.txt",
-    "logic-operations.txt",
-    "eight-contexts.txt",
-    "width-1.txt",
-    "width-2.txt",
-    "width-3.txt",
-    "width-4.txt",
-    "width-5.txt",
-    "width-6.txt",
-    "width-7.txt",
-    "width-8.txt",
-    "width-9.txt",
-    "width-10.txt",
-    "width-11.txt",
-    "width-12.txt",
-    "width-13.txt",
-    "width-14.txt",
-    "width-15.txt",
-    "width-16.txt",
-    "width-17.txt",
-    "width-18.txt",
-    "width-19.txt",
-    "width-20.txt",
-    "width-21.txt",
-    "width-22.txt",
-    "width-23.txt",
-    "width-24.txt",
-    "width-25.txt",
-    "width-26.txt",
-    "width-27.txt",
-    "width-28.txt",
-    "width-29.txt",
-    "width-30.txt",
-    "width-31.txt",
-    "width-32.txt",
-    "width-33.txt",
-    "scene-0.txt",
-    "scene-1.txt",
-    "scene-2.txt",
-    "scene-3.txt",
-    "scene-4.txt",
-    "scene-5.txt",
-    "scene-6.txt",
-    "scene-7.txt",
-    "scene-8.txt",
-    "scene-9.txt",
-];
-
 /// What a session left of an example.
 #[derive(Drop)]
 struct Drawn {
@@ -156,13 +89,27 @@ fn main(rt: HostRuntime) -> ExitCode {
         let _ = rt.eprintln("usage: gallery [WORKERS], 0 to 15");
         return ExitCode::from(2);
     };
-    let mut status = 0;
-    for example in EXAMPLES {
-        if !matches!(show(&rt, example, workers), Ok(true)) {
-            status = 1;
+    match show_all(&rt, workers) {
+        Ok(true) => ExitCode::SUCCESS,
+        _ => ExitCode::from(1),
+    }
+}
+
+/// Shows each example that the file index names, one a line, and answers whether all could be drawn and agreed.
+fn show_all<R: Files + Print + AllocGlobal + Threads + Wait + Sync>(
+    rt: &R,
+    workers: Option<u32>,
+) -> Result<bool, io::Error>
+    requires few { IfSome workers (λ n. n ≤ 15) }
+{
+    let index = fs::read_to_string(rt, "index")?;
+    let mut well = true;
+    for example in index.as_str().lines() {
+        if !matches!(show(rt, example, workers), Ok(true)) {
+            well = false;
         }
     }
-    ExitCode::from(status)
+    Ok(well)
 }
 
 /// The words are wrong.

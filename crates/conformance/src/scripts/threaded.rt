@@ -5,7 +5,6 @@ ghost use Rattle.std.specs.Prelude.{◌≤◌};
 use super::queries::{FOUR_TILES, FOUR_TILES_ANSWERS, REFUSED};
 use super::rows::{LIST_INHERITS_NOTHING, SLOPED_DEPTH};
 use super::*;
-use std::fmt::Write;
 use std::sync::atomic::AtomicU64;
 use std::sync::atomic::Ordering::SeqCst;
 use std::thread;
@@ -68,22 +67,6 @@ fn refused_queries_with_workers(rt: HostRuntime) -> Result<(), Fail> {
         let script = format!(in rt.alloc(); "target 1 1\n{lines}")?;
         assert_same(&rt, rt.alloc(), script.as_str(), 15);
     }
-    Ok(())
-}
-
-// More lists than a queue holds: those that the port did not take come by the join.
-#[test]
-fn seventy_lists(rt: HostRuntime) -> Result<(), Fail> {
-    let mut script = String::new(rt.alloc());
-    script.push_str("target 1 1\n")?;
-    for k in 0..70u32 {
-        write!(script, "d0 clearc {k} {k} {k} {k}\nd0 finish 0\n")?;
-    }
-    script.push_str("i exec d0 69 0\ni pixel 0 0\ni exec d0 3 0\ni pixel 0 0\n")?;
-    let script = script.as_str();
-    let answers = "pixel 0 0 69 69 69 69 16777215 0\npixel 0 0 3 3 3 3 16777215 0\n";
-    image(&rt, rt.alloc(), script, answers);
-    assert_same(&rt, rt.alloc(), script, 0);
     Ok(())
 }
 
