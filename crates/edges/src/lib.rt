@@ -11,6 +11,7 @@ mod walk;
 ghost use Rattle.std.specs.Prelude.{◌≡◌, ◌≢◌, ◌↔◌, ℕ, ◌≤◌, ◌<◌, ◌^◌, ◌+◌, pos, ◌≤ℤ◌, ◌+ℤ◌, unsigned_abs, IsNone, IfSome, IsTrue};
 ghost use Rattle.gfxspec.specs.Raster.{Point, area, centre, covers, edge, edge_holds};
 ghost use Rattle.gfxspec.specs.Tiles.{IsIn};
+ghost use Rattle.snap.specs.Bounds.{step_bound};
 ghost use Rattle.snap.specs.Corners.{triangle_of};
 ghost use Rattle.snap.specs.Wide.{point_of, IsNear};
 ghost use Rattle.edges.specs.Extremes.{IsWithinExtremes};
@@ -134,7 +135,7 @@ impl EdgeSet {
     pub fn step_x(&self, i: usize) -> i64
         requires { i < 3 }
         ensures adds { (x y : ℕ) → edge_value (edge self.now i) (x + 1) y ≡ edge_value (edge self.now i) x y +ℤ result }
-        ensures small { unsigned_abs result ≤ 2 ^ 29 }
+        ensures small { unsigned_abs result ≤ step_bound }
     {
         self.functions[i].step_x
     }
@@ -143,7 +144,7 @@ impl EdgeSet {
     pub fn step_y(&self, i: usize) -> i64
         requires { i < 3 }
         ensures adds { (x y : ℕ) → edge_value (edge self.now i) x (y + 1) ≡ edge_value (edge self.now i) x y +ℤ result }
-        ensures small { unsigned_abs result ≤ 2 ^ 29 }
+        ensures small { unsigned_abs result ≤ step_bound }
     {
         self.functions[i].step_y
     }

@@ -1,8 +1,9 @@
 //! Corners in numbers that are wide enough for their products: places in 1/256 pixel, areas in 1/65,536 of a pixel.
 
-ghost use Rattle.std.specs.Prelude.{◌≡◌, ◌≤◌, ◌<◌, ◌^◌, pos, ◌-ℤ◌, ◌*ℤ◌, neg_ℤ, if◌then◌else◌, unsigned_abs};
+ghost use Rattle.std.specs.Prelude.{◌≡◌, ◌≤◌, ◌<◌, pos, ◌-ℤ◌, ◌*ℤ◌, neg_ℤ, if◌then◌else◌, unsigned_abs};
 ghost use Rattle.gfxspec.specs.Raster.{side};
 ghost use Rattle.gfxspec.specs.Snapping.{IsGridPlace};
+ghost use Rattle.snap.specs.Bounds.{area_bound, difference_bound, step_bound};
 ghost use Rattle.snap.specs.Corners.{corner as corner_of};
 ghost use Rattle.snap.specs.Wide.{point_of, IsNear};
 
@@ -32,19 +33,19 @@ pub fn between(from: i64, to: i64) -> i64
     requires start { IsGridPlace from }
     requires end { IsGridPlace to }
     ensures value { result ≡ to -ℤ from }
-    ensures bound { unsigned_abs result ≤ 2 ^ 21 }
+    ensures bound { unsigned_abs result ≤ difference_bound }
 {
     to - from
 }
 
 /// The cross product of (dx, dy) and (ex, ey).
 pub fn cross(dx: i64, dy: i64, ex: i64, ey: i64) -> i64
-    requires dx { unsigned_abs dx ≤ 2 ^ 21 }
-    requires dy { unsigned_abs dy ≤ 2 ^ 21 }
-    requires ex { unsigned_abs ex ≤ 2 ^ 21 }
-    requires ey { unsigned_abs ey ≤ 2 ^ 21 }
+    requires dx { unsigned_abs dx ≤ difference_bound }
+    requires dy { unsigned_abs dy ≤ difference_bound }
+    requires ex { unsigned_abs ex ≤ difference_bound }
+    requires ey { unsigned_abs ey ≤ difference_bound }
     ensures value { result ≡ dx *ℤ ey -ℤ dy *ℤ ex }
-    ensures bound { unsigned_abs result ≤ 2 ^ 43 }
+    ensures bound { unsigned_abs result ≤ area_bound }
 {
     dx * ey - dy * ex
 }
@@ -55,7 +56,7 @@ pub fn double_area(a: Corner, b: Corner, p: Corner) -> i64
     requires second { IsNear b }
     requires third { IsNear p }
     ensures value { result ≡ side (point_of a) (point_of b) (point_of p) }
-    ensures bound { unsigned_abs result ≤ 2 ^ 43 }
+    ensures bound { unsigned_abs result ≤ area_bound }
 {
     cross(
         between(a.x, b.x),
@@ -67,18 +68,18 @@ pub fn double_area(a: Corner, b: Corner, p: Corner) -> i64
 
 /// The number, or its opposite.
 pub fn negated_if(flip: bool, number: i64) -> i64
-    requires { unsigned_abs number ≤ 2 ^ 21 }
+    requires { unsigned_abs number ≤ difference_bound }
     ensures value { result ≡ (if flip then neg_ℤ number else number) }
-    ensures bound { unsigned_abs result ≤ 2 ^ 21 }
+    ensures bound { unsigned_abs result ≤ difference_bound }
 {
     if flip { -number } else { number }
 }
 
 /// What 256 places of 1/256 pixel come to.
 pub fn whole_pixel(each: i64) -> i64
-    requires { unsigned_abs each ≤ 2 ^ 21 }
+    requires { unsigned_abs each ≤ difference_bound }
     ensures value { result ≡ pos 256 *ℤ each }
-    ensures bound { unsigned_abs result ≤ 2 ^ 29 }
+    ensures bound { unsigned_abs result ≤ step_bound }
 {
     256 * each
 }

@@ -54,8 +54,9 @@ pub fn snap_tri(v: &[Vertex; 3]) -> SnapTri
 }
 
 impl SnapTri {
-    ghost use Rattle.std.specs.Prelude.{unsigned_abs, ◌^◌};
+    ghost use Rattle.std.specs.Prelude.{unsigned_abs};
     ghost use Rattle.gfxspec.specs.Raster.{area};
+    ghost use Rattle.snap.specs.Bounds.{area_bound};
     ghost use Rattle.snap.specs.Corners.{triangle_of};
 
     /// Snaps three corners that are known one by one, the leading one first.
@@ -72,7 +73,7 @@ impl SnapTri {
     /// Twice the area, in 1/65,536 of a pixel: above 0 where the corners go round clockwise on the target.
     pub fn double_area(&self) -> i64
         ensures value { result ≡ area (triangle_of self.now) }
-        ensures bound { unsigned_abs result ≤ 2 ^ 43 }
+        ensures bound { unsigned_abs result ≤ area_bound }
     {
         double_area(corner_at(self, 0), corner_at(self, 1), corner_at(self, 2))
     }
