@@ -3,12 +3,14 @@
 ghost use Rattle.std.specs.Prelude.{◌≡◌, ◌<◌, ◌≤◌, length, unsigned_abs, IfOk};
 ghost use Rattle.gfxspec.specs.Tiles.{tile_count};
 
+use crate::calls::{list_of, record_all};
 use binmem::Bins;
 use binner::{Compiled, compile};
-use cmdlist::{CommandList, DeferredContext, DeviceContext};
+use cmdlist::{Call, CommandList, DeferredContext};
 use gfxspec::{DepthStencil, GfxError, Size, Topology, Vertex, tile_count};
 use refusing::Refusing;
-use std::alloc::Allocator;
+use std::alloc::{Allocator, Global};
+use std::process::Abort;
 use std::test::Fail;
 
 /// A corner, in pixels.
@@ -61,19 +63,23 @@ fn compiled_for<A: Allocator + Copy>(
 
 /// Both halves of 33 by 33 pixels, counted by three queries.
 fn four_tiles<A: Allocator + Copy>(alloc: A) -> Result<CommandList<A>, GfxError> {
-    let mut context = DeferredContext::new(alloc);
-    context.ia_set_vertices(&[at(0, 0, 1), at(33, 0, 2), at(0, 33, 3), at(33, 33, 4)])?;
-    context.ia_set_indices(&[1, 3, 2])?;
-    context.ia_set_topology(Topology::TriangleList)?;
-    context.begin(2)?;
-    context.begin(0)?;
-    context.draw(3, 0)?;
-    context.end(0)?;
-    context.begin(1)?;
-    context.draw_indexed(3, 0, 0)?;
-    context.end(1)?;
-    context.end(2)?;
-    context.finish(false)
+    let corners = [at(0, 0, 1), at(33, 0, 2), at(0, 33, 3), at(33, 33, 4)];
+    list_of(
+        alloc,
+        &[
+            Call::SetVertices(&corners),
+            Call::SetIndices(&[1, 3, 2]),
+            Call::SetTopology(Topology::TriangleList),
+            Call::Begin(2),
+            Call::Begin(0),
+            Call::Draw(3, 0),
+            Call::End(0),
+            Call::Begin(1),
+            Call::DrawIndexed(3, 0, 0),
+            Call::End(1),
+            Call::End(2),
+        ],
+    )
 }
 
 #[test]
@@ -94,61 +100,67 @@ fn words_of_four_tiles(rt: HostRuntime) -> Result<(), Fail> {
 }
 
 /// A context with a half of 4 by 4 pixels.
-fn half<A: Allocator + Copy>(alloc: A) -> Result<DeferredContext<A>, GfxError> {
+fn half(alloc: Global) -> Result<DeferredContext<Global>, GfxError> {
+    let corners = [at(0, 0, 1), at(4, 0, 1), at(0, 4, 1)];
     let mut context = DeferredContext::new(alloc);
-    context.ia_set_vertices(&[at(0, 0, 1), at(4, 0, 1), at(0, 4, 1)])?;
-    context.ia_set_topology(Topology::TriangleList)?;
+    record_all(
+        &mut context,
+        &[
+            Call::SetVertices(&corners),
+            Call::SetTopology(Topology::TriangleList),
+        ],
+    )?;
     Ok(context)
 }
+
+/// The list of further calls has these words in the one tile of 4 by 4 pixels.
+fn assert_words(
+    rt: &impl Abort,
+    alloc: Global,
+    context: &mut DeferredContext<Global>,
+    calls: &[Call<'_>],
+    numbers: &[u32],
+) -> Result<(), Fail> {
+    record_all(context, calls)?;
+    let list = context.finish(true)?;
+    let compiled = compiled_for(alloc, &list, 4)?;
+    assert!(rt; has_words(&compiled, 0, numbers));
+    Ok(())
+}
+
+const DRAW: Call<'static> = Call::Draw(3, 0);
+
+const COLOR: Call<'static> = Call::ClearColor([1, 2, 3, 4]);
+
+const DEPTH: Call<'static> = Call::ClearDepthStencil(5, 6);
 
 #[test]
 fn both_clears_hide_an_uncounted_draw(rt: HostRuntime) -> Result<(), Fail> {
     let mut context = half(rt.alloc())?;
-    context.draw(3, 0)?;
-    context.clear_color([1, 2, 3, 4])?;
-    context.clear_depth_stencil(5, 6)?;
-    let list = context.finish(false)?;
-    let compiled = compiled_for(rt.alloc(), &list, 4)?;
-    assert!(rt; has_words(&compiled, 0, &[0x8000_0000, 0xC000_0000]));
-    Ok(())
+    let words = [0x8000_0000, 0xC000_0000];
+    assert_words(&rt, rt.alloc(), &mut context, &[DRAW, COLOR, DEPTH], &words)
 }
 
 #[test]
 fn both_clears_keep_a_counted_draw(rt: HostRuntime) -> Result<(), Fail> {
     let mut context = half(rt.alloc())?;
-    context.begin(0)?;
-    context.draw(3, 0)?;
-    context.end(0)?;
-    context.clear_depth_stencil(5, 6)?;
-    context.clear_color([1, 2, 3, 4])?;
-    let list = context.finish(false)?;
-    let compiled = compiled_for(rt.alloc(), &list, 4)?;
-    assert!(rt; has_words(&compiled, 0, &[0, 0x4001_0000, 0xC000_0000, 0x8000_0000]));
-    Ok(())
+    let calls = [Call::Begin(0), DRAW, Call::End(0), DEPTH, COLOR];
+    let words = [0, 0x4001_0000, 0xC000_0000, 0x8000_0000];
+    assert_words(&rt, rt.alloc(), &mut context, &calls, &words)
 }
 
-// A clear of the colour alone hides nothing, and leaves the state in force; behind both clears the state stands again.
+// A clear of the colour alone hides nothing, and leaves the state in force; behind both clears the state stands again. A
+// second list begins with the state that the first one kept.
 #[test]
 fn a_state_stands_again_behind_both_clears(rt: HostRuntime) -> Result<(), Fail> {
     let mut context = half(rt.alloc())?;
-    context.draw(3, 0)?;
-    context.clear_color([1; 4])?;
-    context.draw(3, 0)?;
-    context.finish(true)?;
-    context.draw(3, 0)?;
-    context.clear_color([1; 4])?;
-    context.draw(3, 0)?;
-    let first = context.finish(true)?;
-    let compiled = compiled_for(rt.alloc(), &first, 4)?;
-    assert!(rt; has_words(&compiled, 0, &[0, 0x4001_0000, 0x8000_0000, 0x4001_0001]));
-    context.draw(3, 0)?;
-    context.clear_depth_stencil(5, 6)?;
-    context.clear_color([2; 4])?;
-    context.draw(3, 0)?;
-    let second = context.finish(false)?;
-    let again = compiled_for(rt.alloc(), &second, 4)?;
-    assert!(rt; has_words(&again, 0, &[0xC000_0000, 0x8000_0000, 0, 0x4001_0001]));
-    Ok(())
+    for _ in 0..2u32 {
+        let words = [0, 0x4001_0000, 0x8000_0000, 0x4001_0001];
+        assert_words(&rt, rt.alloc(), &mut context, &[DRAW, COLOR, DRAW], &words)?;
+    }
+    let calls = [DRAW, DEPTH, COLOR, DRAW];
+    let words = [0xC000_0000, 0x8000_0000, 0, 0x4001_0001];
+    assert_words(&rt, rt.alloc(), &mut context, &calls, &words)
 }
 
 /// Compiles a list for 33 by 33 pixels, and once more with the bins that come back where memory was refused. Tells whether

@@ -6,13 +6,12 @@ mod growths;
 mod next;
 mod refusals;
 
-use cmdlist::{CommandList, DeferredContext, DeviceContext};
+use crate::calls::list_of;
+use cmdlist::{Call, CommandList};
 use gfxspec::GfxError;
 use std::alloc::Global;
 
 /// A list that clears the colours.
 fn clearing(alloc: Global) -> Result<CommandList<Global>, GfxError> {
-    let mut recorder = DeferredContext::new(alloc);
-    recorder.clear_color([1, 2, 3, 4])?;
-    recorder.finish(false)
+    list_of(alloc, &[Call::ClearColor([1, 2, 3, 4])])
 }

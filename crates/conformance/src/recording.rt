@@ -1,10 +1,12 @@
 //! Each call through the trait, queries, and refused growths. Worked lists and limits run from bytes to bytes in `scripts`.
 
-use cmdlist::{Command, DeferredContext, DeviceContext};
+use crate::calls::record_all;
+use cmdlist::{Call, Command, DeferredContext, DeviceContext, Settings};
 use gfxspec::{GfxError, PixelRect, Topology, Vertex};
 use refusing::Refusing;
 use states::{BlendState, DepthStencilState, RasterState};
 use std::alloc::{Allocator, Global};
+use std::process::Abort;
 use std::test::Fail;
 
 const CORNER: Vertex = Vertex {
@@ -38,50 +40,58 @@ fn make_each_call<C: DeviceContext>(context: &mut C) -> Result<(), GfxError> {
     context.clear_depth_stencil(6, 7)
 }
 
+/// What make_each_call set.
+fn assert_set(rt: &impl Abort, settings: &Settings<Global>) {
+    assert!(rt; settings.vertices.as_slice() == [CORNER; 3].as_slice());
+    assert!(rt; settings.indices.as_slice() == [1, 2, 3].as_slice());
+    assert!(rt; settings.topology == Some(Topology::TriangleStrip));
+    assert!(rt; settings.scissor == ONE_PIXEL && settings.reference == 5);
+}
+
 #[test]
 fn each_call(rt: HostRuntime) -> Result<(), Fail> {
     let mut context = DeferredContext::new(rt.alloc());
     make_each_call(&mut context)?;
-    assert_eq!(rt; context.finish(true)?.commands().len(), 13);
+    let made = context.finish(true)?.commands().len();
     let kept = context.finish(false)?;
     match kept.commands() {
-        [Command::Kept(settings)] => {
-            assert_eq!(rt; settings.vertices.as_slice(), [CORNER; 3].as_slice());
-            assert_eq!(rt; settings.indices.as_slice(), [1, 2, 3].as_slice());
-            assert_eq!(rt; settings.topology, Some(Topology::TriangleStrip));
-            assert_eq!(rt; settings.scissor, ONE_PIXEL);
-            assert_eq!(rt; settings.reference, 5);
-        }
+        [Command::Kept(settings)] => assert_set(&rt, settings),
         _ => assert!(rt; false),
     }
+    assert_eq!(rt; made, 13);
     Ok(())
 }
 
 #[test]
-fn queries(rt: HostRuntime) -> Result<(), Fail> {
+fn open_queries(rt: HostRuntime) -> Result<(), Fail> {
     let mut context = DeferredContext::new(rt.alloc());
-    context.begin(7)?;
-    assert_eq!(rt; context.begin(7), Err(GfxError::QueryOpen));
+    let twice = record_all(&mut context, &[Call::Begin(7), Call::Begin(7)]);
+    assert_eq!(rt; twice, Err(GfxError::QueryOpen));
     assert_eq!(rt; context.finish(true).err(), Some(GfxError::QueryLeftOpen));
     context.end(7)?;
     assert_eq!(rt; context.finish(true)?.commands().len(), 2);
-    for _ in 0..64 {
-        context.begin(0)?;
-        context.end(0)?;
-    }
-    assert_eq!(rt; context.begin(0), Err(GfxError::TooManyIssues));
-    assert_eq!(rt; context.finish(false)?.commands().len(), 129);
     Ok(())
 }
 
-/// A list of vertices and a cleared target, and the next one with the kept state.
+#[test]
+fn sixty_five_issues(rt: HostRuntime) -> Result<(), Fail> {
+    let mut context = DeferredContext::new(rt.alloc());
+    for _ in 0..64 {
+        record_all(&mut context, &[Call::Begin(0), Call::End(0)])?;
+    }
+    assert_eq!(rt; context.begin(0), Err(GfxError::TooManyIssues));
+    assert_eq!(rt; context.finish(false)?.commands().len(), 128);
+    Ok(())
+}
+
+/// How many commands two lists have: vertices and a cleared target, and the next one with the kept state.
 fn two_lists<A: Allocator + Copy>(alloc: A) -> Result<usize, GfxError> {
     let mut context = DeferredContext::new(alloc);
-    context.ia_set_vertices(&[CORNER; 3])?;
-    context.clear_color([1; 4])?;
-    let first = context.finish(true)?;
+    let calls = [Call::SetVertices(&[CORNER; 3]), Call::ClearColor([1; 4])];
+    record_all(&mut context, &calls)?;
+    let first = context.finish(true)?.commands().len();
     context.clear_color([2; 4])?;
-    Ok(first.commands().len() + context.finish(false)?.commands().len())
+    Ok(first + context.finish(false)?.commands().len())
 }
 
 #[test]

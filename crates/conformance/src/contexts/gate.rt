@@ -1,7 +1,8 @@
 //! Whether all threads work: a gate holds the first claim of each until all have come.
 
+use crate::calls::record_all;
 use crate::contexts::clearing;
-use cmdlist::DeviceContext;
+use cmdlist::Call;
 use gfxspec::GfxError;
 use immediate::ImmediateContext;
 use std::alloc::Global;
@@ -52,9 +53,8 @@ impl Gate for AllAtOnce {
 /// A target of four tiles, and a counted clear that is pending.
 fn cleared(alloc: Global) -> Result<ImmediateContext<Global>, GfxError> {
     let mut context = ImmediateContext::new(alloc, 33, 33)?;
-    context.begin(2)?;
-    context.clear_color([9; 4])?;
-    context.end(2)?;
+    let calls = [Call::Begin(2), Call::ClearColor([9; 4]), Call::End(2)];
+    record_all(&mut context, &calls)?;
     Ok(context)
 }
 

@@ -1,6 +1,7 @@
 //! Each growth refused in turn, and how many growths a settled context asks for.
 
-use cmdlist::{CommandList, DeferredContext, DeviceContext};
+use crate::calls::list_of;
+use cmdlist::{Call, CommandList, DeviceContext};
 use gfxspec::{DEPTH_MAX, GfxError, Topology, Vertex};
 use immediate::ImmediateContext;
 use refusing::Refusing;
@@ -98,10 +99,11 @@ fn context_again<A: Allocator + Copy + Send>(alloc: A) -> Result<ImmediateContex
 
 /// A list that clears colours, depths and stencils.
 fn clearing_both<A: Allocator + Copy>(alloc: A) -> Result<CommandList<A>, GfxError> {
-    let mut recorder = DeferredContext::new(alloc);
-    recorder.clear_color([9; 4])?;
-    recorder.clear_depth_stencil(DEPTH_MAX, 0)?;
-    recorder.finish(false)
+    let calls = [
+        Call::ClearColor([9; 4]),
+        Call::ClearDepthStencil(DEPTH_MAX, 0),
+    ];
+    list_of(alloc, &calls)
 }
 
 fn clearing_again<A: Allocator + Copy>(alloc: A) -> Result<CommandList<A>, GfxError> {
@@ -140,13 +142,21 @@ const COUNTED: [Step; 5] = [
 
 const AGAIN: [Step; 3] = [Step::Draw, Step::Flush, Step::Count];
 
-/// A counted triangle, a list that clears, and the triangle again. Answers the count and the first row.
+/// A counted triangle, a list that clears, and the triangle again.
+fn draw_around<A: Allocator + Copy + Send>(
+    context: &mut ImmediateContext<A>,
+    list: &CommandList<A>,
+) -> Result<(), GfxError> {
+    insist(context, &COUNTED)?;
+    execute_again(context, list)?;
+    insist(context, &AGAIN)
+}
+
+/// Draws a new context's scene, and answers its count and its first row.
 fn scene<A: Allocator + Copy + Send>(alloc: A) -> Result<(u64, [u8; 4]), GfxError> {
     let list = clearing_again(alloc)?;
     let mut context = context_again(alloc)?;
-    insist(&mut context, &COUNTED)?;
-    execute_again(&mut context, &list)?;
-    insist(&mut context, &AGAIN)?;
+    draw_around(&mut context, &list)?;
     Ok((count(&mut context)?, row(&mut context)?))
 }
 
@@ -165,16 +175,23 @@ fn each_growth_refused_in_turn(rt: HostRuntime) -> Result<(), Fail> {
     panic!(rt; "a scene asks for no more than so many growths")
 }
 
-/// Clears and flushes, and asks for so many flushes and pixels more.
-fn ask<A: Allocator + Copy + Send>(alloc: A, times: u32) -> Result<(), GfxError> {
-    let mut context = ImmediateContext::new(alloc, 4, 4)?;
+/// Clears and flushes, and then flushes and asks for a pixel so many times more.
+fn ask_often<A: Allocator + Copy + Send>(
+    context: &mut ImmediateContext<A>,
+    times: u32,
+) -> Result<(), GfxError> {
     context.clear_color([1; 4])?;
-    flush(&mut context)?;
+    flush(context)?;
     for _ in 0..times {
-        flush(&mut context)?;
-        grey(&mut context, 0)?;
+        flush(context)?;
+        grey(context, 0)?;
     }
     Ok(())
+}
+
+fn ask<A: Allocator + Copy + Send>(alloc: A, times: u32) -> Result<(), GfxError> {
+    let mut context = ImmediateContext::new(alloc, 4, 4)?;
+    ask_often(&mut context, times)
 }
 
 #[test]
