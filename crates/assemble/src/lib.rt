@@ -12,6 +12,3 @@ mod sides;
 pub use draws::{Draw, places_law, triangle_count, triangles};
 pub use places::{Tri, Triangles};
 pub use sides::{culled, facing};
-
-#[cfg(test)]
-mod tests;

@@ -172,6 +172,3 @@ impl<'a> Iterator for Words<'a> {
         Some(*first)
     }
 }
-
-#[cfg(test)]
-mod tests;

@@ -104,6 +104,3 @@ pub fn classify(edges: &EdgeSet, rect: PixelRect) -> Class
     let third = fails_somewhere(edges, 2, rect);
     Class::Cut(u8::from(first) + 2 * u8::from(second) + 4 * u8::from(third))
 }
-
-#[cfg(test)]
-mod tests;

@@ -1,4 +1,4 @@
-//! Worked words, clears that hide what stands before them, and refused growths.
+//! Worked words, clears that hide what stands before them, refused growths, and bins that are filled once more.
 
 ghost use Rattle.std.specs.Prelude.{◌≡◌, ◌<◌, ◌≤◌, length, unsigned_abs, IfOk};
 ghost use Rattle.gfxspec.specs.Tiles.{tile_count};
@@ -163,13 +163,14 @@ fn a_state_stands_again_behind_both_clears(rt: HostRuntime) -> Result<(), Fail> 
     assert_words(&rt, rt.alloc(), &mut context, &calls, &words)
 }
 
+const SIZE: Size = Size {
+    width: 33,
+    height: 33,
+};
+
 /// Compiles a list for 33 by 33 pixels, and once more with the bins that come back where memory was refused. Tells whether
 /// it was, and whether the words are those of the list.
 fn insisting<A: Allocator + Copy>(alloc: A) -> Result<(bool, bool), GfxError> {
-    let size = Size {
-        width: 33,
-        height: 33,
-    };
     let list = match four_tiles(alloc) {
         Ok(list) => list,
         Err(_) => four_tiles(alloc)?,
@@ -178,9 +179,9 @@ fn insisting<A: Allocator + Copy>(alloc: A) -> Result<(bool, bool), GfxError> {
         Ok(bins) => bins,
         Err(_) => Bins::new(alloc, 4)?,
     };
-    match compile(alloc, list.commands(), size, bins) {
+    match compile(alloc, list.commands(), SIZE, bins) {
         Ok(compiled) => Ok((false, is_four_tiles(&compiled))),
-        Err((_, back)) => match compile(alloc, list.commands(), size, back) {
+        Err((_, back)) => match compile(alloc, list.commands(), SIZE, back) {
             Ok(compiled) => Ok((true, is_four_tiles(&compiled))),
             Err((error, _)) => Err(error),
         },
@@ -209,4 +210,24 @@ fn each_growth_refused_in_turn(rt: HostRuntime) -> Result<(), Fail> {
         }
     }
     panic!(rt; "a list asks for no more than so many growths")
+}
+
+// The bins of a list that is done keep their memory, so that the same list takes less with them.
+#[test]
+fn bins_keep_their_memory(rt: HostRuntime) -> Result<(), Fail> {
+    let alloc = Refusing::new(rt.alloc(), 0);
+    let list = four_tiles(&alloc)?;
+    let mut bins = Bins::new(&alloc, 4)?;
+    let mut taken = [0u64; 3];
+    for growths in &mut taken {
+        let before = alloc.count();
+        bins = match compile(&alloc, list.commands(), SIZE, bins) {
+            Ok(compiled) => compiled.into_bins(),
+            Err((error, _)) => return Err(error.into()),
+        };
+        *growths = alloc.count().wrapping_sub(before);
+    }
+    let [first, second, third] = taken;
+    assert!(rt; second < first && third == second);
+    Ok(())
 }

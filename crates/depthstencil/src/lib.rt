@@ -129,6 +129,3 @@ fn under_mask(mask: u8, new: u8, old: u8) -> u8
 {
     (new & mask) | (old & !mask)
 }
-
-#[cfg(test)]
-mod tests;

@@ -11,8 +11,6 @@ mod from_read;
 mod geometry;
 mod pixel;
 mod state;
-#[cfg(test)]
-mod tests;
 mod tiles;
 mod to_write;
 mod transfer;

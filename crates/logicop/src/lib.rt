@@ -35,6 +35,3 @@ pub fn write(state: &BlendState, s: [u8; 4], d: [u8; 4]) -> [u8; 4]
         .onto(u32::from_le_bytes(d))
         .to_le_bytes()
 }
-
-#[cfg(test)]
-mod tests;

@@ -13,6 +13,3 @@ pub use blend::{BlendDesc, BlendState};
 pub use color_mask::ColorMask;
 pub use depth_stencil::{DepthStencilDesc, DepthStencilState, Face};
 pub use raster::{RasterDesc, RasterState};
-
-#[cfg(test)]
-mod tests;

@@ -7,7 +7,5 @@
 
 mod image;
 mod row;
-#[cfg(test)]
-mod tests;
 
 pub use image::{TgaFault, write_tga};

@@ -8,8 +8,6 @@
 
 mod block_job;
 mod running;
-#[cfg(test)]
-mod tests;
 
 pub use block_job::BlockJob;
 pub use running::{run_alone, run_with_workers};

@@ -10,6 +10,3 @@ mod word;
 
 pub use edge_mask::EdgeMask;
 pub use word::{Word, decode, encode};
-
-#[cfg(test)]
-mod tests;

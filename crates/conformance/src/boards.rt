@@ -1,0 +1,7 @@
+//! The board and its layers together, on jobs without pixels: worked rows, refused growths, and threads that meet and rob.
+
+mod amounts;
+mod growths;
+mod meeting;
+mod rows;
+mod stealing;

@@ -1,0 +1,53 @@
+//! The numbers of refusals, and printed texts.
+
+use gfxspec::{Broken, GatherError, GfxError};
+use std::test::Fail;
+
+#[test]
+fn refusals_have_their_numbers(rt: HostRuntime) {
+    for (error, number) in [
+        (GfxError::OutOfMemory, 1),
+        (GfxError::TargetSize, 2),
+        (GfxError::VertexRange, 3),
+        (GfxError::VertexCount, 4),
+        (GfxError::DrawRange, 5),
+        (GfxError::IndexRange, 6),
+        (GfxError::TopologyUnset, 7),
+        (GfxError::ScissorRect, 8),
+        (GfxError::QueryOpen, 9),
+        (GfxError::QueryNotOpen, 10),
+        (GfxError::QueryNumber, 11),
+        (GfxError::QueryLeftOpen, 12),
+        (GfxError::ListTooLong, 13),
+        (GfxError::TooManyIssues, 14),
+        (GfxError::PixelRange, 15),
+        (GfxError::WorkerCount, 16),
+        (GfxError::NotIssued, 17),
+        (GfxError::Unfinished, 18),
+        (GfxError::PortFull, 19),
+        (GfxError::PredicateInList, 20),
+    ] {
+        assert_eq!(rt; error.number(), number, "{error}");
+    }
+}
+
+#[test]
+fn texts_say_the_limits(rt: HostRuntime) -> Result<(), Fail> {
+    for (error, text) in [
+        (GfxError::OutOfMemory, "out of memory"),
+        (
+            GfxError::TargetSize,
+            "a side of the target is 0 or above 2048",
+        ),
+        (GfxError::VertexCount, "more than 65536 vertices or indices"),
+        (GfxError::WorkerCount, "more than 15 workers"),
+    ] {
+        let printed = format!(in rt.alloc(); "{error}")?;
+        assert_eq!(rt; printed.as_str(), text);
+    }
+    let printed = format!(in rt.alloc(); "{}", GatherError::Memory)?;
+    assert_eq!(rt; printed.as_str(), "out of memory");
+    let printed = format!(in rt.alloc(); "{Broken}")?;
+    assert_eq!(rt; printed.as_str(), "the device failed");
+    Ok(())
+}
