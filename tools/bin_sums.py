@@ -1,9 +1,9 @@
 #!/usr/bin/env python3
-"""A plain evaluation of the words that the program `bintimes` counts and sums, in Python's own integers.
+"""A plain evaluation of the words that `benchmarks bins` counts and sums, in Python's own integers.
 
     tools/bin_sums.py
 
-It prints a line for each scene, as crates/bintimes/stdout has them.
+It prints a line for each scene, as crates/benchmarks/stdout has them behind the kernels.
 
 Each triangle is put into each tile that its bounds meet, unless an edge holds at no centre of the tile; the mask names
 the edges that fail at some centre. An edge is linear, so a tile's corner centres decide.

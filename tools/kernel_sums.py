@@ -1,9 +1,9 @@
 #!/usr/bin/env python3
-"""A plain evaluation of the sums that the program `kernels` prints, in Python's own integers.
+"""A plain evaluation of the sums that `benchmarks kernels` prints, in Python's own integers.
 
     tools/kernel_sums.py
 
-It prints a line for each kernel, as crates/kernels/stdout has them.
+It prints a line for each kernel, as crates/benchmarks/stdout has them first.
 """
 
 import argparse
