@@ -94,6 +94,22 @@ fn set_up(context: &mut DeferredContext<Global>) -> Result<(), GfxError> {
     context.ia_set_topology(Topology::TriangleList)
 }
 
+/// Draws so many times so many triangles each, small or large.
+fn fill(
+    context: &mut DeferredContext<Global>,
+    alloc: Global,
+    draws: u32,
+    triangles: u32,
+    small: bool,
+) -> Result<(), GfxError> {
+    set_up(context)?;
+    let mut seed = 2463534242;
+    for _draw in 0..draws {
+        seed = draw_all(context, alloc, seed, triangles, small)?;
+    }
+    Ok(())
+}
+
 /// A list of so many draws of so many triangles each, small or large.
 pub(crate) fn list(
     alloc: Global,
@@ -102,10 +118,6 @@ pub(crate) fn list(
     small: bool,
 ) -> Result<CommandList<Global>, GfxError> {
     let mut context = DeferredContext::new(alloc);
-    set_up(&mut context)?;
-    let mut seed = 2463534242;
-    for _draw in 0..draws {
-        seed = draw_all(&mut context, alloc, seed, triangles, small)?;
-    }
+    fill(&mut context, alloc, draws, triangles, small)?;
     context.finish(false)
 }
