@@ -172,3 +172,6 @@ impl<'a> Iterator for Words<'a> {
         Some(*first)
     }
 }
+
+#[cfg(test)]
+mod tests;

@@ -1,9 +1,11 @@
 //! Words and what they ask for, and the texts of faults. A line here is the words with spaces between them.
 
+use crate::outcome::report;
 use crate::request::{Settings, SettingsFault};
 use crate::words::{copied, not_text, settings};
 use clap::error::ErrorKind;
 use refusing::Refusing;
+use sessions::{Ended, SessionFault};
 use std::alloc::{AllocError, Global};
 use std::process::Abort;
 use std::test::Fail;
@@ -129,4 +131,16 @@ fn want_of_memory_is_its_own_fault(rt: HostRuntime) {
     assert!(rt; copied(&alloc, "out.tga").is_ok());
     let parser = SettingsFault::from(clap::Error::from(AllocError));
     assert!(rt; matches!(parser, SettingsFault::Memory));
+}
+
+#[test]
+fn each_end_has_its_status(rt: HostRuntime) {
+    let refused = Ended::Refused { line: 2, number: 3 };
+    assert!(rt; report(&Ok(Ended::Done)) == (0, ""));
+    assert!(rt; report(&Ok(refused)) == (1, ""));
+    let image = SessionFault::Image { taken: 0 };
+    let lines = SessionFault::Lines { taken: 9 };
+    assert!(rt; report(&Err(SessionFault::Read)) == (3, "tiledraw: cannot read script"));
+    assert!(rt; report(&Err(image)) == (3, "tiledraw: cannot write image"));
+    assert!(rt; report(&Err(lines)) == (3, "tiledraw: cannot write answers"));
 }

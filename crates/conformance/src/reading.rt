@@ -3,12 +3,9 @@
 mod trickle;
 mod writer;
 
-use gfxspec::{Compare, GatherError, LogicOp, PixelRect, StencilOp, Topology, gather};
+use gfxspec::{GatherError, gather};
 use refusing::Refusing;
-use scenetext::{Actor, Scene, Verb, one_reading, read};
-use states::{
-    BlendDesc, BlendState, ColorMask, DepthStencilDesc, DepthStencilState, Face, RasterState,
-};
+use scenetext::{Scene, one_reading, read};
 use std::alloc::Global;
 use std::process::Abort;
 use std::test::Fail;
@@ -56,105 +53,12 @@ i vb
 i drawi 1 2 -2147483648
 ";
 
-#[test]
-fn defaults_and_the_other_words(rt: HostRuntime) -> Result<(), Fail> {
-    one_reading();
-    let scene = scene(&rt, DEFAULTS)?;
-    if let [
-        raster,
-        scissor,
-        strip,
-        flush,
-        pixel,
-        clearc,
-        cleards,
-        ib,
-        vb,
-        drawi,
-    ] = scene.lines.as_slice()
-    {
-        let nowhere = PixelRect {
-            left: 0,
-            top: 0,
-            right: 0,
-            bottom: 0,
-        };
-        assert_eq!(rt; raster.actor, Actor::Deferred(7));
-        let raster_default = RasterState::default();
-        assert!(rt; matches!(raster.verb, Verb::SetRaster(state) if state == raster_default));
-        assert!(rt; matches!(scissor.verb, Verb::SetScissor(rect) if rect == nowhere));
-        assert!(rt; matches!(strip.verb, Verb::SetTopology(Topology::TriangleStrip)));
-        assert!(rt; matches!(flush.verb, Verb::Flush));
-        assert!(rt; matches!(pixel.verb, Verb::Pixel(0, 4294967295)));
-        assert!(rt; matches!(clearc.verb, Verb::ClearColor(rgba) if rgba == [1, 2, 3, 4]));
-        assert!(rt; matches!(cleards.verb, Verb::ClearDepthStencil(16777215, 255)));
-        assert!(rt; matches!(&ib.verb, Verb::SetIndices(indices) if indices.as_slice().is_empty()));
-        assert!(rt;
-            matches!(&vb.verb, Verb::SetVertices(vertices) if vertices.as_slice().is_empty())
-        );
-        assert!(rt; matches!(drawi.verb, Verb::DrawIndexed(1, 2, -2147483648)));
-    } else {
-        panic!(rt; "ten lines")
-    }
-    Ok(())
-}
-
 const OUTPUT: &str = "target 1 1
 d0 ds 1 1 2 0 255 255 1 1 1 8 1 1 1 8 0
 d0 blend 0 4 15
 i ds 0 1 3 1 7 8 2 3 4 5 6 7 8 1 9
 i blend 1 6 10
 ";
-
-fn depth_stencil() -> DepthStencilState {
-    DepthStencilState::new(DepthStencilDesc {
-        depth: false,
-        write: true,
-        func: Compare::Equal,
-        stencil: true,
-        read_mask: 7,
-        write_mask: 8,
-        front: Face {
-            fail: StencilOp::Zero,
-            depth_fail: StencilOp::Replace,
-            pass: StencilOp::IncrSat,
-            func: Compare::Greater,
-        },
-        back: Face {
-            fail: StencilOp::Invert,
-            depth_fail: StencilOp::Incr,
-            pass: StencilOp::Decr,
-            func: Compare::Never,
-        },
-    })
-}
-
-fn blend() -> BlendState {
-    BlendState::new(BlendDesc {
-        logic: true,
-        op: LogicOp::And,
-        mask: ColorMask::GREEN | ColorMask::ALPHA,
-    })
-}
-
-// The default states, and states of which each number differs.
-#[test]
-fn output_states(rt: HostRuntime) -> Result<(), Fail> {
-    let scene = scene(&rt, OUTPUT)?;
-    if let [ds_default, blend_default, ds, mask] = scene.lines.as_slice() {
-        let state = DepthStencilState::default();
-        assert!(rt; matches!(ds_default.verb, Verb::SetDepthStencil(ds, 0) if ds == state));
-        let state = BlendState::default();
-        assert!(rt; matches!(blend_default.verb, Verb::SetBlend(blend) if blend == state));
-        let state = depth_stencil();
-        assert!(rt; matches!(ds.verb, Verb::SetDepthStencil(ds, 9) if ds == state));
-        let state = blend();
-        assert!(rt; matches!(mask.verb, Verb::SetBlend(blend) if blend == state));
-    } else {
-        panic!(rt; "four lines")
-    }
-    Ok(())
-}
 
 const TWO_TRIANGLES: &str = "target 4 4
 i vb 0 0 0 10 20 30 40 262144 0 0 10 20 30 40 0 262144 0 10 20 30 40
@@ -241,6 +145,7 @@ i flush
 
 #[test]
 fn rows_read_and_written_again(rt: HostRuntime) -> Result<(), Fail> {
+    one_reading();
     for text in [
         "target 1 1\n",
         "target 0 1\n",
@@ -279,25 +184,6 @@ fn cut_short(rt: HostRuntime) {
             Some((ended.saturating_add(1), 101))
         };
         assert_eq!(rt; read(rt.alloc(), front).err(), fault, "{i} bytes");
-    }
-}
-
-#[test]
-fn script_faults(rt: HostRuntime) {
-    for (text, line, number) in [
-        ("", 1, 102),
-        ("\n", 1, 101),
-        ("target 1 1", 1, 101),
-        ("target 01 1\n", 1, 106),
-        ("target 1 1\ni exec d0 0 1\n", 2, 107),
-        ("target 1 1\ni draw 3\n", 2, 105),
-        ("target 1 1\nd0 finish 0\ni exec d1 0 1\n", 3, 107),
-        ("target 1 1\nd0 finish 0\ni exec d0 1 1\n", 3, 107),
-        ("target 1 1\ni exec d0 0 1\nd0 finish 0\n", 2, 107),
-        ("target 1 1\ni flush\ni draw\ni x\n", 3, 105),
-    ] {
-        let refused = read(rt.alloc(), text.as_bytes()).err();
-        assert_eq!(rt; refused, Some((line, number)), "at {text}");
     }
 }
 

@@ -61,9 +61,9 @@ fn run_pending<A: Allocator + Copy + Send + Sync, R: Threads + Sync, G: Gate + S
     if pending.is_kept_state_alone() {
         return Ok(());
     }
-    let next = pending.next(true)?;
+    let begun = pending.next(true)?;
     output.run_with_workers(rt, pending.commands(), workers, gate)?;
-    *pending = next;
+    *pending = begun;
     Ok(())
 }
 

@@ -152,12 +152,19 @@ fn draw_around<A: Allocator + Copy + Send>(
     insist(context, &AGAIN)
 }
 
-/// Draws a new context's scene, and answers its count and its first row.
+/// Draws the scene on a new context, and answers its count and its first row.
+fn draw_and_ask<A: Allocator + Copy + Send>(
+    context: &mut ImmediateContext<A>,
+    list: &CommandList<A>,
+) -> Result<(u64, [u8; 4]), GfxError> {
+    draw_around(context, list)?;
+    Ok((count(context)?, row(context)?))
+}
+
 fn scene<A: Allocator + Copy + Send>(alloc: A) -> Result<(u64, [u8; 4]), GfxError> {
     let list = clearing_again(alloc)?;
     let mut context = context_again(alloc)?;
-    draw_around(&mut context, &list)?;
-    Ok((count(&mut context)?, row(&mut context)?))
+    draw_and_ask(&mut context, &list)
 }
 
 // Each call that is refused is made once more, and the scene is the same.

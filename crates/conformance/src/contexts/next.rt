@@ -6,9 +6,12 @@ use crate::contexts::clearing;
 use cmdlist::CommandList;
 use gfxspec::GfxError;
 use immediate::ImmediateContext;
-use port::Ports;
+use port::{DrainPass, Ports};
 use std::alloc::Global;
+use std::process::Abort;
+use std::sync::Wait;
 use std::test::Fail;
+use std::thread::Threads;
 use workers::NoGate;
 
 fn third<T>(row: [T; 4]) -> (T, T, T, T)
@@ -18,6 +21,25 @@ fn third<T>(row: [T; 4]) -> (T, T, T, T)
     (zero, one, two, three)
 }
 
+/// Executes the one submission of context 2, which is refused with sixteen workers, and finds no other.
+fn assert_one_submission<R: Abort + Threads + Sync + Wait>(
+    rt: &R,
+    context: &mut ImmediateContext<Global>,
+    ports: &Ports<CommandList<Global>, Global>,
+    drain: &mut DrainPass<CommandList<Global>>,
+)
+    requires { drain.old.queue ≡ ports.now.queue }
+{
+    let refused = context.execute_next(rt, ports, drain, true, 16, &NoGate);
+    assert!(rt; matches!(refused, Err((GfxError::WorkerCount, None))));
+    let ran = context.execute_next(rt, ports, drain, true, 0, &NoGate);
+    assert!(rt; matches!(ran, Ok(Some((2, 0)))));
+    let drawn = context.pixel_alone(0, 0);
+    assert!(rt; matches!(drawn, Ok(pixel) if pixel.rgba == [1, 2, 3, 4]));
+    let empty = context.execute_next_alone(rt, ports, drain, true);
+    assert!(rt; matches!(empty, Ok(None)));
+}
+
 #[test]
 fn one_submission(rt: HostRuntime) -> Result<(), Fail> {
     let list = clearing(rt.alloc())?;
@@ -25,12 +47,6 @@ fn one_submission(rt: HostRuntime) -> Result<(), Fail> {
     let (_zero, _one, mut two, _three) = third(passes);
     assert!(rt; ports.submit(&rt, &mut two, list).is_ok());
     let mut context = ImmediateContext::new(rt.alloc(), 1, 1)?;
-    let refused = context.execute_next(&rt, &ports, &mut drain, true, 16, &NoGate);
-    assert!(rt; matches!(refused, Err((GfxError::WorkerCount, None))));
-    let ran = context.execute_next(&rt, &ports, &mut drain, true, 0, &NoGate);
-    assert!(rt; matches!(ran, Ok(Some((2, 0)))));
-    assert_eq!(rt; context.target().pixel(0, 0).rgba, [1, 2, 3, 4]);
-    let empty = context.execute_next_alone(&rt, &ports, &mut drain, true);
-    assert!(rt; matches!(empty, Ok(None)));
+    assert_one_submission(&rt, &mut context, &ports, &mut drain);
     Ok(())
 }

@@ -1,0 +1,8 @@
+use Rattle.std.proofs.Common.{rules}
+use Rattle.recorders.proofs.received.ReceivedShelvesCommandList.list.Goals as goal
+
+pub list-requires : goal.list-requires
+list-requires g c = search rules
+
+pub returns : goal.returns
+returns g c = search rules
