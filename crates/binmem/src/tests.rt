@@ -1,10 +1,11 @@
-//! The worked lists of two tiles.
+//! The worked lists of two tiles, and a second filling.
 
 ghost use Rattle.std.specs.Prelude.{◌≡◌, ◌<◌, ◌≤◌, ◌+◌, ◌-◌, length, IfOk, OnOk};
 ghost use Rattle.binmem.specs.Lists.{word_count};
 
 use crate::{Bins, SealedBins};
 use gfxspec::GfxError;
+use refusing::Refusing;
 use std::alloc::Allocator;
 use std::test::Fail;
 
@@ -82,5 +83,22 @@ fn words_behind_a_cut(rt: HostRuntime) -> Result<(), Fail> {
     let sealed = bins.seal();
     assert!(rt; has_row(&sealed, 0, 7, 8));
     assert!(rt; has_row(&sealed, 1, 9, 10));
+    Ok(())
+}
+
+// Emptied lists keep their memory, so the same filling takes none.
+#[test]
+fn a_second_filling_takes_no_memory(rt: HostRuntime) -> Result<(), Fail> {
+    let alloc = Refusing::new(rt.alloc(), 0);
+    let bins = two_tiles(&alloc)?;
+    let growths = alloc.count();
+    let mut again = bins.seal().reuse();
+    fill(&mut again)?;
+    let mut once_more = again.seal().reuse_tiles(&[1, 0]);
+    fill(&mut once_more)?;
+    let sealed = once_more.seal();
+    assert!(rt; has_row(&sealed, 0, 1, 64));
+    assert!(rt; has_row(&sealed, 1, 9, 10));
+    assert_eq!(rt; alloc.count(), growths);
     Ok(())
 }

@@ -1,4 +1,4 @@
-//! Worked words, clears that hide what stands before them, refused growths, and bins that are filled once more.
+//! Worked words, clears that hide what stands before them, and refused growths.
 
 ghost use Rattle.std.specs.Prelude.{◌≡◌, ◌<◌, ◌≤◌, length, unsigned_abs, IfOk};
 ghost use Rattle.gfxspec.specs.Tiles.{tile_count};
@@ -210,24 +210,4 @@ fn each_growth_refused_in_turn(rt: HostRuntime) -> Result<(), Fail> {
         }
     }
     panic!(rt; "a list asks for no more than so many growths")
-}
-
-// The bins of a list that is done keep their memory, so that the same list takes less with them.
-#[test]
-fn bins_keep_their_memory(rt: HostRuntime) -> Result<(), Fail> {
-    let alloc = Refusing::new(rt.alloc(), 0);
-    let list = four_tiles(&alloc)?;
-    let mut bins = Bins::new(&alloc, 4)?;
-    let mut taken = [0u64; 3];
-    for growths in &mut taken {
-        let before = alloc.count();
-        bins = match compile(&alloc, list.commands(), SIZE, bins) {
-            Ok(compiled) => compiled.into_bins(),
-            Err((error, _)) => return Err(error.into()),
-        };
-        *growths = alloc.count().wrapping_sub(before);
-    }
-    let [first, second, third] = taken;
-    assert!(rt; second < first && third == second);
-    Ok(())
 }

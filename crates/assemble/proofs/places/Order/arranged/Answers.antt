@@ -3,6 +3,3 @@ use Rattle.assemble.proofs.places.Order.arranged.Goals as goal
 
 pub returns-in-Odd : goal.returns-in-Odd
 returns-in-Odd c = search rules
-
-pub returns-in-Even : goal.returns-in-Even
-returns-in-Even c = search rules
