@@ -3,6 +3,3 @@ use Rattle.recorders.proofs.received.ReceivedShelvesCommandList.list.Goals as go
 
 pub list-requires : goal.list-requires
 list-requires g c = search rules
-
-pub returns : goal.returns
-returns g c = search rules
