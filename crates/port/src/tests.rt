@@ -1,55 +1,57 @@
-//! A worked row with command lists, a full queue, four threads, and refused growths.
+//! A worked row, a full queue, four threads, and refused growths. What is sent is a number here in place of a list.
 
 ghost use Rattle.std.specs.Prelude.{◌≡◌};
+ghost use Rattle.port.specs.History.{AreAll};
 
 use crate::ports::apart;
 use crate::{DrainPass, PortPass, Ports, Submission};
-use cmdlist::{Command, CommandList, DeferredContext, DeviceContext};
 use gfxspec::GfxError;
 use refusing::Refusing;
 use std::alloc::Global;
+use std::process::Abort;
 use std::sync::Wait;
 use std::test::*;
-use std::thread;
+use std::thread::{self, Threads};
 
-type List = CommandList<Global>;
-
-// A list that clears to one value.
-fn clearing(alloc: Global, value: u8) -> Result<List, GfxError> {
-    let mut context = DeferredContext::new(alloc);
-    context.clear_color([value; 4])?;
-    context.finish(false)
-}
-
-// Port and number of the next submission, and what its list clears to.
+// Port and number of the next submission, and what it sends.
 fn take<R: Wait>(
     rt: &R,
-    ports: &Ports<List, Global>,
-    drain: &mut DrainPass<List>,
-) -> Option<(u32, u64, u8)>
+    ports: &Ports<u64, Global>,
+    drain: &mut DrainPass<u64>,
+) -> Option<(u32, u64, u64)>
     requires { drain.old.queue ≡ ports.now.queue }
     ensures { drain.new.queue ≡ ports.now.queue }
 {
     let Submission { port, number, list } = ports.next(rt, drain)?;
-    match list.commands() {
-        [Command::ClearColor(rgba)] => Some((port, number, rgba[0])),
-        _ => None,
-    }
+    Some((port, number, list))
+}
+
+// Takes the last of three submissions, and settles.
+fn settle_behind_the_last<R: Wait + Abort>(
+    rt: &R,
+    ports: Ports<u64, Global>,
+    passes: [PortPass<u64>; 4],
+    mut drain: DrainPass<u64>,
+)
+    requires passes { AreAll ports.queue passes }
+    requires drain { drain.queue ≡ ports.queue }
+{
+    assert_eq!(rt; take(rt, &ports, &mut drain), Some((1, 0, 9)));
+    assert_eq!(rt; take(rt, &ports, &mut drain), None);
+    let settled = ports.settle(passes, drain);
+    assert_eq!(rt; settled.ok(), Some([2, 1, 0, 0]));
 }
 
 #[test]
 fn two_ports(rt: HostRuntime) -> Result<(), Fail> {
-    let a = clearing(rt.alloc(), 7)?;
-    let b = clearing(rt.alloc(), 8)?;
-    let c = clearing(rt.alloc(), 9)?;
-    let made = Ports::<List, Global>::new(rt.alloc())?;
+    let made = Ports::<u64, Global>::new(rt.alloc())?;
     let passes = made.1;
     let ports = made.0;
     let mut drain = made.2;
     let (mut zero, mut one, two, three) = apart(passes);
-    assert!(rt; ports.submit(&rt, &mut zero, a).is_ok());
-    assert!(rt; ports.submit(&rt, &mut zero, b).is_ok());
-    assert!(rt; ports.submit(&rt, &mut one, c).is_ok());
+    assert!(rt; ports.submit(&rt, &mut zero, 7).is_ok());
+    assert!(rt; ports.submit(&rt, &mut zero, 8).is_ok());
+    assert!(rt; ports.submit(&rt, &mut one, 9).is_ok());
     assert_eq!(rt; (zero.port(), zero.sent()), (0, 2));
     assert_eq!(rt; (one.port(), one.sent()), (1, 1));
     assert_eq!(rt; take(&rt, &ports, &mut drain), Some((0, 0, 7)));
@@ -58,14 +60,7 @@ fn two_ports(rt: HostRuntime) -> Result<(), Fail> {
         Ok(_) => panic!(rt; "one is left"),
         Err(back) => back,
     };
-    let passes = back.2;
-    let ports = back.1;
-    let mut drain = back.3;
-    let (zero, one, two, three) = apart(passes);
-    assert_eq!(rt; take(&rt, &ports, &mut drain), Some((1, 0, 9)));
-    assert_eq!(rt; take(&rt, &ports, &mut drain), None);
-    let settled = ports.settle([zero, one, two, three], drain);
-    assert_eq!(rt; settled.ok(), Some([2, 1, 0, 0]));
+    settle_behind_the_last(&rt, back.1, back.2, back.3);
     Ok(())
 }
 
@@ -97,6 +92,47 @@ fn send_ten<R: Wait>(rt: &R, ports: &Ports<u64, Global>, mut pass: PortPass<u64>
     pass
 }
 
+// Two threads send ten lists each.
+fn send_by_two<R: Threads + Wait + Sync>(
+    rt: &R,
+    ports: &Ports<u64, Global>,
+    one: PortPass<u64>,
+    other: PortPass<u64>,
+) -> (PortPass<u64>, PortPass<u64>)
+    requires { (one.queue ≡ ports.now.queue) × (other.queue ≡ ports.now.queue) }
+    ensures { (result.0.queue ≡ ports.now.queue) × (result.0.port ≡ one.port) × (result.1.queue ≡ ports.now.queue) × (result.1.port ≡ other.port) }
+{
+    thread::join(
+        rt,
+        move ||
+            requires { one.queue ≡ ports.now.queue }
+            ensures { (result.queue ≡ ports.entry.now.queue) × (result.port ≡ one.port) }
+        { send_ten(rt, ports, one) },
+        move ||
+            requires { other.queue ≡ ports.now.queue }
+            ensures { (result.queue ≡ ports.entry.now.queue) × (result.port ≡ other.port) }
+        { send_ten(rt, ports, other) },
+    )
+}
+
+// Takes forty lists, whose numbers go up by one at each port.
+fn take_forty<R: Wait + Abort>(rt: &R, ports: &Ports<u64, Global>, drain: &mut DrainPass<u64>)
+    requires { drain.old.queue ≡ ports.now.queue }
+    ensures { drain.new.queue ≡ ports.now.queue }
+{
+    let mut due = [0u64; 4];
+    for _ in 0..40u32 {
+        let Some(next) = ports.next(rt, drain) else {
+            panic!(rt; "forty were sent")
+        };
+        let port = next.port as usize;
+        assert_eq!(rt; (next.number, next.list), (due[port], due[port]));
+        assert!(rt; next.number < 10);
+        due[port] = next.number + 1;
+    }
+    assert_eq!(rt; due, [10; 4]);
+}
+
 #[test]
 fn four_threads(rt: HostRuntime) -> Result<(), Fail> {
     let made = Ports::<u64, Global>::new(rt.alloc())?;
@@ -111,47 +147,13 @@ fn four_threads(rt: HostRuntime) -> Result<(), Fail> {
         move ||
             requires { (zero.queue ≡ all.now.queue) × (one.queue ≡ all.now.queue) }
             ensures { (result.0.queue ≡ all.entry.now.queue) × (result.0.port ≡ zero.port) × (result.1.queue ≡ all.entry.now.queue) × (result.1.port ≡ one.port) }
-        {
-            thread::join(
-                handle,
-                move ||
-                    requires { zero.queue ≡ all.now.queue }
-                    ensures { (result.queue ≡ all.entry.now.queue) × (result.port ≡ zero.port) }
-                { send_ten(handle, all, zero) },
-                move ||
-                    requires { one.queue ≡ all.now.queue }
-                    ensures { (result.queue ≡ all.entry.now.queue) × (result.port ≡ one.port) }
-                { send_ten(handle, all, one) },
-            )
-        },
+        { send_by_two(handle, all, zero, one) },
         move ||
             requires { (two.queue ≡ all.now.queue) × (three.queue ≡ all.now.queue) }
             ensures { (result.0.queue ≡ all.entry.now.queue) × (result.0.port ≡ two.port) × (result.1.queue ≡ all.entry.now.queue) × (result.1.port ≡ three.port) }
-        {
-            thread::join(
-                handle,
-                move ||
-                    requires { two.queue ≡ all.now.queue }
-                    ensures { (result.queue ≡ all.entry.now.queue) × (result.port ≡ two.port) }
-                { send_ten(handle, all, two) },
-                move ||
-                    requires { three.queue ≡ all.now.queue }
-                    ensures { (result.queue ≡ all.entry.now.queue) × (result.port ≡ three.port) }
-                { send_ten(handle, all, three) },
-            )
-        },
+        { send_by_two(handle, all, two, three) },
     );
-    let mut due = [0u64; 4];
-    for _ in 0..40u32 {
-        let Some(next) = ports.next(&rt, &mut drain) else {
-            panic!(rt; "forty were sent")
-        };
-        let port = next.port as usize;
-        assert_eq!(rt; (next.number, next.list), (due[port], due[port]));
-        assert!(rt; next.number < 10);
-        due[port] = next.number + 1;
-    }
-    assert_eq!(rt; due, [10; 4]);
+    take_forty(handle, all, &mut drain);
     let settled = ports.settle([zero, one, two, three], drain);
     assert_eq!(rt; settled.ok(), Some([10; 4]));
     Ok(())
