@@ -1,4 +1,4 @@
-//! Each growth refused in turn, and how many growths a settled context asks for.
+//! Each growth refused in turn, and how many growths questions and pixels ask for.
 
 use crate::calls::list_of;
 use cmdlist::{Call, CommandList, DeviceContext};
@@ -207,6 +207,33 @@ fn questions_of_a_settled_context_take_no_memory(rt: HostRuntime) -> Result<(), 
     ask(&few, 0)?;
     let many = Refusing::new(rt.alloc(), 0);
     ask(&many, 100)?;
+    assert_eq!(rt; few.count(), many.count());
+    Ok(())
+}
+
+/// Draws one half of a square.
+fn draw_half<A: Allocator + Copy + Send>(
+    context: &mut ImmediateContext<A>,
+    side: i32,
+) -> Result<(), GfxError> {
+    context.ia_set_vertices(&[corner(0, 0, 1), corner(side, 0, 2), corner(0, side, 3)])?;
+    context.ia_set_topology(Topology::TriangleList)?;
+    context.draw(3, 0)?;
+    flush(context)
+}
+
+fn half<A: Allocator + Copy + Send>(alloc: A, side: i32) -> Result<(), GfxError> {
+    let mut context = ImmediateContext::new(alloc, 32, 32)?;
+    draw_half(&mut context, side)
+}
+
+// A triangle of three pixels takes as many growths as one that covers the tile.
+#[test]
+fn pixels_take_no_memory(rt: HostRuntime) -> Result<(), Fail> {
+    let few = Refusing::new(rt.alloc(), 0);
+    half(&few, 2)?;
+    let many = Refusing::new(rt.alloc(), 0);
+    half(&many, 64)?;
     assert_eq!(rt; few.count(), many.count());
     Ok(())
 }
