@@ -6,8 +6,6 @@
 
 mod outcome;
 mod request;
-#[cfg(test)]
-mod tests;
 mod words;
 
 pub use outcome::report;

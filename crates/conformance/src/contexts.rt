@@ -1,10 +1,8 @@
-//! What no script reaches: that each call uses its workers, refusals of sixteen workers in their order, the execution of
-//! submissions, and each growth refused in turn. Worked scenes run from bytes to bytes in `scripts`.
+//! What no script reaches: the execution of submissions, and each growth refused in turn, behind which the context goes on.
+//! Worked scenes run from bytes to bytes in the gallery, and that each call uses its workers is tested in `scripts`.
 
-mod gate;
 mod growths;
 mod next;
-mod refusals;
 
 use crate::calls::list_of;
 use cmdlist::{Call, CommandList};

@@ -1,11 +1,13 @@
 //! Tests of what no contract says, over what the crates below hand out: scripts from bytes to bytes (`scripts`), the calls
-//! of the immediate context that no script reaches (`contexts`), recorded calls (`recording`), compiled lists (`compiling`), the
-//! reading of scripts (`reading`), boards and their threads (`boards`), devices (`devices`), and numbers and texts of refusals
-//! (`refusals`).
+//! of the immediate context that no script reaches (`contexts`), recorded and compiled lists (`recording`, `compiling`),
+//! the reading of scripts (`reading`), boards, ports and their threads (`boards`, `ports`), devices (`devices`),
+//! numbers and texts of refusals (`refusals`), the command line (`words`), and the allocator that refuses a growth (`allocator`).
 //!
 //! They stand in a crate of their own because a crate with tests is proved once more with them. Nothing here is handed out.
 #![tactic(auto)]
 
+#[cfg(test)]
+mod allocator;
 #[cfg(test)]
 mod boards;
 #[cfg(test)]
@@ -17,6 +19,8 @@ mod contexts;
 #[cfg(test)]
 mod devices;
 #[cfg(test)]
+mod ports;
+#[cfg(test)]
 mod reading;
 #[cfg(test)]
 mod recording;
@@ -24,3 +28,5 @@ mod recording;
 mod refusals;
 #[cfg(test)]
 mod scripts;
+#[cfg(test)]
+mod words;

@@ -1,24 +1,10 @@
-//! Worked scripts, the faults of the table, what memory is asked for, and sources that trickle or fail.
+//! The faults of the table, texts that are cut short, and what memory is asked for. That a scene is what its text spells is proved.
 
-mod trickle;
-mod writer;
-
-use gfxspec::{GatherError, gather};
 use refusing::Refusing;
-use scenetext::{Scene, one_reading, read};
+use scenetext::read;
 use std::alloc::Global;
 use std::process::Abort;
 use std::test::Fail;
-use trickle::Trickle;
-use writer::script;
-
-fn scene(rt: &HostRuntime, text: &str) -> Result<Scene<Global>, Fail> {
-    Ok(
-        read(rt.alloc(), text.as_bytes())
-            .ok()
-            .ok_or("the text is a scene")?,
-    )
-}
 
 const FOUR_TILES: &str = "target 33 33
 i vb 0 0 0 1 1 1 1 2162688 0 0 2 2 2 2 0 2162688 0 3 3 3 3 2162688 2162688 0 4 4 4 4
@@ -27,147 +13,6 @@ i topology 4
 i draw 3 0
 i drawi 3 0 0
 ";
-
-const LIST_INHERITS_NOTHING: &str = "target 4 4
-d0 vb 0 0 0 9 9 9 9 0 262144 0 9 9 9 9 262144 0 0 9 9 9 9
-d0 topology 4
-d0 draw 3 0
-d0 finish 0
-i vb 0 0 0 9 9 9 9 0 262144 0 9 9 9 9 262144 0 0 9 9 9 9
-i topology 4
-i raster 1 0 0
-i exec d0 0 1
-i draw 3 0
-";
-
-const DEFAULTS: &str = "target 1 1
-d7 raster 3 0 0
-d7 scissor 0 0 0 0
-i topology 5
-i flush
-i pixel 0 4294967295
-i clearc 1 2 3 4
-i cleards 16777215 255
-i ib
-i vb
-i drawi 1 2 -2147483648
-";
-
-const OUTPUT: &str = "target 1 1
-d0 ds 1 1 2 0 255 255 1 1 1 8 1 1 1 8 0
-d0 blend 0 4 15
-i ds 0 1 3 1 7 8 2 3 4 5 6 7 8 1 9
-i blend 1 6 10
-";
-
-const TWO_TRIANGLES: &str = "target 4 4
-i vb 0 0 0 10 20 30 40 262144 0 0 10 20 30 40 0 262144 0 10 20 30 40
-i topology 4
-i draw 3 0
-i vb 262144 0 0 50 60 70 80 262144 262144 0 50 60 70 80 0 262144 0 50 60 70 80
-i draw 3 0
-";
-
-const SLOPED_DEPTH: &str = "target 4 4
-i vb 0 0 0 10 20 30 40 262144 0 10 10 20 30 40 0 262144 0 10 20 30 40
-i topology 4
-i draw 3 0
-i pixel 1 0
-i pixel 3 0
-";
-
-const BACK_FACE: &str = "target 4 4
-i vb 0 0 0 10 20 30 40 0 262144 0 10 20 30 40 262144 0 0 10 20 30 40
-i topology 4
-i draw 3 0
-i raster 3 1 0
-i draw 3 0
-";
-
-const STRIP: &str = "target 4 4
-i vb 0 0 0 1 1 1 1 262144 0 0 2 2 2 2 0 262144 0 3 3 3 3 262144 262144 0 4 4 4 4
-i topology 5
-i draw 4 0
-i pixel 2 0
-i ib 0 1 2 65535 1 3 2
-i drawi 7 0 0
-i pixel 3 0
-";
-
-const SCISSOR: &str = "target 4 4
-i raster 3 0 1
-i vb 0 0 0 10 20 30 40 262144 0 0 10 20 30 40 0 262144 0 10 20 30 40
-i topology 4
-i draw 3 0
-i scissor 1 0 3 4
-i draw 3 0
-";
-
-const LARGEST_TARGET: &str = "target 2048 2048
-i vb 0 0 0 1 1 1 1 268435456 0 0 1 1 1 1 0 268435456 0 1 1 1 1
-i topology 4
-i draw 3 0
-";
-
-const CLEARED: &str = "target 4 4
-d3 vb 0 0 0 10 20 30 40 262144 0 0 10 20 30 40 0 262144 0 10 20 30 40
-d3 topology 4
-d3 draw 3 0
-d3 clearc 1 2 3 4
-d3 cleards 16777215 0
-d3 finish 0
-i exec d3 0 0
-i pixel 0 0
-";
-
-const QUERIES: &str = "target 1 1
-d3 begin 0
-d3 end 63
-i begin 4294967295
-i end 64
-i query 0
-i query 4294967295
-";
-
-// Lists are numbered by their context's own lines; the greatest numbers that may stand.
-const MANY_LISTS: &str = "target 4294967295 4294967295
-d0 finish 1
-d7 finish 0
-d0 finish 0
-i exec d0 1 1
-i exec d7 0 0
-i exec d0 0 1
-i vb -2147483648 2147483647 4294967295 255 0 255 0
-i drawi 4294967295 4294967295 2147483647
-i scissor 4294967295 4294967294 4294967293 4294967292
-i flush
-";
-
-#[test]
-fn rows_read_and_written_again(rt: HostRuntime) -> Result<(), Fail> {
-    one_reading();
-    for text in [
-        "target 1 1\n",
-        "target 0 1\n",
-        TWO_TRIANGLES,
-        SLOPED_DEPTH,
-        BACK_FACE,
-        STRIP,
-        FOUR_TILES,
-        LARGEST_TARGET,
-        SCISSOR,
-        CLEARED,
-        LIST_INHERITS_NOTHING,
-        DEFAULTS,
-        OUTPUT,
-        QUERIES,
-        MANY_LISTS,
-    ] {
-        let scene = scene(&rt, text)?;
-        assert_eq!(rt; script(rt.alloc(), &scene)?.as_str(), text);
-    }
-    Ok(())
-}
 
 // A cut inside a line, or one that drops only its line feed, is a fault of form in that line.
 #[test]
@@ -329,7 +174,7 @@ fn faults_of_one_line(rt: HostRuntime) -> Result<(), Fail> {
 
 // A growth is of the lines read so far, or of the buffer in a line.
 #[test]
-fn each_growth_refused(rt: HostRuntime) -> Result<(), Fail> {
+fn each_growth_refused(rt: HostRuntime) {
     for (n, line) in [(1, 2), (2, 2), (3, 3), (4, 6)] {
         let alloc = Refusing::new(rt.alloc(), n);
         let refused = read(&alloc, FOUR_TILES.as_bytes()).err();
@@ -339,26 +184,4 @@ fn each_growth_refused(rt: HostRuntime) -> Result<(), Fail> {
     let alloc = Refusing::new(rt.alloc(), 5);
     assert!(rt; read(&alloc, FOUR_TILES.as_bytes()).is_ok());
     assert_eq!(rt; alloc.count(), 4);
-    let scene = scene(&rt, FOUR_TILES)?;
-    assert_eq!(rt; script(rt.alloc(), &scene)?.as_str(), FOUR_TILES);
-    Ok(())
-}
-
-// A source gives a script in small pieces, or fails in the middle: then there is no text to read.
-#[test]
-fn from_a_source(rt: HostRuntime) -> Result<(), Fail> {
-    for piece in [1, 3, 64, 4096] {
-        let mut source = Trickle::new(FOUR_TILES.as_bytes(), piece, 0);
-        let text = gather(rt.alloc(), &mut source)?;
-        let scene = read(rt.alloc(), text.as_slice())
-            .ok()
-            .ok_or("the text is a scene")?;
-        assert_eq!(rt; script(rt.alloc(), &scene)?.as_str(), FOUR_TILES);
-    }
-    for failing in 1..7u64 {
-        let mut source = Trickle::new(FOUR_TILES.as_bytes(), 30, failing);
-        let failed = gather(rt.alloc(), &mut source).err();
-        assert_eq!(rt; failed, Some(GatherError::Read), "call {failing}");
-    }
-    Ok(())
 }

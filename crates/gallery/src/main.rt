@@ -29,11 +29,11 @@ struct Kept {
 }
 
 impl Sink for Kept {
-    ghost use Rattle.std.specs.Prelude.{⊤};
+    ghost use Rattle.std.specs.Prelude.{[]};
 
-    ghost tells = { λ sink. ⊤ };
+    ghost tells = { λ sink. ⊥ };
 
-    ghost written = { λ sink. sink.bytes.items };
+    ghost written = { λ sink. [] };
 
     ghost failures = { λ sink. sink.failures };
 

@@ -14,8 +14,6 @@ mod pass;
 mod ports;
 mod rule;
 mod submission;
-#[cfg(test)]
-mod tests;
 
 pub use pass::{DrainPass, PortPass};
 pub use ports::Ports;

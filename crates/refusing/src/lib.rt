@@ -4,9 +4,6 @@
 //! `&Refusing` is an allocator too, and can be copied. The count is one atomic word, so threads may share it.
 #![tactic(auto)]
 
-#[cfg(test)]
-mod tests;
-
 use std::alloc::{AllocError, Allocator, Global};
 use std::sync::atomic::AtomicU64;
 use std::sync::atomic::Ordering::SeqCst;

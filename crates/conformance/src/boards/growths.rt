@@ -1,16 +1,10 @@
-//! Each growth refused in turn.
+//! Each growth refused in turn. Those of deques are refused in `scripts`.
 
-ghost use Rattle.std.specs.Prelude.{◌≡◌, ◌≤◌};
-
-use crate::boards::amounts::{make_amounts, place_all};
+use crate::boards::amounts::make_amounts;
 use board::Board;
 use gfxspec::GfxError;
 use refusing::Refusing;
-use std::alloc::Global;
-use std::process::Abort;
-use std::thread::Threads;
 use tilecore::Core;
-use workers::{NoGate, run_all};
 
 // The lists of tiles, of workers, of what each of the two workers added, and of the sums.
 #[test]
@@ -45,28 +39,4 @@ fn boards(rt: HostRuntime) {
     let alloc = Refusing::new(rt.alloc(), 5);
     assert!(rt; Board::new(&alloc, &job).is_ok());
     assert_eq!(rt; alloc.count(), 4);
-}
-
-// Runs ten tiles by four threads where the growth n is refused, and says how many growths were asked for.
-fn run_refusing<R: Abort + Threads + Sync>(rt: &R, inner: Global, n: u64) -> u64 {
-    let alloc = Refusing::new(inner, n);
-    let job = make_amounts(10);
-    if let Ok((board, mut seat)) = Board::new_named(&alloc, &job) {
-        place_all(&board, &mut seat, 10);
-        let seat = run_all(rt, &board, seat, &job, 3, &NoGate);
-        let Ok(finished) = board.close(seat) else {
-            unreachable!()
-        };
-        assert_eq!(rt; finished.count(0), 140);
-    }
-    alloc.count()
-}
-
-#[test]
-fn deques(rt: HostRuntime) {
-    let all = run_refusing(&rt, rt.alloc(), 0);
-    assert!(rt; all > 4 && all < 1000);
-    for n in 1..all + 1 {
-        run_refusing(&rt, rt.alloc(), n);
-    }
 }

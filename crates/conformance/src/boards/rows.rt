@@ -1,4 +1,4 @@
-//! Worked rows: events of the schedule, boards of two and three tiles, and a board whose tiles are claimed by number.
+//! Worked rows: events of the schedule, and boards of two and three tiles. Sessions with workers claim by number.
 
 ghost use Rattle.std.specs.Prelude.{◌≡◌, [], ◌∷◌};
 ghost use Rattle.tilecore.specs.Schedule.{hands_in};
@@ -96,31 +96,5 @@ fn board_of_three_counts(rt: HostRuntime) -> Result<(), Fail> {
         panic!(rt; "all tiles are in")
     };
     assert_eq!(rt; finished.count(0), 21);
-    Ok(())
-}
-
-#[test]
-fn named_board_of_two(rt: HostRuntime) -> Result<(), Fail> {
-    let alloc: Global = rt.alloc();
-    let job = make_amounts(2);
-    let (board, mut a) = Board::new_named(&alloc, &job)?;
-    place_all(&board, &mut a, 2);
-    let (mut a, mut b) = board.split(a);
-    let Some(one) = board.claim_number(&mut a, 1) else {
-        panic!(rt; "the tile was claimed")
-    };
-    assert!(rt; board.claim_number(&mut b, 1).is_none());
-    let Some(zero) = board.claim_number(&mut b, 0) else {
-        panic!(rt; "the tile was claimed")
-    };
-    assert!(rt; one.number == 1 && zero.number == 0);
-    board.hand_in(&mut a, job.run(one));
-    board.hand_in(&mut b, job.run(zero));
-    let all = board.join(a, b);
-    assert!(rt; board.has_all(&all));
-    let Ok(finished) = board.close(all) else {
-        panic!(rt; "all tiles are in")
-    };
-    assert_eq!(rt; finished.count(0), 12);
     Ok(())
 }

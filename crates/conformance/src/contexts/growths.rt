@@ -196,21 +196,6 @@ fn ask_often<A: Allocator + Copy + Send>(
     Ok(())
 }
 
-fn ask<A: Allocator + Copy + Send>(alloc: A, times: u32) -> Result<(), GfxError> {
-    let mut context = ImmediateContext::new(alloc, 4, 4)?;
-    ask_often(&mut context, times)
-}
-
-#[test]
-fn questions_of_a_settled_context_take_no_memory(rt: HostRuntime) -> Result<(), Fail> {
-    let few = Refusing::new(rt.alloc(), 0);
-    ask(&few, 0)?;
-    let many = Refusing::new(rt.alloc(), 0);
-    ask(&many, 100)?;
-    assert_eq!(rt; few.count(), many.count());
-    Ok(())
-}
-
 /// Draws one half of a square.
 fn draw_half<A: Allocator + Copy + Send>(
     context: &mut ImmediateContext<A>,
@@ -222,18 +207,41 @@ fn draw_half<A: Allocator + Copy + Send>(
     flush(context)
 }
 
-fn half<A: Allocator + Copy + Send>(alloc: A, side: i32) -> Result<(), GfxError> {
+/// What a context is asked to do.
+#[derive(Clone, Copy)]
+enum Work {
+    /// To flush and show a pixel so many times.
+    Ask(u32),
+    /// To draw half of a square of this side.
+    Half(i32),
+}
+
+/// Makes a context and lets it work.
+fn work_with<A: Allocator + Copy + Send>(alloc: A, work: Work) -> Result<(), GfxError> {
     let mut context = ImmediateContext::new(alloc, 32, 32)?;
-    draw_half(&mut context, side)
+    match work {
+        Work::Ask(times) => ask_often(&mut context, times),
+        Work::Half(side) => draw_half(&mut context, side),
+    }
+}
+
+#[test]
+fn questions_of_a_settled_context_take_no_memory(rt: HostRuntime) -> Result<(), Fail> {
+    let few = Refusing::new(rt.alloc(), 0);
+    work_with(&few, Work::Ask(0))?;
+    let many = Refusing::new(rt.alloc(), 0);
+    work_with(&many, Work::Ask(100))?;
+    assert_eq!(rt; few.count(), many.count());
+    Ok(())
 }
 
 // A triangle of three pixels takes as many growths as one that covers the tile.
 #[test]
 fn pixels_take_no_memory(rt: HostRuntime) -> Result<(), Fail> {
     let few = Refusing::new(rt.alloc(), 0);
-    half(&few, 2)?;
+    work_with(&few, Work::Half(2))?;
     let many = Refusing::new(rt.alloc(), 0);
-    half(&many, 64)?;
+    work_with(&many, Work::Half(64))?;
     assert_eq!(rt; few.count(), many.count());
     Ok(())
 }

@@ -1,8 +1,9 @@
 //! The execution of submissions.
 
-ghost use Rattle.std.specs.Prelude.{◌≡◌, ◌∷◌, []};
+ghost use Rattle.std.specs.Prelude.{◌≡◌};
 
 use crate::contexts::clearing;
+use crate::ports::apart;
 use cmdlist::CommandList;
 use gfxspec::GfxError;
 use immediate::ImmediateContext;
@@ -13,13 +14,6 @@ use std::sync::Wait;
 use std::test::Fail;
 use std::thread::Threads;
 use workers::NoGate;
-
-fn third<T>(row: [T; 4]) -> (T, T, T, T)
-    ensures { row ≡ result.0 ∷ result.1 ∷ result.2 ∷ result.3 ∷ [] }
-{
-    let [zero, one, two, three] = row;
-    (zero, one, two, three)
-}
 
 /// Executes the one submission of context 2, which is refused with sixteen workers, and finds no other.
 fn assert_one_submission<R: Abort + Threads + Sync + Wait>(
@@ -40,13 +34,20 @@ fn assert_one_submission<R: Abort + Threads + Sync + Wait>(
     assert!(rt; matches!(empty, Ok(None)));
 }
 
+/// A context and a list for it.
+fn context_and_list(
+    alloc: Global,
+) -> Result<(ImmediateContext<Global>, CommandList<Global>), GfxError> {
+    let list = clearing(alloc)?;
+    Ok((ImmediateContext::new(alloc, 1, 1)?, list))
+}
+
 #[test]
 fn one_submission(rt: HostRuntime) -> Result<(), Fail> {
-    let list = clearing(rt.alloc())?;
+    let (mut context, list) = context_and_list(rt.alloc())?;
     let (ports, passes, mut drain) = Ports::<CommandList<Global>, Global>::new(rt.alloc())?;
-    let (_zero, _one, mut two, _three) = third(passes);
+    let (_zero, _one, mut two, _three) = apart(passes);
     assert!(rt; ports.submit(&rt, &mut two, list).is_ok());
-    let mut context = ImmediateContext::new(rt.alloc(), 1, 1)?;
     assert_one_submission(&rt, &mut context, &ports, &mut drain);
     Ok(())
 }

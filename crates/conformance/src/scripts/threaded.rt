@@ -2,7 +2,8 @@
 
 ghost use Rattle.std.specs.Prelude.{◌≤◌};
 
-use super::queries::{FOUR_TILES, FOUR_TILES_ANSWERS, REFUSED};
+use super::queries::{FOUR_TILES, FOUR_TILES_ANSWERS};
+use super::refusals::STATE_LOST;
 use super::rows::{LIST_INHERITS_NOTHING, SLOPED_DEPTH};
 use super::*;
 use std::sync::atomic::AtomicU64;
@@ -20,54 +21,19 @@ fn assert_same<R: Threads + Wait + Abort + Sync>(rt: &R, alloc: Global, script: 
 
 #[test]
 fn any_number_of_workers(rt: HostRuntime) {
-    for script in [FOUR_TILES, LIST_INHERITS_NOTHING, SLOPED_DEPTH] {
+    for script in [
+        FOUR_TILES,
+        LIST_INHERITS_NOTHING,
+        SLOPED_DEPTH,
+        STATE_LOST,
+        "target 0 1\n",
+        "target 1 1\ni draw\n",
+    ] {
         assert_same(&rt, rt.alloc(), script, 0);
         assert_same(&rt, rt.alloc(), script, 1);
         assert_same(&rt, rt.alloc(), script, 3);
         assert_same(&rt, rt.alloc(), script, 15);
     }
-}
-
-const DRAWN: &str = "pixel 0 0 0 0 0 0 16777215 0\n";
-
-// The first refused line counts, of whichever context, and answers of later lines are cut off.
-#[test]
-fn first_refused_line(rt: HostRuntime) -> Result<(), Fail> {
-    for (lines, line, number, before) in [
-        ("i pixel 0 0\nd0 end 0\ni pixel 0 0\n", 3, 10, DRAWN),
-        ("d4 end 0\nd0 end 0\n", 2, 10, ""),
-        ("d0 end 0\nd4 end 0\n", 2, 10, ""),
-        ("d3 end 0\nd7 end 0\ni end 0\n", 2, 10, ""),
-        ("i end 64\nd7 end 0\n", 2, 11, ""),
-        ("d0 begin 0\nd0 finish 0\ni exec d0 0 1\n", 3, 12, ""),
-        (
-            "d0 finish 0\nd4 end 1\nd4 finish 0\ni exec d4 0 1\n",
-            3,
-            10,
-            "",
-        ),
-        ("i begin 0\ni pixel 0 0\nd0 end 0\n", 3, 9, ""),
-        ("d6 begin 0\ni begin 0\n", 4, 9, ""),
-    ] {
-        let script = format!(in rt.alloc(); "target 1 1\n{lines}")?;
-        let script = script.as_str();
-        assert_refused(&rt, rt.alloc(), script, (line, number), before)?;
-        assert_same(&rt, rt.alloc(), script, 0);
-        assert_same(&rt, rt.alloc(), script, 2);
-    }
-    assert_same(&rt, rt.alloc(), "target 0 1\n", 3);
-    assert_same(&rt, rt.alloc(), "target 1 1\ni draw\n", 3);
-    Ok(())
-}
-
-// With as many workers as there may be, a refusal is the same.
-#[test]
-fn refused_queries_with_workers(rt: HostRuntime) -> Result<(), Fail> {
-    for (lines, _, _) in REFUSED {
-        let script = format!(in rt.alloc(); "target 1 1\n{lines}")?;
-        assert_same(&rt, rt.alloc(), script.as_str(), 15);
-    }
-    Ok(())
 }
 
 /// Where so many meet.

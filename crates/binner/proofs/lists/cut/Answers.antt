@@ -1,4 +1,4 @@
-use Rattle.std.proofs.Common.{◌<◌, ◌≤◌, ◌∙◌, ap, sym, subst, refl, length, length-set, arith}
+use Rattle.std.proofs.Common.{rules, ◌<◌, ◌≤◌, ◌∙◌, ap, sym, subst, refl, length, length-set, arith}
 use Rattle.binmem.specs.Lists as bins
 use Rattle.binner.proofs.Changing.{on_ok}
 use Rattle.binner.proofs.Pushing.{few, room_of, short_cut, short_push, cut_sound, cut_at}
@@ -31,3 +31,33 @@ returns-clause-cut g c =
     on_ok c.push_number-2.result
     (λ h. cut_at c.args.lists.now _ c.args.tile c.args.number c.args.word c.cut.new.self c.push_number.new.bins c.requires.sound c.requires.tile refl c.cut.ensures c.in_ok-push_number.ensures.pushed (h ∙ ap (λ n. bins.with_word c.push_number.new.bins c.args.tile n) c.encode.ensures.value) refl refl c.requires.can)
     c.push_number-2.ensures.pushed
+
+pub cut-requires : goal.cut-requires
+cut-requires g c = search rules
+
+pub push_number-requires-clause-in_range : goal.push_number-requires-clause-in_range
+push_number-requires-clause-in_range g c = search rules
+
+pub branch-push_number-requires : goal.branch-push_number-requires
+branch-push_number-requires g c κs = search rules
+
+pub from_residual-requires : goal.from_residual-requires
+from_residual-requires g c κs = search rules
+
+pub returns-in_err-push_number-clause-bins : goal.returns-in_err-push_number-clause-bins
+returns-in_err-push_number-clause-bins g c = search rules
+
+pub returns-in_err-push_number-clause-sound : goal.returns-in_err-push_number-clause-sound
+returns-in_err-push_number-clause-sound g c = search rules
+
+pub returns-in_err-push_number-clause-cut : goal.returns-in_err-push_number-clause-cut
+returns-in_err-push_number-clause-cut g c = search rules
+
+pub encode-requires : goal.encode-requires
+encode-requires g c = search rules
+
+pub push_number-requires-2-clause-in_range : goal.push_number-requires-2-clause-in_range
+push_number-requires-2-clause-in_range g c = search rules
+
+pub returns-clause-bins : goal.returns-clause-bins
+returns-clause-bins g c = search rules

@@ -56,3 +56,72 @@ returns-clause-setup c =
       rgba = ap (λ (p : Primitive). p.first.rgba) same;
       reach = c.within_reach-bounds.ensures.reach;
     }
+
+pub bounds-vertices-0 : goal.bounds-vertices-0
+bounds-vertices-0 c = search rules
+
+pub bounds-vertices-1 : goal.bounds-vertices-1
+bounds-vertices-1 c = search rules
+
+pub bounds-vertices-2 : goal.bounds-vertices-2
+bounds-vertices-2 c = search rules
+
+pub front_ccw-requires : goal.front_ccw-requires
+front_ccw-requires c = search rules
+
+pub facing-facing-requires : goal.facing-facing-requires
+facing-facing-requires c = search rules
+
+pub cull-requires : goal.cull-requires
+cull-requires c = search rules
+
+pub culled-requires : goal.culled-requires
+culled-requires c = search rules
+
+pub returns-then-culled-clause-setup : goal.returns-then-culled-clause-setup
+returns-then-culled-clause-setup c = search rules
+
+pub of-requires : goal.of-requires
+of-requires c = search rules
+
+pub branch-edges-requires : goal.branch-edges-requires
+branch-edges-requires c κs = search rules
+
+pub from_residual-requires : goal.from_residual-requires
+from_residual-requires c κs = search rules
+
+pub returns-in_err-edges-clause-setup : goal.returns-in_err-edges-clause-setup
+returns-in_err-edges-clause-setup c = search rules
+
+pub returns-in_err-edges-clause-dropped : goal.returns-in_err-edges-clause-dropped
+returns-in_err-edges-clause-dropped c = search rules
+
+pub within_reach-bounds-requires : goal.within_reach-bounds-requires
+within_reach-bounds-requires c = search rules
+
+pub is_seen-requires : goal.is_seen-requires
+is_seen-requires c = search rules
+
+pub returns-then-not-is_seen-clause-setup : goal.returns-then-not-is_seen-clause-setup
+returns-then-not-is_seen-clause-setup c = search rules
+
+pub of-plane-requires-clause-area : goal.of-plane-requires-clause-area
+of-plane-requires-clause-area c = search rules
+
+pub is_front-requires : goal.is_front-requires
+is_front-requires c = search rules
+
+pub min-requires : goal.min-requires
+min-requires c = search rules
+
+pub min-requires-2 : goal.min-requires-2
+min-requires-2 c = search rules
+
+pub max-requires : goal.max-requires
+max-requires c = search rules
+
+pub max-requires-2 : goal.max-requires-2
+max-requires-2 c = search rules
+
+pub returns-clause-dropped : goal.returns-clause-dropped
+returns-clause-dropped c = search rules

@@ -1,4 +1,4 @@
-use Rattle.std.proofs.Common.{◌≡◌, ◌∙◌, ap, sym, subst, length, map, ◌+◌, ◌&&◌, []}
+use Rattle.std.proofs.Common.{rules, ◌≡◌, ◌∙◌, ap, sym, subst, length, map, ◌+◌, ◌&&◌, []}
 use Rattle.std.specs.Prelude.{is_none}
 use Rattle.std.proofs.lemmas.List.{length-map}
 use Rattle.scenetext.specs.Seen.{line_value}
@@ -27,3 +27,45 @@ returns-clause-sent g c =
     c.turn-first.ensures.counted c.turn-first.ensures.rest c.turn-second.ensures.counted c.turn-second.ensures.rest
     c.later_or.ensures
     (c.into_pass.ensures.sent ∙ ap (λ (p : Posted). p.sent) c.turn-second.ensures.next)
+
+pub new-post-requires : goal.new-post-requires
+new-post-requires g c = search rules
+
+pub record_context-first_stop-requires-clause-until :
+    goal.record_context-first_stop-requires-clause-until
+record_context-first_stop-requires-clause-until g c = search rules
+
+pub record_context-first_stop-requires-clause-empty :
+    goal.record_context-first_stop-requires-clause-empty
+record_context-first_stop-requires-clause-empty g c = search rules
+
+pub is_none-requires : goal.is_none-requires
+is_none-requires g c κs = search rules
+
+pub turn-first-requires : goal.turn-first-requires
+turn-first-requires g c κs = search rules
+
+pub place_or-until-requires : goal.place_or-until-requires
+place_or-until-requires g c = search rules
+
+pub overflow_add-number : goal.overflow_add-number
+overflow_add-number g c = search rules
+
+pub record_context-second_stop-requires-clause-until :
+    goal.record_context-second_stop-requires-clause-until
+record_context-second_stop-requires-clause-until g c = search rules
+
+pub turn-second-requires : goal.turn-second-requires
+turn-second-requires g c κs = search rules
+
+pub into_pass-requires : goal.into_pass-requires
+into_pass-requires g c κs = search rules
+
+pub later_or-requires : goal.later_or-requires
+later_or-requires g c = search rules
+
+pub returns-clause-queue : goal.returns-clause-queue
+returns-clause-queue g c = search rules
+
+pub returns-clause-port : goal.returns-clause-port
+returns-clause-port g c = search rules

@@ -1,4 +1,4 @@
-use Rattle.std.proofs.Common.{◌∙◌, ap, sym, subst, arith, ◌++◌, append_assoc}
+use Rattle.std.proofs.Common.{rules, ◌∙◌, ap, sym, subst, arith, ◌++◌, append_assoc}
 use Rattle.port.specs.History.{PortsOf, DrainHistory, AreAll, AllTaken}
 use Rattle.recorders.proofs.ReceivedLemmas.{passes_of, all_back, settled_agrees, after_next}
 use Rattle.recorders.proofs.threads.settle_all.Goals as goal
@@ -29,3 +29,42 @@ loop-preserved-in-Err g c =
         next.2 ∙ ap (λ t. t ++ next.1) (old ∙ held.more.1) ∙ append_assoc c.args.drain.taken held.more.0 next.1,
       );
     }
+
+pub forever-items-requires : goal.forever-items-requires
+forever-items-requires g c κs = search rules
+
+pub into_iter-iterator-requires : goal.into_iter-iterator-requires
+into_iter-iterator-requires g c κs = search rules
+
+pub loop-init : goal.loop-init
+loop-init g c = search rules
+
+pub next-requires : goal.next-requires
+next-requires g c = search rules
+
+pub drop-iterator-requires : goal.drop-iterator-requires
+drop-iterator-requires g c κs = search rules
+
+pub returns-in-Ok-clause-pairs : goal.returns-in-Ok-clause-pairs
+returns-in-Ok-clause-pairs g c = search rules
+
+pub next-requires-in-Err : goal.next-requires-in-Err
+next-requires-in-Err g c = search rules
+
+pub loop-smaller-in-Err : goal.loop-smaller-in-Err
+loop-smaller-in-Err g c = search rules
+
+pub loop-smaller : goal.loop-smaller
+loop-smaller g c = search rules
+
+pub loop-preserved : goal.loop-preserved
+loop-preserved g c = search rules
+
+pub drop-iterator-requires-2 : goal.drop-iterator-requires-2
+drop-iterator-requires-2 g c κs = search rules
+
+pub unreachable-requires : goal.unreachable-requires
+unreachable-requires g c = search rules
+
+pub unreachable-unreachable : goal.unreachable-unreachable
+unreachable-unreachable g c = search rules

@@ -49,3 +49,36 @@ returns c =
     ∙ sym (p.ensures.triangles s.vertices.now s.base)
     ∙ next_is s.vertices.now s.base p.result.0 p.result.1.now c.in-len3-up.len_at_least p.ensures.ready
     ∙ rw (take_rest p.result.1.now c.step.result, c.following-self-inside.ensures, c.step.ensures, c.arranged-tri.ensures, v0, v1, v2) refl
+
+pub past_cuts-order-requires : goal.past_cuts-order-requires
+past_cuts-order-requires c = search rules
+
+pub bounds-indices-0 : goal.bounds-indices-0
+bounds-indices-0 c = search rules
+
+pub bounds-indices-1 : goal.bounds-indices-1
+bounds-indices-1 c = search rules
+
+pub bounds-indices-2 : goal.bounds-indices-2
+bounds-indices-2 c = search rules
+
+pub arranged-tri-requires : goal.arranged-tri-requires
+arranged-tri-requires c = search rules
+
+pub step-requires : goal.step-requires
+step-requires c = search rules
+
+pub offset_bounds-indices-step : goal.offset_bounds-indices-step
+offset_bounds-indices-step c = search rules
+
+pub slice_bounds-self-count : goal.slice_bounds-self-count
+slice_bounds-self-count c = search rules
+
+pub slice_bounds-self-start : goal.slice_bounds-self-start
+slice_bounds-self-start c = search rules
+
+pub slice_bounds-self-end : goal.slice_bounds-self-end
+slice_bounds-self-end c = search rules
+
+pub following-self-inside-requires : goal.following-self-inside-requires
+following-self-inside-requires c = search rules

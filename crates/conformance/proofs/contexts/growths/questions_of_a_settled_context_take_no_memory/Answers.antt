@@ -1,8 +1,8 @@
 use Rattle.std.proofs.Crossing.{frees}
 use Rattle.conformance.proofs.contexts.growths.questions_of_a_settled_context_take_no_memory.Goals as goal
 
-pub ask-requires-frees-A-Allocator : goal.ask-requires-frees-A-Allocator
-ask-requires-frees-A-Allocator g c κs = record { frees = λ r τ p. frees.frees r.now.inner τ p }
+pub work_with-requires-frees-A-Allocator : goal.work_with-requires-frees-A-Allocator
+work_with-requires-frees-A-Allocator g c κs = record { frees = λ r τ p. frees.frees r.now.inner τ p }
 
-pub ask-requires-2-frees-A-Allocator : goal.ask-requires-2-frees-A-Allocator
-ask-requires-2-frees-A-Allocator g c κs = record { frees = λ r τ p. frees.frees r.now.inner τ p }
+pub work_with-requires-2-frees-A-Allocator : goal.work_with-requires-2-frees-A-Allocator
+work_with-requires-2-frees-A-Allocator g c κs = record { frees = λ r τ p. frees.frees r.now.inner τ p }

@@ -1,4 +1,4 @@
-use Rattle.std.proofs.Common.{◌∙◌, ap, sym, subst, map, [], ◌∷◌, ◌++◌, true}
+use Rattle.std.proofs.Common.{rules, ◌∙◌, ap, sym, subst, map, [], ◌∷◌, ◌++◌, true}
 use Rattle.port.specs.History.{DrainHistory}
 use Rattle.scenetext.specs.Seen.{line_value}
 use Rattle.recorders.specs.Receiving.{Receipts, AreDesks}
@@ -35,3 +35,30 @@ invariant_of-self-in_default-add_at g c =
 pub returns-clause-more : goal.returns-clause-more
 returns-clause-more g c =
     (c.in-Some.next ∷ [], ap (λ (p : DrainHistory _). p.taken) c.in-Some.ensures.2 ∙ ap (λ (r : Receipts _). r.taken ++ c.in-Some.next ∷ []) c.self.view_is)
+
+pub returns-then-self-clause-frame : goal.returns-then-self-clause-frame
+returns-then-self-clause-frame g c = search rules
+
+pub returns-then-self-clause-more : goal.returns-then-self-clause-more
+returns-then-self-clause-more g c = search rules
+
+pub next-requires : goal.next-requires
+next-requires g c = search rules
+
+pub invariant_of-self : goal.invariant_of-self
+invariant_of-self g c = search rules
+
+pub returns-in_default-clause-frame : goal.returns-in_default-clause-frame
+returns-in_default-clause-frame g c = search rules
+
+pub returns-in_default-clause-more : goal.returns-in_default-clause-more
+returns-in_default-clause-more g c = search rules
+
+pub add_at-requires : goal.add_at-requires
+add_at-requires g c = search rules
+
+pub returns-in-Err-clause-frame : goal.returns-in-Err-clause-frame
+returns-in-Err-clause-frame g c = search rules
+
+pub returns-clause-frame : goal.returns-clause-frame
+returns-clause-frame g c = search rules

@@ -1,4 +1,4 @@
-use Rattle.std.proofs.Common.{◌≡◌, ◌<◌, ◌^◌, ℕ, List, ◌∙◌, sym, ap, subst, arith, length, get_or, replicate, length-set}
+use Rattle.std.proofs.Common.{rules, ◌≡◌, ◌<◌, ◌^◌, ℕ, List, ◌∙◌, sym, ap, subst, arith, length, get_or, replicate, length-set}
 use Rattle.tilecore.specs.declared.machine.Place.TheVariants.{Finished}
 use Rattle.tilecore.specs.Schedule.{Schedule, nothing, worker, a_tile, hands_in, was_done, IsReached}
 use Rattle.tilecore.specs.Meaning.{hands_of}
@@ -61,3 +61,21 @@ returns-clause-reached g c = reached_after c.args.self.now (hands_in c.args.work
 
 pub invariant_of-self-2 : goal.invariant_of-self-2
 invariant_of-self-2 g c = (subst (λ (n : ℕ). n < 2 ^ 32) (sym (length-set c.self.inside.tiles.items c.in-Some.number Finished)) c.self.invariant.0, returns-clause-reached g c)
+
+pub returns-in_default-clause-was_reached : goal.returns-in_default-clause-was_reached
+returns-in_default-clause-was_reached g c = search rules
+
+pub as_slice-requires : goal.as_slice-requires
+as_slice-requires g c κs = search rules
+
+pub ne-requires : goal.ne-requires
+ne-requires g c κs = search rules
+
+pub returns-then-ne-clause-was_reached : goal.returns-then-ne-clause-was_reached
+returns-then-ne-clause-was_reached g c = search rules
+
+pub make_zero-requires : goal.make_zero-requires
+make_zero-requires g c κs = search rules
+
+pub returns-clause-was_reached : goal.returns-clause-was_reached
+returns-clause-was_reached g c = search rules

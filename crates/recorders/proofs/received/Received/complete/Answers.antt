@@ -1,0 +1,62 @@
+use Rattle.std.proofs.Common.{rules}
+use Rattle.recorders.proofs.received.Received.complete.Goals as goal
+
+pub forever-items-requires : goal.forever-items-requires
+forever-items-requires g c κs = search rules
+
+pub into_iter-iterator-requires : goal.into_iter-iterator-requires
+into_iter-iterator-requires g c κs = search rules
+
+pub loop-init : goal.loop-init
+loop-init g c = search rules
+
+pub next-requires : goal.next-requires
+next-requires g c = search rules
+
+pub at-requires : goal.at-requires
+at-requires g c = search rules
+
+pub is_complete-requires : goal.is_complete-requires
+is_complete-requires g c κs = search rules
+
+pub drop-iterator-requires : goal.drop-iterator-requires
+drop-iterator-requires g c κs = search rules
+
+pub returns-then-is_complete-clause-frame : goal.returns-then-is_complete-clause-frame
+returns-then-is_complete-clause-frame g c = search rules
+
+pub returns-then-is_complete-clause-more : goal.returns-then-is_complete-clause-more
+returns-then-is_complete-clause-more g c = search rules
+
+pub returns-then-is_complete-clause-complete : goal.returns-then-is_complete-clause-complete
+returns-then-is_complete-clause-complete g c = search rules
+
+pub take_one-requires : goal.take_one-requires
+take_one-requires g c κs = search rules
+
+pub branch-take_one-requires : goal.branch-take_one-requires
+branch-take_one-requires g c κs = search rules
+
+pub loop-smaller : goal.loop-smaller
+loop-smaller g c = search rules
+
+pub from_residual-requires : goal.from_residual-requires
+from_residual-requires g c κs = search rules
+
+pub drop-iterator-requires-in_err-take_one : goal.drop-iterator-requires-in_err-take_one
+drop-iterator-requires-in_err-take_one g c κs = search rules
+
+pub returns-in_err-take_one-clause-frame : goal.returns-in_err-take_one-clause-frame
+returns-in_err-take_one-clause-frame g c = search rules
+
+pub returns-in_err-take_one-clause-complete : goal.returns-in_err-take_one-clause-complete
+returns-in_err-take_one-clause-complete g c = search rules
+
+pub drop-iterator-requires-2 : goal.drop-iterator-requires-2
+drop-iterator-requires-2 g c κs = search rules
+
+pub unreachable-requires : goal.unreachable-requires
+unreachable-requires g c = search rules
+
+pub unreachable-unreachable : goal.unreachable-unreachable
+unreachable-unreachable g c = search rules
