@@ -1,0 +1,95 @@
+#!/usr/bin/env python3
+"""Runs the gate, looks every half second at its processes, and prints what each crate and each edit took of the processors:
+
+    tools/gate_times.py [rt ci]
+
+The first table has for each crate the processor seconds of its proof, of its tests and of its edits; what compiling and linking took is in no
+row. Behind it stand the edits that took longest; the first edit of a crate is left out, since it is a proof of the crate from nothing.
+What the command itself prints goes to standard error."""
+import collections
+import os
+import subprocess
+import sys
+import time
+
+TICKS = os.sysconf("SC_CLK_TCK")
+CRATES = os.path.join(os.path.dirname(os.path.dirname(os.path.abspath(__file__))), "crates")
+
+
+def read(path):
+    """Returns the bytes of a file of /proc, or none where its process has ended."""
+    try:
+        with open(path, "rb") as file:
+            return file.read()
+    except OSError:
+        return b""
+
+
+def seen(process):
+    """Returns when a process started, and its processor seconds."""
+    fields = read(f"/proc/{process}/stat").rpartition(b")")[2].split()
+    return (fields[19], (int(fields[11]) + int(fields[12])) / TICKS) if fields else (None, 0)
+
+
+def check_of(process):
+    """Returns the crate that a process checks, the kind of its check, and the folder that it works in; or None."""
+    words = read(f"/proc/{process}/cmdline").decode(errors="replace").split("\0")
+    if os.path.basename(words[0]) != "rattle" or "--crate-name" not in words:
+        return None
+    try:
+        folder = os.readlink(f"/proc/{process}/cwd")
+    except OSError:
+        return None
+    kind = "edits" if "/rt-edit-" in folder else "tests" if "--test" in words else "proof"
+    return words[words.index("--crate-name") + 1], kind, folder
+
+
+def sample(checks):
+    """Adds the processes that are there to those that were seen."""
+    for process in filter(str.isdigit, os.listdir("/proc")):
+        started, seconds = seen(process)
+        if started and (process, started) not in checks:
+            found = check_of(process)
+            if found:
+                checks[process, started] = [*found, 0.0]
+        if (process, started) in checks:
+            checks[process, started][3] = seconds
+
+
+def edits_of(crate, checks):
+    """Returns the seconds of a crate's edits by name, in the order in which the gate tries them, without the first."""
+    folders = collections.OrderedDict()
+    for name, kind, folder, seconds in checks.values():
+        if (name, kind) == (crate, "edits"):
+            folders[folder] = folders.get(folder, 0) + seconds
+    names = [it for it in sorted(os.listdir(f"{CRATES}/{crate}/must-fail")) if it.endswith(".edit")]
+    return list(zip(names, folders.values()))[1:]
+
+
+def main():
+    command = sys.argv[1:] or ["rt", "ci"]
+    if command[0] in ("-h", "--help"):
+        print(__doc__)
+        return 0
+    checks, started = collections.OrderedDict(), time.time()
+    running = subprocess.Popen(command, stdout=sys.stderr)
+    while running.poll() is None:
+        sample(checks)
+        time.sleep(0.5)
+    spent = collections.defaultdict(collections.Counter)
+    for name, kind, _, seconds in checks.values():
+        spent[name][kind] += seconds
+    kinds = ("proof", "tests", "edits")
+    for name in sorted(spent, key=lambda it: -sum(spent[it].values())):
+        print("|", name, "|", " | ".join(str(round(spent[name][it])) for it in kinds), "|")
+    print("| all, in minutes |", " | ".join(str(round(sum(it[kind] for it in spent.values()) / 60)) for kind in kinds), "|")
+    tried = [(seconds, name, edit) for name in spent if spent[name]["edits"] for edit, seconds in edits_of(name, checks)]
+    for seconds, name, edit in sorted(tried, reverse=True)[:40]:
+        print(f"{seconds:6.1f} {name}/{edit}")
+    times = os.times()
+    print(f"{(time.time() - started) / 60:.0f} minutes, {(times.children_user + times.children_system) / 60:.0f} processor minutes")
+    return running.returncode
+
+
+if __name__ == "__main__":
+    sys.exit(main())
