@@ -1,6 +1,6 @@
 //! Tests of what no contract says, over what the crates below hand out: scripts from bytes to bytes (`scripts`), the calls
 //! of the immediate context that no script reaches (`contexts`), recorded and compiled lists (`recording`, `compiling`),
-//! the reading of scripts (`reading`), boards, ports and their threads (`boards`, `ports`), devices (`devices`),
+//! the reading of scripts (`reading`), boards, ports and their threads (`boards`, `ports`, `meeting`), devices (`devices`),
 //! numbers and texts of refusals (`refusals`), the command line (`words`), and the allocator that refuses a growth (`allocator`).
 //!
 //! They stand in a crate of their own because a crate with tests is proved once more with them. Nothing here is handed out.
@@ -18,6 +18,8 @@ mod compiling;
 mod contexts;
 #[cfg(test)]
 mod devices;
+#[cfg(test)]
+mod meeting;
 #[cfg(test)]
 mod ports;
 #[cfg(test)]

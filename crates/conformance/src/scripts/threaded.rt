@@ -6,9 +6,7 @@ use super::queries::{FOUR_TILES, FOUR_TILES_ANSWERS};
 use super::refusals::STATE_LOST;
 use super::rows::{LIST_INHERITS_NOTHING, SLOPED_DEPTH};
 use super::*;
-use std::sync::atomic::AtomicU64;
-use std::sync::atomic::Ordering::SeqCst;
-use std::thread;
+use crate::meeting::{AllAtOnce, Meeting};
 
 /// Runs a script alone and with so many workers: the end and the bytes are the same.
 fn assert_same<R: Threads + Wait + Abort + Sync>(rt: &R, alloc: Global, script: &str, workers: u32)
@@ -36,56 +34,6 @@ fn any_number_of_workers(rt: HostRuntime) {
     }
 }
 
-/// Where so many meet.
-#[derive(Drop)]
-struct Meeting {
-    come: AtomicU64,
-    late: AtomicU64,
-    want: u64,
-}
-
-impl Meeting {
-    fn new(want: u64) -> Meeting {
-        Meeting {
-            come: AtomicU64::new(0),
-            late: AtomicU64::new(0),
-            want,
-        }
-    }
-
-    /// Waits for the others, for so many turns at most.
-    fn wait(&self) {
-        self.come.fetch_add(1, SeqCst);
-        for _ in 0..100_000_000u64 {
-            if self.come.load(SeqCst) >= self.want {
-                return;
-            }
-            thread::yield_now();
-        }
-        self.late.fetch_add(1, SeqCst);
-    }
-
-    fn all_came(&self) -> bool {
-        self.come.load(SeqCst) >= self.want && self.late.load(SeqCst) == 0
-    }
-}
-
-/// Holds the first claim of each worker until all have come to theirs.
-#[derive(Drop)]
-struct FirstClaims {
-    meeting: Meeting,
-}
-
-impl Gate for FirstClaims {
-    fn before_claim(&self, _worker: u32, turn: u64) {
-        if turn == 0 {
-            self.meeting.wait();
-        }
-    }
-
-    fn after_hand_in(&self, _worker: u32, _turn: u64) {}
-}
-
 /// Four threads take the tiles of a script's first run: none has claimed one before each has come to its first claim.
 fn assert_meeting<R: Threads + Wait + Abort + Sync>(
     rt: &R,
@@ -93,18 +41,11 @@ fn assert_meeting<R: Threads + Wait + Abort + Sync>(
     script: &str,
     answers: &str,
 ) {
-    let gate = FirstClaims {
-        meeting: Meeting::new(4),
-    };
+    let gate = AllAtOnce::new(4);
     let run = run_threads(rt, alloc, alloc, script, SOUND, 3, &gate);
     assert_eq!(rt; run.end, Ok(Ended::Done), "after {script}");
     assert_eq!(rt; run.lines.as_slice(), answers.as_bytes());
-    assert!(rt; gate.meeting.all_came(), "after {script}");
-}
-
-#[test]
-fn workers_claim_together(rt: HostRuntime) {
-    assert_meeting(&rt, rt.alloc(), FOUR_TILES, FOUR_TILES_ANSWERS);
+    assert!(rt; gate.all_came(), "after {script}");
 }
 
 // Each kind of line that runs tiles, in a script in which no other line finds anything to run; and the end of the script.
