@@ -57,13 +57,13 @@ def sample(checks):
 
 
 def edits_of(crate, checks):
-    """Returns the seconds of a crate's edits by name, in the order in which the gate tries them, without the first."""
+    """Returns the seconds of a crate's edits by name, in the order in which the gate tries them."""
     folders = collections.OrderedDict()
     for name, kind, folder, seconds in checks.values():
         if (name, kind) == (crate, "edits"):
             folders[folder] = folders.get(folder, 0) + seconds
     names = [it for it in sorted(os.listdir(f"{CRATES}/{crate}/must-fail")) if it.endswith(".edit")]
-    return list(zip(names, folders.values()))[1:]
+    return list(zip(names, folders.values()))
 
 
 def main():
@@ -83,8 +83,9 @@ def main():
     for name in sorted(spent, key=lambda it: -sum(spent[it].values())):
         print("|", name, "|", " | ".join(str(round(spent[name][it])) for it in kinds), "|")
     print("| all, in minutes |", " | ".join(str(round(sum(it[kind] for it in spent.values()) / 60)) for kind in kinds), "|")
-    tried = [(seconds, name, edit) for name in spent if spent[name]["edits"] for edit, seconds in edits_of(name, checks)]
-    for seconds, name, edit in sorted(tried, reverse=True)[:40]:
+    tried = [[(seconds, name, edit) for edit, seconds in edits_of(name, checks)] for name in spent if spent[name]["edits"]]
+    print(f"{sum(it[0][0] for it in tried) / 60:.0f} minutes for the first edit of each crate")
+    for seconds, name, edit in sorted((edit for it in tried for edit in it[1:]), reverse=True)[:40]:
         print(f"{seconds:6.1f} {name}/{edit}")
     times = os.times()
     print(f"{(time.time() - started) / 60:.0f} minutes, {(times.children_user + times.children_system) / 60:.0f} processor minutes")

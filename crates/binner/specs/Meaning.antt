@@ -5,6 +5,7 @@ use Rattle.std.specs.Int.{bit_at}
 use Rattle.gfxspec.specs.declared.pixel.Pixel.{Pixel}
 use Rattle.gfxspec.specs.declared.pixel.DepthStencil.{DepthStencil}
 use Rattle.gfxspec.specs.declared.geometry.PixelRect.{PixelRect}
+use Rattle.gfxspec.specs.Limits.{side_bound}
 use Rattle.gfxspec.specs.Raster.{centre, covers}
 use Rattle.gfxspec.specs.DepthStencil.{DepthStencilSetting}
 use Rattle.gfxspec.specs.Facing.{is_culled}
@@ -28,7 +29,7 @@ use Rattle.binner.specs.Program.{Tables, force_after, force_behind, after_words,
 -- under this entry the triangle reaches no pixel outside of its bounds
 abbrev pub IsBounded : TriSetup → StateEntry → Type 0
 IsBounded t e =
-    (x y : ℕ) → x < 4096 → y < 4096 → (is_in_rect t.bounds x y && covers t.edges (centre x y)) ≡ (covers t.edges (centre x y) && lets_through e x y)
+    (x y : ℕ) → x < side_bound → y < side_bound → (is_in_rect t.bounds x y && covers t.edges (centre x y)) ≡ (covers t.edges (centre x y) && lets_through e x y)
 
 -- The word's number names an entry. A triangle has an entry in force, each of its edges holds somewhere in the rectangle, and the mask names exactly those that fail somewhere.
 abbrev pub WordFits : Tables → PixelRect → Option StateEntry → Word → Type 0
@@ -84,7 +85,7 @@ pub record IsSetupOf (t : TriSetup) (p : Primitive) (s : Settings) : Type 0 wher
   pub kept : is_culled s.raster.cull (facing p s) ≡ false
   pub face : (d : DepthStencilSetting) → (if t.front then d.front else d.back) ≡ face_setting (facing p s) d
   pub rgba : t.rgba ≡ p.first.rgba
-  pub reach : (x y : ℕ) → x < 4096 → y < 4096 → (is_in_rect t.bounds x y && covers t.edges (centre x y)) ≡ (covers t.edges (centre x y) && in_scissor s x y)
+  pub reach : (x y : ℕ) → x < side_bound → y < side_bound → (is_in_rect t.bounds x y && covers t.edges (centre x y)) ≡ (covers t.edges (centre x y) && in_scissor s x y)
 
 -- the triangle reaches no pixel of the rectangle
 abbrev pub IsSkipped : Primitive → Settings → PixelRect → Type 0

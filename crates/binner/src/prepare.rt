@@ -1,6 +1,7 @@
 //! Triangles are snapped and made ready here, once for all tiles.
 
 ghost use Rattle.std.specs.Prelude.{◌≡◌, ◌<◌, ◌≤◌, ◌&&◌, if◌then◌else◌, ℕ, IfSome, IsNone, false, IsTrue};
+ghost use Rattle.gfxspec.specs.Limits.{side_bound};
 ghost use Rattle.gfxspec.specs.DepthStencil.{DepthStencilSetting};
 ghost use Rattle.gfxspec.specs.Raster.{centre, covers};
 ghost use Rattle.gfxspec.specs.Items.{face_setting, in_scissor, is_in_rect, reaches};
@@ -31,9 +32,9 @@ fn common(a: PixelRect, b: PixelRect) -> PixelRect
 
 /// The pixels that a triangle can reach: those in its bounds that an enabled scissor rectangle lets through.
 fn within_reach(edges: &EdgeSet, state: &State<'_>) -> PixelRect
-    ensures right { result.right ≤ 4096 }
-    ensures bottom { result.bottom ≤ 4096 }
-    ensures reach { (x y : ℕ) → x < 4096 → y < 4096
+    ensures right { result.right ≤ side_bound }
+    ensures bottom { result.bottom ≤ side_bound }
+    ensures reach { (x y : ℕ) → x < side_bound → y < side_bound
         → (is_in_rect result x y && covers edges.now (centre x y)) ≡ (covers edges.now (centre x y) && in_scissor (state_value state.now) x y) }
 {
     if state.raster.scissor() {
@@ -65,7 +66,7 @@ fn is_seen(bounds: PixelRect, size: Size) -> bool
 pub(crate) fn prepared(vertices: &[Vertex; 3], state: &State<'_>, size: Size) -> Option<TriSetup>
     requires { IsReady (primitive_of (record { v = vertices.now })) }
     ensures setup { IfSome result (λ t. IsSetupOf t (primitive_of (record { v = vertices.now })) (state_value state.now)) }
-    ensures dropped { IsNone result → (x y : ℕ) → x < 4096 → y < 4096 → x < size.width → y < size.height
+    ensures dropped { IsNone result → (x y : ℕ) → x < side_bound → y < side_bound → x < size.width → y < size.height
         → reaches (primitive_of (record { v = vertices.now })) (state_value state.now) x y ≡ false }
 {
     let [first, second, third] = vertices;

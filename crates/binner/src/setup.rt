@@ -1,6 +1,7 @@
 //! Triangles, ready to be drawn in any tile.
 
 ghost use Rattle.std.specs.Prelude.{◌≡◌, ◌≤◌, false, min, max};
+ghost use Rattle.gfxspec.specs.Limits.{side_bound};
 ghost use Rattle.gfxspec.specs.Raster.{is_empty};
 ghost use Rattle.depthplane.specs.Height.{AreDepths};
 
@@ -30,6 +31,6 @@ pub struct TriSetup {
     pub ghost deep: { AreDepths plane },
     pub ghost least: { least_depth ≡ min (min plane.z0 plane.z1) plane.z2 },
     pub ghost greatest: { greatest_depth ≡ max (max plane.z0 plane.z1) plane.z2 },
-    pub ghost right: { bounds.right ≤ 4096 },
-    pub ghost bottom: { bounds.bottom ≤ 4096 },
+    pub ghost right: { bounds.right ≤ side_bound },
+    pub ghost bottom: { bounds.bottom ≤ side_bound },
 }

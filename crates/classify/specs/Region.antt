@@ -2,6 +2,7 @@
 use Rattle.std.specs.Prelude.{◌≡◌, ℕ, ◌≤◌, ◌<◌, IsTrue, IsFalse, ℤ, pos, ◌≤ℤ◌}
 use Rattle.std.specs.Int.{bit_at}
 use Rattle.gfxspec.specs.declared.geometry.PixelRect.{PixelRect}
+use Rattle.gfxspec.specs.Limits.{side_bound}
 use Rattle.gfxspec.specs.Raster.{Edge, Triangle, edge, edge_holds, centre}
 use Rattle.gfxspec.specs.Tiles.{IsIn}
 use Rattle.edges.specs.Value.{edge_value}
@@ -12,8 +13,8 @@ use Rattle.classify.specs.declared.Class.TheVariants.{Outside, Cut}
 pub record IsReal (r : PixelRect) : Type 0 where
   pub wide : r.left < r.right
   pub high : r.top < r.bottom
-  pub right : r.right ≤ 4096
-  pub bottom : r.bottom ≤ 4096
+  pub right : r.right ≤ side_bound
+  pub bottom : r.bottom ≤ side_bound
 
 -- v is the greatest value of e at a centre of r
 pub record IsGreatest (e : Edge) (r : PixelRect) (v : ℤ) : Type 0 where

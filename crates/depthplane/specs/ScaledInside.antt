@@ -1,5 +1,6 @@
 -- What eight walks keep: the heights there, divided by the area, in 2^40ths.
 use Rattle.std.specs.Prelude.{◌≡◌, ℕ, ◌<◌, ◌≤◌, ◌+◌, ◌*◌, ◌-ℤ◌, IsTrue, slice_index, unsigned_abs}
+use Rattle.gfxspec.specs.Limits.{side_bound}
 use Rattle.gfxspec.specs.Raster.{centre}
 use Rattle.depthplane.specs.declared.walks_scaled.ScaledWalks.TheInside.{Inside}
 use Rattle.depthplane.specs.Division.{IsDivisor}
@@ -18,7 +19,7 @@ pub record AreWalks (w : Inside) : Type 0 where
   pub down : (x y : ℕ) → IsScaled (height w.plane.now (centre x (y + 1)) -ℤ height w.plane.now (centre x y)) (size_of w.plane.now) w.error w.down
   pub error : w.error ≤ 1
   pub column : w.x ≤ 4103
-  pub row : w.y ≤ 4096
+  pub row : w.y ≤ side_bound
   pub depths : AreDepths w.plane.now
   pub area_is : w.area ≡ size_of w.plane.now
   pub divisor : IsDivisor w.area

@@ -1,6 +1,7 @@
 //! Heights divided by the area, in 2^40ths: a step is one addition of 64 bits, and the depth is the high 24 bits.
 
 ghost use Rattle.std.specs.Prelude.{◌≡◌, ℤ, ◌≤◌, ◌<◌, ◌+◌, ◌*◌, pos, unsigned_abs, ℕ, slice_index};
+ghost use Rattle.gfxspec.specs.Limits.{side_bound};
 ghost use Rattle.depthplane.specs.Division.{IsDivision, IsDivisor, IsRest};
 ghost use Rattle.depthplane.specs.Linear.{value_at};
 ghost use Rattle.depthplane.specs.Scaled.{IsScaled, IsScaledLinear, excess_at};
@@ -88,7 +89,7 @@ impl Scaled {
 
     /// The values at pixel (x, y) and the seven to its right.
     pub(crate) fn eight_at(self, x: u32, y: u32) -> [u64; 8]
-        requires x { x < 4096 }
+        requires x { x < side_bound }
         ensures near { (f : Linear) (divisor : ℤ) → IsDivisor divisor → IsScaledLinear f divisor self → (j : ℕ) → j < 8
             → IsScaled (value_at f (x + j) y) divisor (excess_at self.error (x + j) y) (slice_index result j) }
         ensures fits { (j : ℕ) → j < 8 → slice_index result j < 18446744073709551616 }

@@ -4,6 +4,7 @@
 /// to span; their depths are promised within 32 rows and columns of where they began.
 pub trait Walks: Drop {
     ghost use Rattle.std.specs.Prelude.{◌≡◌, ℕ, ◌<◌, ◌+◌, IsTrue, slice_index};
+    ghost use Rattle.gfxspec.specs.Limits.{side_bound};
     ghost use Rattle.gfxspec.specs.Raster.{centre, covers};
     ghost use Rattle.depthplane.specs.Place.{depth_of};
     ghost use Rattle.depthplane.specs.Places.{Places, IsNearStart};
@@ -19,12 +20,12 @@ pub trait Walks: Drop {
 
     /// Goes one row down.
     fn next(&mut self)
-        requires { (place self.old).y < 4096 }
+        requires { (place self.old).y < side_bound }
         ensures { place self.new ≡ record (place self.old) { y = (place self.old).y + 1 } };
 
     /// Goes eight pixels to the right, to the next span of the row.
     fn eight_right(&mut self)
-        requires { (place self.old).x < 4096 }
+        requires { (place self.old).x < side_bound }
         ensures { place self.new ≡ record (place self.old) { x = (place self.old).x + 8 } };
 
     /// The same walks once more, for the rows of one column of spans.

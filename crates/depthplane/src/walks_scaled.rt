@@ -1,6 +1,7 @@
 //! Eight walks by additions: each keeps its height, divided by the area, in 2^40ths.
 
 ghost use Rattle.std.specs.Prelude.{◌≡◌, ◌≢◌, ℕ, ◌<◌, ◌≤◌, ◌+◌, ◌*◌, ◌/◌, ◌%◌, ℤ, pos, ◌*ℤ◌, int_lt, IsTrue, slice_index, unsigned_abs, if◌then◌else◌};
+ghost use Rattle.gfxspec.specs.Limits.{side_bound};
 ghost use Rattle.depthplane.specs.Division.{IsDivisor};
 ghost use Rattle.gfxspec.specs.Raster.{centre};
 ghost use Rattle.depthplane.specs.Height.{height, size_of};
@@ -107,8 +108,8 @@ fn is_sure(area: i64, error: u8) -> bool
 impl Plane {
     /// Eight walks that begin at pixel (x, y) and the seven to its right.
     pub fn walk_eight(&self, x: u32, y: u32) -> ScaledWalks<'_>
-        requires x { x < 4096 }
-        requires y { y < 4096 }
+        requires x { x < side_bound }
+        requires y { y < side_bound }
         ensures { result ≡ record { plane = self.now; left = x; top = y; x = x; y = y } }
     {
         let scaled = self.scaled;

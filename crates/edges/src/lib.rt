@@ -9,6 +9,7 @@ mod reach;
 mod walk;
 
 ghost use Rattle.std.specs.Prelude.{◌≡◌, ◌≢◌, ◌↔◌, ℕ, ◌≤◌, ◌<◌, ◌^◌, ◌+◌, pos, ◌≤ℤ◌, ◌+ℤ◌, unsigned_abs, IsNone, IfSome, IsTrue};
+ghost use Rattle.gfxspec.specs.Limits.{side_bound, walk_bound};
 ghost use Rattle.gfxspec.specs.Raster.{Point, area, centre, covers, edge, edge_holds};
 ghost use Rattle.gfxspec.specs.Tiles.{IsIn};
 ghost use Rattle.snap.specs.Bounds.{step_bound};
@@ -66,8 +67,8 @@ impl EdgeFunction {
     /// The value at the centre of pixel (x, y).
     fn at(self, x: u32, y: u32) -> i64
         requires small { IsSmall self }
-        requires x { x < 4096 }
-        requires y { y < 4096 }
+        requires x { x < side_bound }
+        requires y { y < side_bound }
         ensures { result ≡ linear self x y }
     {
         self.origin + x as i64 * self.step_x + y as i64 * self.step_y
@@ -118,15 +119,15 @@ impl EdgeSet {
     /// The value of edge i at the centre of pixel (x, y): at least 0 exactly where the edge holds there.
     pub fn at(&self, i: usize, x: u32, y: u32) -> i64
         requires edge { i < 3 }
-        requires x { x < 4096 }
-        requires y { y < 4096 }
+        requires x { x < side_bound }
+        requires y { y < side_bound }
         ensures holds { (pos 0 ≤ℤ result) ↔ IsTrue (edge_holds (edge self.now i) (centre x y)) }
         ensures value { result ≡ edge_value (edge self.now i) x y }
         ensures bound { unsigned_abs result ≤ 2 ^ 45 }
 
         // the same of the value at any other pixel, which stays small as far as twice the greatest target
         ensures anywhere { (u v : ℕ) → (pos 0 ≤ℤ edge_value (edge self.now i) u v) ↔ IsTrue (edge_holds (edge self.now i) (centre u v)) }
-        ensures small { (u v : ℕ) → u < 8192 → v < 8192 → unsigned_abs (edge_value (edge self.now i) u v) ≤ 2 ^ 45 }
+        ensures small { (u v : ℕ) → u < walk_bound → v < walk_bound → unsigned_abs (edge_value (edge self.now i) u v) ≤ 2 ^ 45 }
     {
         self.functions[i].at(x, y)
     }
@@ -152,10 +153,10 @@ impl EdgeSet {
     /// The pixels among the first 4,096 each way whose centres lie between the corners' least and greatest places in
     /// both directions. No other of them has a covered centre.
     pub fn bounds(&self) -> PixelRect
-        ensures exact { (x y : ℕ) → x < 4096 → y < 4096 → IsIn result x y ↔ IsWithinExtremes self.now (centre x y) }
-        ensures covered { (x y : ℕ) → x < 4096 → y < 4096 → IsTrue (covers self.now (centre x y)) → IsIn result x y }
-        ensures right { result.right ≤ 4096 }
-        ensures bottom { result.bottom ≤ 4096 }
+        ensures exact { (x y : ℕ) → x < side_bound → y < side_bound → IsIn result x y ↔ IsWithinExtremes self.now (centre x y) }
+        ensures covered { (x y : ℕ) → x < side_bound → y < side_bound → IsTrue (covers self.now (centre x y)) → IsIn result x y }
+        ensures right { result.right ≤ side_bound }
+        ensures bottom { result.bottom ≤ side_bound }
     {
         let across = centres_between(&self.triangle.x);
         let down = centres_between(&self.triangle.y);

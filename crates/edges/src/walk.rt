@@ -1,6 +1,7 @@
 //! The values of a triangle's edges at a pixel, walked over the spans of a tile.
 
 ghost use Rattle.std.specs.Prelude.{◌≡◌, ℕ, ◌<◌, ◌+◌, pos, slice_index_or};
+ghost use Rattle.gfxspec.specs.Limits.{side_bound};
 ghost use Rattle.gfxspec.specs.Raster.{edge};
 ghost use Rattle.edges.specs.Value.{edge_value};
 ghost use Rattle.edges.specs.Walk.{IsWalked, StepRight};
@@ -34,8 +35,8 @@ impl<'a> Model for EdgeWalk<'a> {
 impl EdgeSet {
     /// A walk that begins at pixel (x, y).
     pub fn walk(&self, x: u32, y: u32) -> EdgeWalk<'_>
-        requires x { x < 4096 }
-        requires y { y < 4096 }
+        requires x { x < side_bound }
+        requires y { y < side_bound }
         ensures { result ≡ record { triangle = self.now; x = x; y = y } }
     {
         EdgeWalk {
@@ -70,8 +71,8 @@ impl<'a> EdgeWalk<'a> {
     /// Goes one row down.
     #[inline]
     pub fn down(&mut self)
-        requires x { self.old.x < 4096 }
-        requires y { self.old.y < 4096 }
+        requires x { self.old.x < side_bound }
+        requires y { self.old.y < side_bound }
         ensures { self.new ≡ record self.old { y = self.old.y + 1 } }
     {
         self.values = [
@@ -85,8 +86,8 @@ impl<'a> EdgeWalk<'a> {
     /// Goes eight pixels to the right, to the next span of the row.
     #[inline]
     pub fn eight_right(&mut self)
-        requires x { self.old.x < 4096 }
-        requires y { self.old.y < 4096 }
+        requires x { self.old.x < side_bound }
+        requires y { self.old.y < side_bound }
         ensures { self.new ≡ record self.old { x = self.old.x + 8 } }
     {
         self.values = [

@@ -2,7 +2,7 @@
 
 ghost use Rattle.std.specs.Prelude.{◌≡◌, ◌<◌, ◌≤◌, ℕ, IsTrue};
 ghost use Rattle.gfxspec.specs.declared.geometry.Size.{Size};
-ghost use Rattle.gfxspec.specs.Limits.{is_size};
+ghost use Rattle.gfxspec.specs.Limits.{is_size, side_bound};
 ghost use Rattle.gfxspec.specs.Tiles.{tiles_along, tile_count, tile_rect, IsInTile, EachPixelOnce};
 
 use crate::geometry::{PixelRect, Size};
@@ -18,7 +18,7 @@ pub fn is_size(size: Size) -> bool
 
 /// How many tiles stand side by side along so many pixels.
 pub fn tiles_along(side: u32) -> u32
-    requires { side ≤ 4096 }
+    requires { side ≤ side_bound }
     ensures value { result ≡ tiles_along side }
     ensures few { result ≤ 128 }
 {
@@ -55,5 +55,5 @@ pub fn tile_rect(size: Size, tile: u32) -> PixelRect
 /// The tiles of any target have each of its pixels once, and there are few of them.
 pub fn tiles_have_each_pixel_once()
     ensures once { (s : Size) → EachPixelOnce s }
-    ensures few { (s : Size) → s.width ≤ 4096 → s.height ≤ 4096 → tile_count s ≤ 16384 }
+    ensures few { (s : Size) → s.width ≤ side_bound → s.height ≤ side_bound → tile_count s ≤ 16384 }
 {}

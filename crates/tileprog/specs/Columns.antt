@@ -1,6 +1,7 @@
 -- Columns of spans of a tile, under a clip rectangle.
 use Rattle.std.specs.Prelude.{ℕ, ◌≡◌, ◌+◌, ◌-◌, ◌*◌, ◌<◌, ◌≤◌}
 use Rattle.gfxspec.specs.declared.geometry.PixelRect.{PixelRect}
+use Rattle.gfxspec.specs.Limits.{side_bound}
 use Rattle.gfxspec.specs.Raster.{Triangle}
 use Rattle.gfxspec.specs.Tiles.{IsInTile}
 use Rattle.edges.specs.Walk.{StepRight}
@@ -16,8 +17,8 @@ pub record IsColumn (c : Column) (t : Triangle) (r : PixelRect) : Type 0 where
   pub x : c.x ≡ r.left + 8 * c.span
   pub within : IsWithin c.clip r
   pub tile : IsInTile r
-  pub wide : r.left + 32 ≤ 4096
-  pub high : r.top + 32 ≤ 4096
+  pub wide : r.left + 32 ≤ side_bound
+  pub high : r.top + 32 ≤ side_bound
   pub steps : StepRight t c.steps
 
 -- a row of the clip rectangle, counted within the tile

@@ -4,6 +4,7 @@ use Rattle.std.specs.Borrow.{Bor}
 use Rattle.std.specs.Int.{bit_at}
 use Rattle.gfxspec.specs.declared.geometry.PixelRect.{PixelRect}
 use Rattle.gfxspec.specs.declared.pixel.Pixel.{Pixel}
+use Rattle.gfxspec.specs.Limits.{side_bound}
 use Rattle.gfxspec.specs.Tiles.{IsInTile}
 use Rattle.tileblock.specs.Block.{Block, pixel_at}
 use Rattle.tileword.specs.declared.edge_mask.EdgeMask.{EdgeMask}
@@ -74,5 +75,5 @@ pub record IsTile (r : PixelRect) : Type 0 where
   pub place : IsInTile r
   pub wide : r.left < r.right
   pub high : r.top < r.bottom
-  pub right : r.left + 32 ≤ 4096
-  pub bottom : r.top + 32 ≤ 4096
+  pub right : r.left + 32 ≤ side_bound
+  pub bottom : r.top + 32 ≤ side_bound

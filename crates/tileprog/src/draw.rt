@@ -1,6 +1,7 @@
 //! A triangle over a tile.
 
 ghost use Rattle.std.specs.Prelude.{◌≡◌, ◌<◌, ◌≤◌, ◌+◌, ◌*◌};
+ghost use Rattle.gfxspec.specs.Limits.{side_bound};
 ghost use Rattle.gfxspec.specs.Tiles.{IsInTile};
 ghost use Rattle.edges.specs.Walk.{StepRight};
 ghost use Rattle.meaning.specs.Over.{sum_over};
@@ -33,8 +34,8 @@ fn draw_spans<A: Allocator, W: Walks>(
 ) -> u32
     requires within { IsWithin clip block.old.rect }
     requires tile { IsInTile block.old.rect }
-    requires wide { block.old.rect.left + 32 ≤ 4096 }
-    requires high { block.old.rect.top + 32 ≤ 4096 }
+    requires wide { block.old.rect.left + 32 ≤ side_bound }
+    requires high { block.old.rect.top + 32 ≤ side_bound }
     requires named { IsNamed plane.now mask block.old.rect }
     requires steps { StepRight plane.now.triangle steps }
     requires begun { block.old.rect.left + 8 * first ≤ clip.left }
@@ -70,8 +71,8 @@ pub(crate) fn draw<A: Allocator>(
 ) -> u32
     requires within { IsWithin clip block.old.rect }
     requires tile { IsInTile block.old.rect }
-    requires wide { block.old.rect.left + 32 ≤ 4096 }
-    requires high { block.old.rect.top + 32 ≤ 4096 }
+    requires wide { block.old.rect.left + 32 ≤ side_bound }
+    requires high { block.old.rect.top + 32 ≤ side_bound }
     requires named { IsNamed triangle.now.plane mask block.old.rect }
     ensures drew { Stroked (record { brush = brush.now; plane = triangle.now.plane; mask = mask; clip = clip }) block.old block.new }
     ensures count { result ≡ sum_over block.old.rect (stroke_count (record { brush = brush.now; plane = triangle.now.plane; mask = mask; clip = clip }) block.old) }

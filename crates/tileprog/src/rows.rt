@@ -1,6 +1,7 @@
 //! The spans of a column, one by one.
 
 ghost use Rattle.std.specs.Prelude.{◌≡◌, ◌<◌, ◌≤◌, ◌+◌, ◌&&◌, nat_le, nat_lt, ℕ, if◌then◌else◌};
+ghost use Rattle.gfxspec.specs.Limits.{side_bound};
 ghost use Rattle.gfxspec.specs.Raster.{centre};
 ghost use Rattle.edges.specs.Walk.{StepRight};
 ghost use Rattle.lanes.specs.Stencil.{has};
@@ -24,8 +25,8 @@ use tileblock::TileBlock;
 #[inline]
 fn lanes_left(column: &Column, edges: &EdgeWalk<'_>) -> u8
     requires place { column.now.x ≡ edges.now.x }
-    requires x { edges.now.x < 4096 }
-    requires y { edges.now.y < 4096 }
+    requires x { edges.now.x < side_bound }
+    requires y { edges.now.y < side_bound }
     requires steps { StepRight edges.now.triangle column.now.steps }
     ensures { (j : ℕ) → j < 8 → has result j ≡ ((nat_le column.now.clip.left (column.now.x + j) && nat_lt (column.now.x + j) column.now.clip.right)
         && passes_edges column.now.mask edges.now.triangle (centre (column.now.x + j) edges.now.y)) }

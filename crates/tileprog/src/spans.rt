@@ -2,6 +2,7 @@
 
 ghost use Rattle.std.specs.Prelude.{◌≡◌, ◌<◌, ◌≤◌, ◌+◌, ◌==◌, ◌&&◌, ◌||◌, not, ℕ, List, slice_index, if◌then◌else◌};
 ghost use Rattle.std.specs.Int.{bit_at};
+ghost use Rattle.gfxspec.specs.Limits.{side_bound};
 ghost use Rattle.gfxspec.specs.Raster.{centre};
 ghost use Rattle.gfxspec.specs.Depth.{biased};
 ghost use Rattle.gfxspec.specs.DepthStencil.{compares};
@@ -24,8 +25,8 @@ use tileblock::TileBlock;
 /// The pixels of a span, which begins at the walk's pixel, where the edges of the mask hold.
 #[inline]
 pub(crate) fn cover(walk: &EdgeWalk<'_>, steps: [i64; 3], mask: u8) -> u8
-    requires x { walk.now.x < 4096 }
-    requires y { walk.now.y < 4096 }
+    requires x { walk.now.x < side_bound }
+    requires y { walk.now.y < side_bound }
     requires steps { StepRight walk.now.triangle steps }
     ensures { (j : ℕ) → j < 8 → has result j ≡ passes_edges mask walk.now.triangle (centre (walk.now.x + j) walk.now.y) }
 {

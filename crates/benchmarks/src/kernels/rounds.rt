@@ -2,6 +2,7 @@
 //! next or into a sum, so that none is left out.
 
 ghost use Rattle.std.specs.Prelude.{◌≤◌, ◌<◌, ◌≢◌, ℕ, pos, unsigned_abs, slice_index, All};
+ghost use Rattle.gfxspec.specs.Limits.{side_bound};
 ghost use Rattle.gfxspec.specs.Raster.{area};
 ghost use Rattle.gfxspec.specs.Vertices.{IsDepth};
 ghost use Rattle.snap.specs.Corners.{triangle_of};
@@ -140,7 +141,7 @@ pub(crate) fn choices(calls: u32) -> u64 {
 
 /// Puts the depths of a column of spans, from the row y of a tile on.
 fn column(plane: &Plane, x: u32, y: u32, depths: &mut Spans)
-    requires x { x < 4096 }
+    requires x { x < side_bound }
     requires y { y < 4000 }
 {
     let mut walkers = plane.walk_eight(x, y);
