@@ -1,6 +1,7 @@
 //! Whether numbers are popped and stolen: a gate holds one of two workers until the other has run all tiles but its own.
 
 use crate::boards::amounts::{make_amounts, place_all};
+use crate::meeting::Meeting;
 use board::Board;
 use std::alloc::Global;
 use std::sync::atomic::AtomicU64;
@@ -9,18 +10,17 @@ use std::test::Fail;
 use std::thread;
 use workers::{Gate, run_all};
 
-/// Holds the first claim of worker 1 until three tiles are handed in, for so many turns at most.
+/// Holds the first claims of two workers until both have come, and that of worker 1 until three tiles are handed in, for so
+/// many turns at most.
 #[derive(Drop)]
 struct HeldUp {
+    first_claims: Meeting,
     handed_in: AtomicU64,
     late: AtomicU64,
 }
 
-impl Gate for HeldUp {
-    fn before_claim(&self, worker: u32, turn: u64) {
-        if worker != 1 || turn > 0 {
-            return;
-        }
+impl HeldUp {
+    fn wait_for_three(&self) {
         for _ in 0..20_000_000u64 {
             if self.handed_in.load(SeqCst) >= 3 {
                 return;
@@ -28,6 +28,18 @@ impl Gate for HeldUp {
             thread::yield_now();
         }
         self.late.fetch_add(1, SeqCst);
+    }
+}
+
+impl Gate for HeldUp {
+    fn before_claim(&self, worker: u32, turn: u64) {
+        if turn > 0 {
+            return;
+        }
+        self.first_claims.wait();
+        if worker == 1 {
+            self.wait_for_three();
+        }
     }
 
     fn after_hand_in(&self, _worker: u32, _turn: u64) {
@@ -41,6 +53,7 @@ fn a_worker_that_is_held_up_is_robbed(rt: HostRuntime) -> Result<(), Fail> {
     let alloc: Global = rt.alloc();
     let job = make_amounts(4);
     let gate = HeldUp {
+        first_claims: Meeting::new(2),
         handed_in: AtomicU64::new(0),
         late: AtomicU64::new(0),
     };
@@ -48,6 +61,7 @@ fn a_worker_that_is_held_up_is_robbed(rt: HostRuntime) -> Result<(), Fail> {
     place_all(&board, &mut seat, 4);
     let seat = run_all(&rt, &board, seat, &job, 1, &gate);
     assert!(rt; board.close(seat).is_ok());
+    assert!(rt; gate.first_claims.all_came());
     assert_eq!(rt; gate.late.load(SeqCst), 0);
     Ok(())
 }
