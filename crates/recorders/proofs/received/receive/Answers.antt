@@ -1,4 +1,4 @@
-use Rattle.std.proofs.Common.{ap, map}
+use Rattle.std.proofs.Common.{rules, ap, map}
 use Rattle.port.specs.History.{DrainHistory}
 use Rattle.scenetext.specs.Seen.{line_value}
 use Rattle.recorders.proofs.ReceivedLemmas.{four_desks}
@@ -14,3 +14,6 @@ invariant_of-result g c = (
       (record { lines_is = c.start-3.ensures.lines; queue_is = c.start-3.ensures.queue; number_is = c.start-3.ensures.number; none_came = c.start-3.ensures.came })
       (record { lines_is = c.start-4.ensures.lines; queue_is = c.start-4.ensures.queue; number_is = c.start-4.ensures.number; none_came = c.start-4.ensures.came }),
 )
+
+pub returns : goal.returns
+returns g c = search rules

@@ -3,3 +3,6 @@ use Rattle.recorders.proofs.threads.open_ports.Goals as goal
 
 pub returns : goal.returns
 returns g c = search rules
+
+pub returns-in_default : goal.returns-in_default
+returns-in_default g c = search rules

@@ -1,4 +1,4 @@
-use Rattle.std.proofs.Common.{◌≡◌, arith, sym, subst, map}
+use Rattle.std.proofs.Common.{rules, ◌≡◌, arith, sym, subst, map}
 use Rattle.std.specs.Prelude.{MatchOption}
 use Rattle.scenetext.specs.Seen.{line_value}
 use Rattle.recorders.specs.Fours.{at_port}
@@ -23,3 +23,6 @@ returns-clause-lacks g c k n low lacks =
     let before = subst (λ (r : Receipts _). ReceiptLacks r k n) (sym c.self.view_is) lacks in
     let same = each_of_four (λ p. MatchOption (at_port c.self.inside.desks p).handed (Unit {0}) (λ q. at_port (record { zero = c.close.result; one = c.close-2.result; two = c.close-3.result; three = c.close-4.result }) p ≡ q)) c.close.ensures.same c.close-2.ensures.same c.close-3.ensures.same c.close-4.ensures.same in
     lacks_same (at_port c.self.inside.desks (port_of k)).handed _ (same (port_of k) (port_low k low)) (is_second k) n before
+
+pub returns-clause-drain : goal.returns-clause-drain
+returns-clause-drain g c = search rules

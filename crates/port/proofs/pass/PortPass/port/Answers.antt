@@ -1,0 +1,5 @@
+use Rattle.std.proofs.Common.{rules}
+use Rattle.port.proofs.pass.PortPass.port.Goals as goal
+
+pub returns : goal.returns
+returns g c = search rules
