@@ -1,4 +1,4 @@
-use Rattle.std.proofs.Common.{◌∙◌, sym, []}
+use Rattle.std.proofs.Common.{rules, ◌∙◌, sym, []}
 use Rattle.std.proofs.lemmas.List.{append-nil}
 use Rattle.recorders.proofs.ReceivedLemmas.{agrees_earlier}
 use Rattle.recorders.proofs.received.ReceivedShelvesCommandList.seek.Goals as goal
@@ -20,3 +20,6 @@ returns-clause-agrees g c agrees =
     agrees_earlier c.args.self.now c.empty.new.self c.empty.ensures.more.0 c.empty.ensures.frame c.empty.ensures.more.1
     (agrees_earlier c.empty.new.self c.join.new.self [] c.join.ensures.frame (c.join.ensures.taken ∙ sym (append-nil c.empty.new.self.taken))
     (agrees_earlier c.join.new.self c.complete.new.self c.complete.ensures.more.0 c.complete.ensures.frame c.complete.ensures.more.1 agrees))
+
+pub returns-clause-found : goal.returns-clause-found
+returns-clause-found g c = search rules
