@@ -44,13 +44,11 @@ pub(crate) fn command<'a>(alloc: Global) -> Result<Command<'a>, AllocError>
     ensures app { IfOk result (λ c. app_of c ≡ tiledraw) }
     ensures words { IfOk result HasWords }
 {
-    let script = required(alloc, SCRIPT).help("The script to draw");
-    let image = required(alloc, IMAGE).help("The Truevision TGA image to write");
     Command::new(alloc, "tiledraw")
         .no_binary_name(true)
         .about("Draws a script by a software Direct3D 11 device")
-        .arg(script)?
-        .arg(image)?
+        .arg(required(alloc, SCRIPT).help("The script to draw"))?
+        .arg(required(alloc, IMAGE).help("The Truevision TGA image to write"))?
         .arg(workers_option(alloc))
 }
 

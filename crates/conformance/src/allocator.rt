@@ -23,9 +23,11 @@ fn the_named_growth_is_refused(rt: HostRuntime) {
         (0, true, 3),
     ] {
         let alloc = Refusing::new(rt.alloc(), n);
-        assert_eq!(rt; grow_three_times(&alloc).is_ok(), works, "growth {n}");
-        assert_eq!(rt; alloc.refused(), !works, "growth {n}");
-        assert_eq!(rt; alloc.count(), count, "growth {n}");
+        let came = grow_three_times(&alloc).is_ok();
+        assert!(rt;
+            came == works && alloc.refused() != works && alloc.count() == count,
+            "growth {n}"
+        );
     }
 }
 
@@ -35,9 +37,9 @@ fn a_refused_growth_loses_nothing(rt: HostRuntime) -> Result<(), Fail> {
     let mut some = Vec::with_capacity(&alloc, 1)?;
     some.push(7u32)?;
     assert!(rt; some.push(8).is_err());
-    assert_eq!(rt; some.as_slice(), [7].as_slice());
+    assert!(rt; matches!(some.as_slice(), [7]));
     some.push(9)?;
-    assert_eq!(rt; some.as_slice(), [7, 9].as_slice());
+    assert!(rt; matches!(some.as_slice(), [7, 9]));
     Ok(())
 }
 

@@ -13,20 +13,29 @@ const CORNER: Vertex = Vertex {
     rgba: [9; 4],
 };
 
-/// How many commands two lists have: vertices and a cleared target, and the next one with the kept state.
-fn two_lists<A: Allocator + Copy>(alloc: A) -> Result<usize, GfxError> {
+/// How many commands a list has that is made of some calls.
+fn finished<A: Allocator + Copy>(
+    context: &mut DeferredContext<A>,
+    calls: &[Call],
+    restore: bool,
+) -> Result<usize, GfxError> {
+    record_all(context, calls)?;
+    Ok(context.finish(restore)?.commands().len())
+}
+
+/// How many commands each of two lists has: vertices and a cleared target, and the next one with the kept state.
+fn two_lists<A: Allocator + Copy>(alloc: A) -> Result<(usize, usize), GfxError> {
     let mut context = DeferredContext::new(alloc);
     let calls = [Call::SetVertices(&[CORNER; 3]), Call::ClearColor([1; 4])];
-    record_all(&mut context, &calls)?;
-    let first = context.finish(true)?.commands().len();
-    context.clear_color([2; 4])?;
-    Ok(first + context.finish(false)?.commands().len())
+    let first = finished(&mut context, &calls, true)?;
+    let second = finished(&mut context, &[Call::ClearColor([2; 4])], false)?;
+    Ok((first, second))
 }
 
 #[test]
 fn each_growth_refused_in_turn(rt: HostRuntime) {
     let ample = Refusing::new(rt.alloc(), 0);
-    assert_eq!(rt; two_lists(&ample), Ok(4));
+    assert_eq!(rt; two_lists(&ample), Ok((2, 2)));
     let growths = ample.count();
     assert!(rt; growths >= 4);
     for n in 1..=growths {

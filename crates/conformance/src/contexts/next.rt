@@ -1,6 +1,6 @@
 //! The execution of submissions.
 
-ghost use Rattle.std.specs.Prelude.{◌≡◌};
+ghost use Rattle.std.specs.Prelude.{◌≡◌, IfOk};
 
 use crate::contexts::clearing;
 use crate::ports::apart;
@@ -34,20 +34,32 @@ fn assert_one_submission<R: Abort + Threads + Sync + Wait>(
     assert!(rt; matches!(empty, Ok(None)));
 }
 
-/// A context and a list for it.
-fn context_and_list(
+/// Ports in which one list waits, of context 2.
+fn ports_with_one<R: Wait>(
+    rt: &R,
     alloc: Global,
-) -> Result<(ImmediateContext<Global>, CommandList<Global>), GfxError> {
+) -> Result<
+    (
+        Ports<CommandList<Global>, Global>,
+        DrainPass<CommandList<Global>>,
+    ),
+    GfxError,
+>
+    ensures { IfOk result (λ made. made.1.queue ≡ made.0.queue) }
+{
     let list = clearing(alloc)?;
-    Ok((ImmediateContext::new(alloc, 1, 1)?, list))
+    let (ports, passes, drain) = Ports::<CommandList<Global>, Global>::new(alloc)?;
+    let (_zero, _one, mut two, _three) = apart(passes);
+    match ports.submit(rt, &mut two, list) {
+        Ok(_) => Ok((ports, drain)),
+        Err((refusal, _list)) => Err(refusal),
+    }
 }
 
 #[test]
 fn one_submission(rt: HostRuntime) -> Result<(), Fail> {
-    let (mut context, list) = context_and_list(rt.alloc())?;
-    let (ports, passes, mut drain) = Ports::<CommandList<Global>, Global>::new(rt.alloc())?;
-    let (_zero, _one, mut two, _three) = apart(passes);
-    assert!(rt; ports.submit(&rt, &mut two, list).is_ok());
+    let (ports, mut drain) = ports_with_one(&rt, rt.alloc())?;
+    let mut context = ImmediateContext::new(rt.alloc(), 1, 1)?;
     assert_one_submission(&rt, &mut context, &ports, &mut drain);
     Ok(())
 }

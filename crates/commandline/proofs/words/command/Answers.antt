@@ -9,8 +9,8 @@ use Rattle.commandline.proofs.words.command.Goals as goal
 pub returns-clause-words : goal.returns-clause-words
 returns-clause-words c =
     let start = c.about.result in
-    let script = c.help-script.result in
-    let image = c.help-image.result in
+    let script = c.help.result in
+    let image = c.help-2.result in
     let workers = c.workers_option.result in
     let first = c.in_ok-arg.field-0 in
     let second = c.in_ok-arg-2.field-0 in
