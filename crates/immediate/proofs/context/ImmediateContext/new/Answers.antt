@@ -12,3 +12,6 @@ returns-clause-new g c =
       results = λ q l. ap (λ results. result_at results q) c.in_ok-output.ensures.results ∙ get_or-replicate 64 q None None l;
       pending = c.new-2.ensures;
     }
+
+pub returns-clause-size : goal.returns-clause-size
+returns-clause-size g c = c.in_ok-output.ensures.size
