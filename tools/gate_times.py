@@ -3,9 +3,9 @@
 
     tools/gate_times.py [rt ci]
 
-The first table has for each crate the processor seconds of its proof, of its tests and of its edits; what compiling and linking took is in no
-row. Behind it stand the edits that took longest; the first edit of a crate is left out, since it is a proof of the crate from nothing.
-What the command itself prints goes to standard error."""
+The first table has for each crate the processor seconds of its proof, of its tests, of the seed of its edits (the proof that they begin with, and
+a look at it behind them) and of its edits; what compiling and linking took is in no row. Behind it stand the edits that took longest. What
+the command itself prints goes to standard error."""
 import collections
 import os
 import subprocess
@@ -32,16 +32,18 @@ def seen(process):
 
 
 def check_of(process):
-    """Returns the crate that a process checks, the kind of its check, and the folder that it works in; or None."""
+    """Returns the crate that a process checks, the kind of its check, and for an edit its number; or None."""
     words = read(f"/proc/{process}/cmdline").decode(errors="replace").split("\0")
     if os.path.basename(words[0]) != "rattle" or "--crate-name" not in words:
         return None
     try:
-        folder = os.readlink(f"/proc/{process}/cwd")
+        is_edit = "/rt-edit-" in os.readlink(f"/proc/{process}/cwd")
     except OSError:
         return None
-    kind = "edits" if "/rt-edit-" in folder else "tests" if "--test" in words else "proof"
-    return words[words.index("--crate-name") + 1], kind, folder
+    # a crate's only edit is tried from nothing, others over what their seed kept
+    over = os.path.basename(words[words.index("--incremental") + 1]) if "--incremental" in words else "0"
+    kind = "seed" if is_edit and over == "seed" else "edits" if is_edit else "tests" if "--test" in words else "proof"
+    return words[words.index("--crate-name") + 1], kind, int(over) if kind == "edits" else None
 
 
 def sample(checks):
@@ -57,13 +59,13 @@ def sample(checks):
 
 
 def edits_of(crate, checks):
-    """Returns the seconds of a crate's edits by name, in the order in which the gate tries them."""
-    folders = collections.OrderedDict()
-    for name, kind, folder, seconds in checks.values():
+    """Returns the seconds and names of a crate's edits; the gate numbers them in the order of their names."""
+    spent = collections.Counter()
+    for name, kind, number, seconds in checks.values():
         if (name, kind) == (crate, "edits"):
-            folders[folder] = folders.get(folder, 0) + seconds
+            spent[number] += seconds
     names = [it for it in sorted(os.listdir(f"{CRATES}/{crate}/must-fail")) if it.endswith(".edit")]
-    return list(zip(names, folders.values()))
+    return [(seconds, f"{crate}/{names[number]}") for number, seconds in spent.items()]
 
 
 def main():
@@ -79,14 +81,12 @@ def main():
     spent = collections.defaultdict(collections.Counter)
     for name, kind, _, seconds in checks.values():
         spent[name][kind] += seconds
-    kinds = ("proof", "tests", "edits")
+    kinds = ("proof", "tests", "seed", "edits")
     for name in sorted(spent, key=lambda it: -sum(spent[it].values())):
         print("|", name, "|", " | ".join(str(round(spent[name][it])) for it in kinds), "|")
     print("| all, in minutes |", " | ".join(str(round(sum(it[kind] for it in spent.values()) / 60)) for kind in kinds), "|")
-    tried = [[(seconds, name, edit) for edit, seconds in edits_of(name, checks)] for name in spent if spent[name]["edits"]]
-    print(f"{sum(it[0][0] for it in tried) / 60:.0f} minutes for the first edit of each crate")
-    for seconds, name, edit in sorted((edit for it in tried for edit in it[1:]), reverse=True)[:40]:
-        print(f"{seconds:6.1f} {name}/{edit}")
+    for seconds, edit in sorted((it for name in spent if spent[name]["edits"] for it in edits_of(name, checks)), reverse=True)[:40]:
+        print(f"{seconds:6.1f} {edit}")
     times = os.times()
     print(f"{(time.time() - started) / 60:.0f} minutes, {(times.children_user + times.children_system) / 60:.0f} processor minutes")
     return running.returncode
