@@ -12,7 +12,7 @@ use Rattle.depthplane.specs.declared.scaled.Scaled.{Scaled}
 use Rattle.depthplane.specs.Division.{IsDivision, IsDivisor, IsRest}
 use Rattle.depthplane.specs.Linear.{value_at}
 use Rattle.depthplane.specs.Scaled.{IsScaled, IsScaledLinear, excess_at}
-use Rattle.depthplane.proofs.DivisionLaws.{Splits, splits, only_split}
+use Rattle.depthplane.proofs.DivisionLaws.{splits, only_split}
 
 -- what v is more than the scaled number, in parts of the divisor, and how many multiples of 2^64 it left out
 pub record Lies (n divisor : ℤ) (excess v : ℕ) (over turns : ℤ) : Type 0 where

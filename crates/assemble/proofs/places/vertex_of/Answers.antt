@@ -1,5 +1,6 @@
-use Rattle.std.proofs.Common.{rules}
+use Rattle.std.proofs.Common.{rules, arith}
 use Rattle.assemble.proofs.places.vertex_of.Goals as goal
+use Rattle.std.proofs.lemmas.Grind.{common_steps}
 
 pub from-requires : goal.from-requires
 from-requires c = search rules
@@ -18,3 +19,6 @@ offset_bounds-vertices-from c = search rules
 
 pub bounds-vertices-from : goal.bounds-vertices-from
 bounds-vertices-from c = search rules
+
+pub returns : goal.returns
+returns c = grind (arith, common_steps)

@@ -1,9 +1,10 @@
-use Rattle.std.proofs.Common.{rules, ◌≡◌, ◌+◌, ◌*◌, ◌/◌, subst, refl, min}
+use Rattle.std.proofs.Common.{rules, ◌≡◌, ◌+◌, ◌*◌, ◌/◌, subst, refl, min, arith}
 use Rattle.gfxspec.specs.Tiles.{tiles_along, tile_rect}
 use Rattle.binner.specs.Lists.{AddsTriangle, ChangesAt}
 use Rattle.binner.proofs.Grid.{short_partly, column_done, row_ends, rows_end, column_within}
 use Rattle.binner.proofs.Changing.{added_longer}
 use Rattle.binner.proofs.lists.add_to_tiles.Goals as goal
+use Rattle.std.proofs.lemmas.Grind.{common_steps}
 
 pub add_triangle-requires-clause-room : goal.add_triangle-requires-clause-room
 add_triangle-requires-clause-room g c =
@@ -35,3 +36,6 @@ rows-preserved g c =
 pub returns-clause-added : goal.returns-clause-added
 returns-clause-added g c =
     rows_end c.args.lists.now c.rows.lists c.args.setup.now.edges c.args.setup.now.bounds c.args.current c.args.number (c.args.setup.now.bounds.left / 32) c.tiles_along-right.result (c.args.setup.now.bounds.top / 32) c.rows.row refl (search rules) refl (search rules) c.rows.invariant
+
+pub add_triangle-requires-clause-tile : goal.add_triangle-requires-clause-tile
+add_triangle-requires-clause-tile g c = grind (arith, common_steps)

@@ -1,4 +1,4 @@
-use Rattle.std.proofs.Common.{rules, arith, ℕ, ◌+◌, ◌*◌, ◌%◌, w64, FitsSigned}
+use Rattle.std.proofs.Common.{rules, w64, FitsSigned}
 use Rattle.std.proofs.lemmas.Int.{to_z-of_z}
 use Rattle.depthplane.proofs.ScaledLaws.{parts_near, parts_exact}
 use Rattle.depthplane.proofs.scaled.parts_of.Goals as goal

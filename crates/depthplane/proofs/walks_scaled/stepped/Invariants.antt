@@ -1,4 +1,4 @@
-use Rattle.std.proofs.Common.{◌≡◌, ℕ, ◌<◌, ◌+◌, ◌/◌, ◌%◌, length, slice_index}
+use Rattle.std.proofs.Common.{◌≡◌, ℕ, ◌<◌, ◌+◌, ◌%◌, length, slice_index}
 use Rattle.depthplane.proofs.walks_scaled.stepped.Given as goal
 
 abbrev pub invariant-loop-j : goal.invariant-loop-j

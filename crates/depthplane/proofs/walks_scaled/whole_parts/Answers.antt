@@ -1,4 +1,4 @@
-use Rattle.std.proofs.Common.{rules, arith, ◌≡◌, ◌∙◌, ap, ℕ, ◌<◌, ◌^◌, ◌/◌, ◌%◌, length, slice_index, List, [], ◌∷◌, w64}
+use Rattle.std.proofs.Common.{arith, ◌≡◌, ◌∙◌, ap, ℕ, ◌^◌, ◌/◌, ◌%◌, length, slice_index, List, [], ◌∷◌, w64}
 use Rattle.std.proofs.lemmas.Simd.{get_or-zip2, get_or-replicate}
 use borrow.Rule.Simd.Lanes.{act2}
 use borrow.Table.Row.{s_int}

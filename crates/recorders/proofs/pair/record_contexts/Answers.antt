@@ -1,4 +1,4 @@
-use Rattle.std.proofs.Common.{rules, ◌≡◌, ◌∙◌, ap, sym, subst, length, map, ◌+◌, ◌&&◌, []}
+use Rattle.std.proofs.Common.{arith, rules, ◌≡◌, ◌∙◌, ap, sym, subst, length, map, ◌+◌, ◌&&◌, []}
 use Rattle.std.specs.Prelude.{is_none}
 use Rattle.std.proofs.lemmas.List.{length-map}
 use Rattle.scenetext.specs.Seen.{line_value}
@@ -8,6 +8,7 @@ use Rattle.recorders.specs.Keeping.{Posted, posted_lists}
 use Rattle.recorders.specs.Pairs.{is_empty_list}
 use Rattle.recorders.proofs.PairLemmas.{pair_sent, flipped}
 use Rattle.recorders.proofs.pair.record_contexts.Goals as goal
+use Rattle.std.proofs.lemmas.Grind.{common_steps}
 
 pub returns-clause-sent : goal.returns-clause-sent
 returns-clause-sent g c =
@@ -69,3 +70,7 @@ returns-clause-queue g c = search rules
 
 pub returns-clause-port : goal.returns-clause-port
 returns-clause-port g c = search rules
+
+pub record_context-second_stop-requires-clause-empty :
+    goal.record_context-second_stop-requires-clause-empty
+record_context-second_stop-requires-clause-empty g c = grind (arith, common_steps)

@@ -3,6 +3,7 @@ use Rattle.gfxspec.specs.declared.geometry.PixelRect.{PixelRect}
 use Rattle.tileprog.specs.Strokes.{Stroke}
 use Rattle.tileprog.proofs.Columning.{row_more, all_rows}
 use Rattle.tileprog.proofs.columns.open_column.Goals as goal
+use Rattle.std.proofs.lemmas.Grind.{common_steps}
 
 pub loop-row-preserved : goal.loop-row-preserved
 loop-row-preserved g c =
@@ -27,3 +28,6 @@ returns g c =
     let s : Stroke = record { brush = c.args.brush; plane = c.args.plane.now; mask = k.mask; clip = k.clip } in
     let old = c.args.block.now in
     all_rows s old c.loop-row.block k.x (old.rect.top + c.loop-row.row) c.loop-row.passed (search rules) c.loop-row.invariant.so_far (search rules)
+
+pub loop-row-init : goal.loop-row-init
+loop-row-init g c = grind (arith, common_steps)

@@ -1,5 +1,5 @@
-use Rattle.std.proofs.Common.{◌≡◌, ◌∙◌, ap, sym, refl, subst, Bool, true, false, ℕ}
-use Rattle.std.specs.Prelude.{slice_index, if◌then◌else◌, ◌<◌}
+use Rattle.std.proofs.Common.{◌∙◌, ap, subst}
+use Rattle.std.specs.Prelude.{◌<◌}
 use Rattle.lanes.specs.Stencil.{has, stencil_after}
 use Rattle.tileblock.specs.SpanStored.{lane_pixel}
 use Rattle.tileprog.proofs.Spanning.{changed, unchanged}

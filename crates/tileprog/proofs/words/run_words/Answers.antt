@@ -1,4 +1,4 @@
-use Rattle.std.proofs.Common.{◌≡◌, ◌∙◌, sym, subst, refl, rules, Some}
+use Rattle.std.proofs.Common.{◌≡◌, ◌∙◌, sym, subst, refl, rules, Some, arith}
 use Rattle.tileword.specs.Word.{decoded}
 use Rattle.binmem.specs.Lists.{words_of}
 use Rattle.binner.specs.Meaning.{ProgramFits}
@@ -8,6 +8,7 @@ use Rattle.tileprog.proofs.Targets.{tile_is}
 use Rattle.tileprog.proofs.words.run_words.Goals.{then-passed-ne0, else-passed-ne0}
 use Rattle.tileprog.proofs.Targets.{tile_is}
 use Rattle.tileprog.proofs.words.run_words.Goals as goal
+use Rattle.std.proofs.lemmas.Grind.{common_steps}
 
 pub loop-number-init : goal.loop-number-init
 loop-number-init g c =
@@ -58,3 +59,36 @@ pub returns : goal.returns
 returns g c =
     none_left c.args.compiled.now.tables (words_of c.args.compiled.now.numbers c.args.tile) c.args.block.now c.args.compiled.now c.args.tile c.loop-number.number-iterator (shown c.loop-number.force) c.loop-number.block c.loop-number.counts
     refl refl c.in-None.ensures.steps.0 c.loop-number.invariant
+
+pub size-size-requires : goal.size-size-requires
+size-size-requires g c κs = search rules
+
+pub words-number-items-requires : goal.words-number-items-requires
+words-number-items-requires g c = search rules
+
+pub into_iter-number-iterator-requires : goal.into_iter-number-iterator-requires
+into_iter-number-iterator-requires g c κs = search rules
+
+pub next-requires : goal.next-requires
+next-requires g c = search rules
+
+pub decode-requires : goal.decode-requires
+decode-requires g c = search rules
+
+pub unreachable-requires : goal.unreachable-requires
+unreachable-requires g c = search rules
+
+pub unreachable-unreachable : goal.unreachable-unreachable
+unreachable-unreachable g c = search rules
+
+pub run_word-passed-requires-clause-tile : goal.run_word-passed-requires-clause-tile
+run_word-passed-requires-clause-tile g c = grind (arith, common_steps)
+
+pub run_word-passed-requires-clause-fits : goal.run_word-passed-requires-clause-fits
+run_word-passed-requires-clause-fits g c = search rules
+
+pub count_word-requires-clause-room : goal.count_word-requires-clause-room
+count_word-requires-clause-room g c = search rules
+
+pub loop-number-smaller : goal.loop-number-smaller
+loop-number-smaller g c = search rules

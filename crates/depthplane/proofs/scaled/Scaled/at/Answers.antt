@@ -1,6 +1,3 @@
-use Rattle.std.proofs.Common.{arith, ℕ, ◌<◌, ◌+◌, ◌*◌, ◌%◌}
-use Rattle.depthplane.specs.Linear.{value_at}
-use Rattle.depthplane.specs.Scaled.{IsScaled, excess_at}
 use Rattle.depthplane.proofs.ScaledLaws.{at_pixel}
 use Rattle.depthplane.proofs.scaled.Scaled.at.Goals as goal
 

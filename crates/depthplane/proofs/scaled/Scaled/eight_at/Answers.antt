@@ -1,4 +1,4 @@
-use Rattle.std.proofs.Common.{rules, arith, ◌≡◌, ◌≢◌, ℕ, ◌<◌, ◌+◌, below_more, subst, sym, length, slice_index}
+use Rattle.std.proofs.Common.{rules, arith, ◌≢◌, ℕ, ◌<◌, ◌+◌, below_more, subst, sym, slice_index}
 use Rattle.std.specs.Prelude.{slice_set}
 use Rattle.std.proofs.lemmas.List.{get_or-set_same, get_or-set_other}
 use Rattle.depthplane.specs.Linear.{value_at}

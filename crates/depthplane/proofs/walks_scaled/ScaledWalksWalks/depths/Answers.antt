@@ -1,4 +1,4 @@
-use Rattle.std.proofs.Common.{rules, arith, ◌≡◌, ◌∙◌, ap, sym, subst, IsTrue, ℕ, ◌<◌, ◌≤◌, ◌+◌, ◌^◌, ◌*◌, slice_index}
+use Rattle.std.proofs.Common.{rules, arith, ◌≡◌, ◌∙◌, ap, subst, IsTrue, ℕ, ◌<◌, ◌+◌, ◌*◌, slice_index}
 use Rattle.std.specs.Prelude.{unsigned_abs}
 use Rattle.gfxspec.specs.Raster.{area, centre, covers}
 use Rattle.depthplane.specs.Division.{IsDivisor}

@@ -1,4 +1,4 @@
-use Rattle.std.proofs.Common.{rules, arith, ◌≡◌, ap, sym, subst, ℕ, ◌<◌, ◌≤◌, ◌+◌, ◌*◌, slice_index}
+use Rattle.std.proofs.Common.{arith, ◌≡◌, ap, subst, ℕ, ◌<◌, ◌+◌, ◌*◌, slice_index}
 use Rattle.gfxspec.specs.Raster.{centre}
 use Rattle.depthplane.specs.Height.{height, size_of}
 use Rattle.depthplane.specs.Places.{Places}

@@ -1,5 +1,6 @@
-use Rattle.std.proofs.Common.{rules}
+use Rattle.std.proofs.Common.{rules, arith}
 use Rattle.recorders.proofs.received.Received.complete.Goals as goal
+use Rattle.std.proofs.lemmas.Grind.{common_steps}
 
 pub forever-items-requires : goal.forever-items-requires
 forever-items-requires g c κs = search rules
@@ -60,3 +61,9 @@ unreachable-requires g c = search rules
 
 pub unreachable-unreachable : goal.unreachable-unreachable
 unreachable-unreachable g c = search rules
+
+pub loop-preserved : goal.loop-preserved
+loop-preserved g c = grind (arith, common_steps)
+
+pub returns-in_err-take_one-clause-more : goal.returns-in_err-take_one-clause-more
+returns-in_err-take_one-clause-more g c = grind (arith, common_steps)

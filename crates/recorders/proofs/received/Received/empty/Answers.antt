@@ -1,5 +1,6 @@
-use Rattle.std.proofs.Common.{rules}
+use Rattle.std.proofs.Common.{rules, arith}
 use Rattle.recorders.proofs.received.Received.empty.Goals as goal
+use Rattle.std.proofs.lemmas.Grind.{common_steps}
 
 pub forever-items-requires : goal.forever-items-requires
 forever-items-requires g c κs = search rules
@@ -45,3 +46,12 @@ unreachable-requires g c = search rules
 
 pub unreachable-unreachable : goal.unreachable-unreachable
 unreachable-unreachable g c = search rules
+
+pub returns-in_err-take_one-clause-more : goal.returns-in_err-take_one-clause-more
+returns-in_err-take_one-clause-more g c = grind (arith, common_steps)
+
+pub returns-then-not-branch-clause-more : goal.returns-then-not-branch-clause-more
+returns-then-not-branch-clause-more g c = grind (arith, common_steps)
+
+pub loop-preserved : goal.loop-preserved
+loop-preserved g c = grind (arith, common_steps)

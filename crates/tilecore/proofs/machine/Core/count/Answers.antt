@@ -1,9 +1,10 @@
-use Rattle.std.proofs.Common.{◌≡◌, ◌<◌, ◌+◌, ◌∙◌, sym, subst, arith, length, set, get_or}
+use Rattle.std.proofs.Common.{◌≡◌, ◌<◌, ◌+◌, ◌∙◌, sym, subst, arith, length, set, get_or, rules}
 use Rattle.std.proofs.lemmas.List.{get_or_default}
 use Rattle.tilecore.specs.Schedule.{worker, a_tile, counts, was_counted, IsReached}
 use Rattle.tilecore.proofs.Reaching.{reached_after, its_counts, its_share}
 use Rattle.tilecore.proofs.Applying.{has_tile, has_none, the_worker_is, written_back, count_refused, count_added}
 use Rattle.tilecore.proofs.machine.Core.count.Goals as goal
+use Rattle.std.proofs.lemmas.Grind.{common_steps}
 
 pub returns-then-is_none-clause-step : goal.returns-then-is_none-clause-step
 returns-then-is_none-clause-step g c =
@@ -46,3 +47,18 @@ returns-clause-reached g c = reached_after c.args.self.now (counts c.args.worker
 
 pub invariant_of-self-2 : goal.invariant_of-self-2
 invariant_of-self-2 g c = (c.self.invariant.0, returns-clause-reached g c)
+
+pub index_mut-crew-requires : goal.index_mut-crew-requires
+index_mut-crew-requires g c = grind (arith, common_steps)
+
+pub is_none-requires : goal.is_none-requires
+is_none-requires g c κs = search rules
+
+pub invariant_of-self : goal.invariant_of-self
+invariant_of-self g c = grind (arith, common_steps)
+
+pub returns-then-is_none-clause-was_reached : goal.returns-then-is_none-clause-was_reached
+returns-then-is_none-clause-was_reached g c = search rules
+
+pub returns-clause-was_reached : goal.returns-clause-was_reached
+returns-clause-was_reached g c = search rules

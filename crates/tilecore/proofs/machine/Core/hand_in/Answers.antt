@@ -5,6 +5,7 @@ use Rattle.tilecore.specs.Meaning.{hands_of}
 use Rattle.tilecore.proofs.Reaching.{reached_after, its_tile, its_counts, its_share_fits}
 use Rattle.tilecore.proofs.Applying.{from_not, from_not', same_lists, other_lists, the_worker_is, written_back, hand_in_refused, hand_in_differs, hand_in_done, tile_count}
 use Rattle.tilecore.proofs.machine.Core.hand_in.Goals as goal
+use Rattle.std.proofs.lemmas.Grind.{common_steps}
 
 pub returns-in_default-clause-step : goal.returns-in_default-clause-step
 returns-in_default-clause-step g c =
@@ -79,3 +80,12 @@ make_zero-requires g c κs = search rules
 
 pub returns-clause-was_reached : goal.returns-clause-was_reached
 returns-clause-was_reached g c = search rules
+
+pub index_mut-crew-requires : goal.index_mut-crew-requires
+index_mut-crew-requires g c = grind (arith, common_steps)
+
+pub invariant_of-self : goal.invariant_of-self
+invariant_of-self g c = grind (arith, common_steps)
+
+pub invariant_of-self-then-ne : goal.invariant_of-self-then-ne
+invariant_of-self-then-ne g c = grind (arith, common_steps)
