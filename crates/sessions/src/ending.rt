@@ -60,6 +60,14 @@ pub(crate) fn line_number<A: Allocator>(lines: &[Line<A>], place: usize) -> u64
     place as u64 + 2
 }
 
+/// The number of the line behind a scene's last, at which the pending commands are run once more.
+pub(crate) fn line_behind<A: Allocator>(scene: &Scene<A>) -> u64
+    ensures { result ≡ length scene.now.lines + 2 }
+{
+    let lines = scene.lines.as_slice();
+    line_number(lines, lines.len())
+}
+
 /// Ends a scene in which a line was refused: the answers of the lines before it stay.
 pub(crate) fn end_at<A: Allocator + Copy>(
     scene: &Scene<A>,

@@ -1,22 +1,24 @@
 //! A script, performed in threads as far as to what there is to write.
 
-ghost use Rattle.std.specs.Prelude.{◌≡◌, ◌≤◌, ◌<◌, map, IfOk, MatchOption};
+ghost use Rattle.std.specs.Prelude.{true, ◌≡◌, ◌≤◌, ◌<◌, map, IfOk, MatchOption};
+ghost use Rattle.gfxspec.specs.Limits.{is_size};
 ghost use Rattle.scenetext.specs.Seen.{line_value};
 ghost use Rattle.scenetext.specs.SeenScene.{scene_value};
 ghost use Rattle.scenetext.specs.Spelling.{IsScene};
 ghost use Rattle.recorders.specs.Apart.{listed};
+ghost use Rattle.recorders.specs.Ending.{AreRecorded};
 ghost use Rattle.recorders.specs.Receiving.{AreNew, AreHanded, TakenAgrees, HandedLacks};
 ghost use Rattle.sessions.specs.Owning.{MayPlay, HasPlayed, missing_in};
 ghost use Rattle.sessions.specs.Writing.{Draws, Writes};
 ghost use Rattle.sessions.specs.Performing.{output_by};
 
 use crate::crewed::{flush, play_with_workers};
-use crate::ending::{Performance, end_at, first_stop, line_number, stopped};
+use crate::ending::{Performance, end_at, first_stop, line_behind, stopped};
 use crate::own::Own;
 use cmdlist::CommandList;
 use immediate::ImmediateContext;
 use port::{DrainPass, PortPass, Ports};
-use recorders::{Four, Handed, Opened, open_ports, receive, settle};
+use recorders::{Four, Handed, Opened, Stop, open_ports, receive, settle};
 use scenetext::{Line, Scene, read};
 use std::alloc::{AllocError, Allocator};
 use std::sync::Wait;
@@ -107,8 +109,45 @@ fn run_in_scope<A: Allocator + Copy + Send + Sync, R: Threads + Wait + Sync, G: 
     )
 }
 
+/// Ends a scene behind its lines: at the first that was refused, and else with a last run of the pending commands, with
+/// workers beside the caller.
+fn end_in_threads<A: Allocator + Copy + Send + Sync, R: Threads + Sync, G: Gate + Sync>(
+    rt: &R,
+    workers: u32,
+    gate: &G,
+    scene: &Scene<A>,
+    deferred: Option<Stop>,
+    own: Own<A>,
+) -> Performance<A>
+    requires workers { workers ≤ 15 }
+    requires sized { is_size scene.now.size ≡ true }
+    requires scene { IsScene (scene_value scene.now) }
+    requires recorded { AreRecorded scene.now.lines deferred (missing_in own.pause) }
+    requires played { HasPlayed scene.now.size scene.now.lines own.immediate own.answers.text.items own.answers.marks.items own.pause }
+    ensures { Draws (scene_value scene.now) (output_by result.answers.items result.end) }
+{
+    if let Some(stop) = first_stop(deferred, &own) {
+        return end_at(scene, stop, own);
+    }
+    let Own {
+        mut immediate,
+        answers,
+        pause: _,
+    } = own;
+    match flush(rt, workers, gate, &mut immediate) {
+        Ok(()) => Performance {
+            answers: answers.text,
+            end: Ok(immediate),
+        },
+        Err(refusal) => Performance {
+            answers: answers.text,
+            end: Err((line_behind(scene), refusal.number())),
+        },
+    }
+}
+
 /// Draws a scene: records the deferred contexts in up to four threads, while this one takes the lines of the immediate
-/// context, with workers beside it. Behind the last line the pending commands are run once more.
+/// context, with workers beside it.
 ///
 /// Refused with want of memory for the ports.
 fn draw_in_threads<A: Allocator + Copy + Send + Sync, R: Threads + Wait + Sync, G: Gate + Sync>(
@@ -135,25 +174,7 @@ fn draw_in_threads<A: Allocator + Copy + Send + Sync, R: Threads + Wait + Sync, 
     let own = Own::new(alloc, immediate, lines);
     let round = run_in_scope(rt, alloc, &ports, workers, gate, passes, drain, lines, own);
     let deferred = settle(rt, ports, round.handed, round.drain);
-    let own = round.own;
-    if let Some(stop) = first_stop(deferred, &own) {
-        return Ok(end_at(scene, stop, own));
-    }
-    let Own {
-        mut immediate,
-        answers,
-        pause: _,
-    } = own;
-    match flush(rt, workers, gate, &mut immediate) {
-        Ok(()) => Ok(Performance {
-            answers: answers.text,
-            end: Ok(immediate),
-        }),
-        Err(refusal) => Ok(Performance {
-            answers: answers.text,
-            end: Err((line_number(lines, lines.len()), refusal.number())),
-        }),
-    }
+    Ok(end_in_threads(rt, workers, gate, scene, deferred, round.own))
 }
 
 /// Reads a script and draws its scene in threads. What comes out is what there is to write.
