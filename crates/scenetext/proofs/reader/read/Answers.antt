@@ -1,4 +1,4 @@
-use Rattle.std.proofs.Common.{◌≡◌, ℕ, ◌<◌, List, [], ◌∷◌, ◌++◌, length, map, replicate, sym, ap, subst, ◌∙◌, arith}
+use Rattle.std.proofs.Common.{◌≡◌, ℕ, ◌<◌, List, [], ◌∷◌, ◌++◌, length, map, replicate, sym, ap, subst, ◌∙◌, arith, rules}
 use Rattle.std.proofs.lemmas.Bool.Decides.{nat_tests}
 use Rattle.std.proofs.lemmas.List.{length-map}
 use Rattle.scenetext.specs.declared.fault.ReadError.TheVariants as errors
@@ -6,6 +6,7 @@ use Rattle.scenetext.specs.Scene.{Line}
 use Rattle.scenetext.specs.Seen.{line_value}
 use Rattle.scenetext.proofs.LoopLemmas.{SoFar, starts, goes_on, seen_more, fails, first_fails, first_known, is_read}
 use Rattle.scenetext.proofs.reader.read.Goals as goal
+use Rattle.std.proofs.lemmas.Grind.{common_steps}
 
 pub returns-in-Err-clause-refused : goal.returns-in-Err-clause-refused
 returns-in-Err-clause-refused g c = rw c.number_of.ensures (first_fails c.args.text.now c.in-Err.error c.in-Err.ensures.err)
@@ -46,3 +47,78 @@ pub returns-clause-scene : goal.returns-clause-scene
 returns-clause-scene g c =
     let none : length c.loop-rest.rest.now ≡ 0 = grind (arith, nat_tests) in
     rw c.from_vec.ensures (is_read c.args.text.now c.in-Ok.first.0 (map line_value c.loop-rest.lines.items) c.loop-rest.finished c.loop-rest.rest.now c.loop-rest.invariant none)
+
+pub is_empty-requires : goal.is_empty-requires
+is_empty-requires g c κs = search rules
+
+pub number-requires : goal.number-requires
+number-requires g c = search rules
+
+pub returns-then-is_empty-clause-scene : goal.returns-then-is_empty-clause-scene
+returns-then-is_empty-clause-scene g c = search rules
+
+pub returns-then-is_empty-clause-refused : goal.returns-then-is_empty-clause-refused
+returns-then-is_empty-clause-refused g c = grind (arith, common_steps)
+
+pub returns-then-is_empty-clause-first_line : goal.returns-then-is_empty-clause-first_line
+returns-then-is_empty-clause-first_line g c = search rules
+
+pub first_of-requires : goal.first_of-requires
+first_of-requires g c = search rules
+
+pub number_of-requires : goal.number_of-requires
+number_of-requires g c = search rules
+
+pub returns-in-Err-clause-scene : goal.returns-in-Err-clause-scene
+returns-in-Err-clause-scene g c = search rules
+
+pub is_empty-requires-in-loop-rest : goal.is_empty-requires-in-loop-rest
+is_empty-requires-in-loop-rest g c κs = search rules
+
+pub overflow_add-number : goal.overflow_add-number
+overflow_add-number g c = search rules
+
+pub next_of-requires : goal.next_of-requires
+next_of-requires g c = search rules
+
+pub number_of-requires-in-Err-next_of : goal.number_of-requires-in-Err-next_of
+number_of-requires-in-Err-next_of g c = search rules
+
+pub returns-in-Err-next_of-clause-scene : goal.returns-in-Err-next_of-clause-scene
+returns-in-Err-next_of-clause-scene g c = search rules
+
+pub returns-in-Err-next_of-clause-first_line : goal.returns-in-Err-next_of-clause-first_line
+returns-in-Err-next_of-clause-first_line g c = search rules
+
+pub count_finish-requires-clause-actor : goal.count_finish-requires-clause-actor
+count_finish-requires-clause-actor g c = search rules
+
+pub count_finish-requires-clause-room : goal.count_finish-requires-clause-room
+count_finish-requires-clause-room g c = grind (arith, common_steps)
+
+pub drop-push-requires : goal.drop-push-requires
+drop-push-requires g c κs = search rules
+
+pub drop-requires : goal.drop-requires
+drop-requires g c κs = search rules
+
+pub number_of-requires-then-is_err : goal.number_of-requires-then-is_err
+number_of-requires-then-is_err g c = search rules
+
+pub returns-then-is_err-clause-scene : goal.returns-then-is_err-clause-scene
+returns-then-is_err-clause-scene g c = search rules
+
+pub returns-then-is_err-clause-first_line : goal.returns-then-is_err-clause-first_line
+returns-then-is_err-clause-first_line g c = search rules
+
+pub loop-rest-smaller : goal.loop-rest-smaller
+loop-rest-smaller g c = search rules
+
+pub from_vec-requires : goal.from_vec-requires
+from_vec-requires g c κs = search rules
+
+pub returns-clause-refused : goal.returns-clause-refused
+returns-clause-refused g c = search rules
+
+pub returns-clause-first_line : goal.returns-clause-first_line
+returns-clause-first_line g c = search rules

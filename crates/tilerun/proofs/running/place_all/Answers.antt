@@ -8,6 +8,7 @@ use Rattle.tilerun.specs.Moving.{AreOut}
 use Rattle.tilerun.proofs.Lists.{listed_at, not_before, take_next}
 use Rattle.tilerun.proofs.Moves.{one_out}
 use Rattle.tilerun.proofs.running.place_all.Goals as goal
+use Rattle.std.proofs.lemmas.Grind.{common_steps}
 
 pub open-requires-clause-place : goal.open-requires-clause-place
 open-requires-clause-place g c =
@@ -32,3 +33,9 @@ loop-place-preserved g c =
           (subst (λ (os : List g.row.J-Open.Denot). AreOut number block (take (n + 1) ts) c.args.target.now (without c.loop-place.target t) os) (sym (ap (λ v. v.placed) c.place.ensures.placed))
           (subst (λ (xs : List ℕ). AreOut number block xs c.args.target.now (without c.loop-place.target t) (c.loop-place.seat.view.placed ++ o ∷ [])) more out));
     }
+
+pub loop-place-init : goal.loop-place-init
+loop-place-init g c = grind (arith, common_steps)
+
+pub returns-clause-out : goal.returns-clause-out
+returns-clause-out g c = grind (arith, common_steps)
