@@ -94,8 +94,8 @@ fn words_of_four_tiles(rt: HostRuntime) -> Result<(), Fail> {
             "tile {tile}"
         );
     }
-    assert_eq!(rt; compiled.touched(), [0, 1, 2, 3].as_slice());
-    assert_eq!(rt; compiled.issues(), 3);
+    assert!(rt; compiled.touched() == [0, 1, 2, 3].as_slice());
+    assert!(rt; compiled.issues() == 3);
     Ok(())
 }
 

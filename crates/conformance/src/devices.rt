@@ -99,11 +99,11 @@ fn little_and_interrupted_reads_give_all(rt: HostRuntime) -> Result<(), Fail> {
         ],
     );
     let bytes = gather(rt.alloc(), &mut little)?;
-    assert_eq!(rt; bytes.as_slice(), LINE.as_slice());
-    assert_eq!(rt; little.failures(), 0);
+    assert!(rt; bytes.as_slice() == LINE.as_slice());
+    assert!(rt; little.failures() == 0);
     let mut long = source(&MORE_THAN_A_PIECE, &[Turn::Moves(4095)]);
     let bytes = gather(rt.alloc(), &mut long)?;
-    assert_eq!(rt; bytes.as_slice(), MORE_THAN_A_PIECE.as_slice());
+    assert!(rt; bytes.as_slice() == MORE_THAN_A_PIECE.as_slice());
     let mut empty = source(&[], &[Turn::Interrupts]);
     assert!(rt; gather(rt.alloc(), &mut empty)?.is_empty());
     Ok(())
@@ -118,11 +118,8 @@ fn a_failed_read_is_no_end(rt: HostRuntime) {
         &[Turn::Interrupts, Turn::Moves(11), Turn::Fails],
     ] {
         let mut failing = source(&LINE, turns);
-        assert_eq!(rt;
-            gather(rt.alloc(), &mut failing).err(),
-            Some(GatherError::Read)
-        );
-        assert_eq!(rt; failing.failures(), 1);
+        assert!(rt; gather(rt.alloc(), &mut failing).err() == Some(GatherError::Read));
+        assert!(rt; failing.failures() == 1);
     }
 }
 
@@ -140,9 +137,9 @@ fn little_and_interrupted_writes_take_all(rt: HostRuntime) {
         },
     };
     let mut sink = ToWrite::new(&mut writer);
-    assert_eq!(rt; put_all(&mut sink, &LINE), Ok(()));
-    assert_eq!(rt; sink.failures(), 0);
-    assert_eq!(rt; writer.taken.as_slice(), LINE.as_slice());
+    assert!(rt; put_all(&mut sink, &LINE) == Ok(()));
+    assert!(rt; sink.failures() == 0);
+    assert!(rt; writer.taken.as_slice() == LINE.as_slice());
 }
 
 // A write that takes nothing is a failure too.
@@ -167,18 +164,18 @@ fn a_failed_write_says_what_was_taken(rt: HostRuntime) {
             turns: Turns { left: turns },
         };
         let mut sink = ToWrite::new(&mut writer);
-        assert_eq!(rt; put_all(&mut sink, &LINE), Err(taken));
-        assert_eq!(rt; sink.failures(), 1);
-        assert_eq!(rt; writer.taken.as_slice(), &LINE[..taken]);
+        assert!(rt; put_all(&mut sink, &LINE) == Err(taken));
+        assert!(rt; sink.failures() == 1);
+        assert!(rt; writer.taken.as_slice() == &LINE[..taken]);
     }
 }
 
 #[test]
 fn nothing_of_nothing_is_no_failure(rt: HostRuntime) {
     let mut reading = source(&LINE, &[]);
-    assert_eq!(rt; reading.get(&mut []), Ok(0));
-    assert_eq!(rt; reading.failures(), 0);
+    assert!(rt; reading.get(&mut []) == Ok(0));
+    assert!(rt; reading.failures() == 0);
     let mut writing = ToWrite::new(Vec::new(rt.alloc()));
-    assert_eq!(rt; writing.put(&[]), Ok(0));
-    assert_eq!(rt; writing.failures(), 0);
+    assert!(rt; writing.put(&[]) == Ok(0));
+    assert!(rt; writing.failures() == 0);
 }

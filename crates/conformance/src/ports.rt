@@ -43,10 +43,10 @@ fn settle_behind_the_last<R: Wait + Abort>(
     requires passes { AreAll ports.queue passes }
     requires drain { drain.queue ≡ ports.queue }
 {
-    assert_eq!(rt; take(rt, &ports, &mut drain), Some((1, 0, 9)));
-    assert_eq!(rt; take(rt, &ports, &mut drain), None);
+    assert!(rt; take(rt, &ports, &mut drain) == Some((1, 0, 9)));
+    assert!(rt; take(rt, &ports, &mut drain).is_none());
     let settled = ports.settle(passes, drain);
-    assert_eq!(rt; settled.ok(), Some([2, 1, 0, 0]));
+    assert!(rt; settled.ok() == Some([2, 1, 0, 0]));
 }
 
 #[test]
@@ -59,10 +59,10 @@ fn two_ports(rt: HostRuntime) -> Result<(), Fail> {
     assert!(rt; ports.submit(&rt, &mut zero, 7).is_ok());
     assert!(rt; ports.submit(&rt, &mut zero, 8).is_ok());
     assert!(rt; ports.submit(&rt, &mut one, 9).is_ok());
-    assert_eq!(rt; (zero.port(), zero.sent()), (0, 2));
-    assert_eq!(rt; (one.port(), one.sent()), (1, 1));
-    assert_eq!(rt; take(&rt, &ports, &mut drain), Some((0, 0, 7)));
-    assert_eq!(rt; take(&rt, &ports, &mut drain), Some((0, 1, 8)));
+    assert!(rt; (zero.port(), zero.sent()) == (0, 2));
+    assert!(rt; (one.port(), one.sent()) == (1, 1));
+    assert!(rt; take(&rt, &ports, &mut drain) == Some((0, 0, 7)));
+    assert!(rt; take(&rt, &ports, &mut drain) == Some((0, 1, 8)));
     let back = match ports.settle([zero, one, two, three], drain) {
         Ok(_) => panic!(rt; "one is left"),
         Err(back) => back,
@@ -83,7 +83,7 @@ fn at_most_64_wait(rt: HostRuntime) -> Result<(), Fail> {
     let Err((refused, list)) = ports.submit(&rt, &mut zero, 64) else {
         panic!(rt; "65 wait")
     };
-    assert_eq!(rt; (refused.number(), list), (19, 64));
+    assert!(rt; (refused.number(), list) == (19, 64));
     Ok(())
 }
 
@@ -133,11 +133,11 @@ fn take_forty<R: Wait + Abort>(rt: &R, ports: &Ports<u64, Global>, drain: &mut D
             panic!(rt; "forty were sent")
         };
         let port = next.port as usize;
-        assert_eq!(rt; (next.number, next.list), (due[port], due[port]));
+        assert!(rt; (next.number, next.list) == (due[port], due[port]));
         assert!(rt; next.number < 10);
         due[port] = next.number + 1;
     }
-    assert_eq!(rt; due, [10; 4]);
+    assert!(rt; due == [10; 4]);
 }
 
 #[test]
@@ -162,7 +162,7 @@ fn four_threads(rt: HostRuntime) -> Result<(), Fail> {
     );
     take_forty(handle, all, &mut drain);
     let settled = ports.settle([zero, one, two, three], drain);
-    assert_eq!(rt; settled.ok(), Some([10; 4]));
+    assert!(rt; settled.ok() == Some([10; 4]));
     Ok(())
 }
 
@@ -171,10 +171,10 @@ fn each_growth_refused(rt: HostRuntime) {
     for n in 1..5u64 {
         let alloc = Refusing::new(rt.alloc(), n);
         let refused = Ports::<u32, &Refusing<Global>>::new(&alloc).err();
-        assert_eq!(rt; refused, Some(GfxError::OutOfMemory), "growth {n}");
+        assert!(rt; refused == Some(GfxError::OutOfMemory), "growth {n}");
         assert!(rt; alloc.refused() && alloc.count() == n);
     }
     let alloc = Refusing::new(rt.alloc(), 0);
     assert!(rt; Ports::<u32, &Refusing<Global>>::new(&alloc).is_ok());
-    assert_eq!(rt; alloc.count(), 4);
+    assert!(rt; alloc.count() == 4);
 }

@@ -18,31 +18,35 @@ fn schedules(rt: HostRuntime) {
     for n in 1..6u64 {
         let alloc = Refusing::new(rt.alloc(), n);
         let refused = schedule_refusal(&alloc);
-        assert_eq!(rt; refused, Some(GfxError::OutOfMemory), "growth {n}");
-        assert_eq!(rt; alloc.count(), n);
+        assert!(rt; refused == Some(GfxError::OutOfMemory), "growth {n}");
+        assert!(rt; alloc.count() == n);
     }
     let alloc = Refusing::new(rt.alloc(), 6);
     assert!(rt; schedule_refusal(&alloc).is_none());
-    assert_eq!(rt; alloc.count(), 5);
+    assert!(rt; alloc.count() == 5);
+}
+
+/// How a board for three tiles is refused.
+fn board_refusal<A: Allocator>(alloc: &A, named: bool) -> Option<GfxError> {
+    let job = make_amounts(3);
+    if named {
+        Board::new_named(alloc, &job).err()
+    } else {
+        Board::new(alloc, &job).err()
+    }
 }
 
 // The words and the places, each as a list and then in the table.
 #[test]
 fn boards(rt: HostRuntime) {
-    let job = make_amounts(3);
-    for n in 1..5u64 {
-        let alloc = Refusing::new(rt.alloc(), n);
-        let refused = Board::new(&alloc, &job).err();
-        assert_eq!(rt; refused, Some(GfxError::OutOfMemory), "growth {n}");
-        let alloc = Refusing::new(rt.alloc(), n);
-        let refused = Board::new_named(&alloc, &job).err();
-        assert_eq!(rt;
-            refused,
-            Some(GfxError::OutOfMemory),
-            "growth {n} by number"
-        );
+    for named in [false, true] {
+        for n in 1..5u64 {
+            let alloc = Refusing::new(rt.alloc(), n);
+            let refused = board_refusal(&alloc, named);
+            assert!(rt; refused == Some(GfxError::OutOfMemory), "growth {n}");
+        }
+        let alloc = Refusing::new(rt.alloc(), 5);
+        assert!(rt; board_refusal(&alloc, named).is_none());
+        assert!(rt; alloc.count() == 4);
     }
-    let alloc = Refusing::new(rt.alloc(), 5);
-    assert!(rt; Board::new(&alloc, &job).is_ok());
-    assert_eq!(rt; alloc.count(), 4);
 }

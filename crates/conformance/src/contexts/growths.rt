@@ -231,7 +231,7 @@ fn questions_of_a_settled_context_take_no_memory(rt: HostRuntime) -> Result<(), 
     work_with(&few, Work::Ask(0))?;
     let many = Refusing::new(rt.alloc(), 0);
     work_with(&many, Work::Ask(100))?;
-    assert_eq!(rt; few.count(), many.count());
+    assert!(rt; few.count() == many.count());
     Ok(())
 }
 
@@ -242,6 +242,6 @@ fn pixels_take_no_memory(rt: HostRuntime) -> Result<(), Fail> {
     work_with(&few, Work::Half(2))?;
     let many = Refusing::new(rt.alloc(), 0);
     work_with(&many, Work::Half(64))?;
-    assert_eq!(rt; few.count(), many.count());
+    assert!(rt; few.count() == many.count());
     Ok(())
 }

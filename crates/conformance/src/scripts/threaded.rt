@@ -43,8 +43,8 @@ fn assert_meeting<R: Threads + Wait + Abort + Sync>(
 ) {
     let gate = AllAtOnce::new(4);
     let run = run_threads(rt, alloc, alloc, script, SOUND, 3, &gate);
-    assert_eq!(rt; run.end, Ok(Ended::Done), "after {script}");
-    assert_eq!(rt; run.lines.as_slice(), answers.as_bytes());
+    assert!(rt; run.end == Ok(Ended::Done), "after {script}");
+    assert!(rt; run.lines.as_slice() == answers.as_bytes());
     assert!(rt; gate.all_came(), "after {script}");
 }
 
@@ -114,10 +114,7 @@ fn drawn_while_recorded(rt: HostRuntime) {
         0,
         &gate,
     );
-    assert_eq!(rt; run.end, Ok(Ended::Done));
-    assert_eq!(rt;
-        run.lines.as_slice(),
-        b"pixel 0 0 1 2 3 4 16777215 0\n".as_slice()
-    );
+    assert!(rt; run.end == Ok(Ended::Done));
+    assert!(rt; run.lines.as_slice() == b"pixel 0 0 1 2 3 4 16777215 0\n".as_slice());
     assert!(rt; gate.meeting.all_came());
 }
