@@ -104,6 +104,7 @@ impl<'a> Plain<'a> {
     }
 
     /// The next triangle.
+    #[inline(always)]
     fn next(&mut self) -> Option<Tri>
         ensures { MatchOption result ((self.old ≡ []) × (self.new ≡ [])) (λ tri. self.old ≡ primitive_of tri ∷ self.new) }
     {
@@ -205,6 +206,7 @@ impl<'a> Indexed<'a> {
     }
 
     /// The next triangle.
+    #[inline(always)]
     fn next(&mut self) -> Option<Tri>
         ensures { MatchOption result ((self.old ≡ []) × (self.new ≡ [])) (λ tri. self.old ≡ primitive_of tri ∷ self.new) }
     {
@@ -282,6 +284,7 @@ impl<'a> Iterator for Triangles<'a> {
 
     ghost remaining = { item_count (λ left. left) };
 
+    #[inline(always)]
     fn next(&mut self) -> Option<Tri> {
         match &mut self.source {
             Source::FromVertices(places) => places.next(),

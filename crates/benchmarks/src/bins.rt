@@ -97,7 +97,7 @@ fn one_round<R: Clock + AllocGlobal>(
     ensures { IfSome result (λ r. r.bins ≡ no_words 4096) }
 {
     let start = mark(rt);
-    let Ok(compiled) = compile(rt.alloc(), list.commands(), TARGET, bins) else {
+    let Ok(compiled) = compile(rt.alloc(), list.commands(), TARGET, &[false; 64], bins) else {
         return None;
     };
     let nanoseconds = between(start, mark(rt))?;

@@ -1,5 +1,5 @@
 -- One command more.
-use Rattle.std.proofs.Common.{◌≡◌, ◌∙◌, ap, sym, subst, refl, arith, ℕ, ◌+◌, ◌≤◌, List, [], ◌∷◌, ◌++◌, length, length-append, append-nil}
+use Rattle.std.proofs.Common.{◌≡◌, ◌∙◌, ap, sym, subst, refl, arith, ℕ, ℤ, ◌+◌, ◌≤◌, List, [], ◌∷◌, ◌++◌, length, length-append, append-nil}
 use Rattle.std.specs.Prelude.{Result, Ok, Err, OnOk}
 use Rattle.gfxspec.specs.declared.pixel.DepthStencil.{DepthStencil}
 use Rattle.gfxspec.specs.State.{Settings}
@@ -8,10 +8,31 @@ use Rattle.gfxspec.specs.Items.{Item}
 use Rattle.gfxspec.specs.Commands.{Command, ClearColor, ClearDepthStencil}
 use Rattle.gfxspec.specs.Recorded.{drawn_items, items_at}
 use Rattle.meaning.specs.OneMore.{triangles_of}
+use Rattle.cmdlist.specs.declared.command.Command.{Command as Code}
+use Rattle.cmdlist.specs.declared.command.Command.TheVariants as code
+use Rattle.cmdlist.specs.Seen.{command_value}
 use Rattle.binner.specs.declared.compiling.Compiling.{Compiling}
 use Rattle.binner.specs.Meaning.{AreBits, entry_of}
 use Rattle.binner.specs.Compiling.{HasCompiled, IsSound, IsEntry, IsCurrent, AddsColor, AddsDepth, Grows, Draws}
 use Rattle.binner.proofs.Growing.{color_means, color_sound, depth_means, depth_sound}
+
+-- a command that neither draws nor clears
+pub nothing_at : {A : Type 0} (k : Code A) (s : Settings) (opened : List ℕ) → ((x y : ℕ) → k ≡ code.Draw x y → ⊥) → ((x y : ℕ) (z : ℤ) → k ≡ code.DrawIndexed x y z → ⊥) → ((x : List ℕ) → k ≡ code.ClearColor x → ⊥) → ((x y : ℕ) → k ≡ code.ClearDepthStencil x y → ⊥) → items_at s opened (command_value k) ≡ []
+nothing_at (code.Draw x y) s opened a b c d = absurd (a x y refl)
+nothing_at (code.DrawIndexed x y z) s opened a b c d = absurd (b x y z refl)
+nothing_at (code.ClearColor x) s opened a b c d = absurd (c x refl)
+nothing_at (code.ClearDepthStencil x y) s opened a b c d = absurd (d x y refl)
+nothing_at (code.SetVertices v) s opened a b c d = refl
+nothing_at (code.SetIndices v) s opened a b c d = refl
+nothing_at (code.SetTopology v) s opened a b c d = refl
+nothing_at (code.SetRaster v) s opened a b c d = refl
+nothing_at (code.SetScissor v) s opened a b c d = refl
+nothing_at (code.SetDepthStencil v w) s opened a b c d = refl
+nothing_at (code.SetBlend v) s opened a b c d = refl
+nothing_at (code.SetPredication v) s opened a b c d = refl
+nothing_at (code.Begin v) s opened a b c d = refl
+nothing_at (code.End v) s opened a b c d = refl
+nothing_at (code.Kept v) s opened a b c d = refl
 
 -- a command that draws nothing
 pub draws_nothing : {A : Type 0} (s : Settings) (bits : ℕ) (c : Command) (k : Compiling A) → ((opened : List ℕ) → items_at s opened c ≡ []) → IsSound k → IsCurrent k s bits → Draws s bits c k k

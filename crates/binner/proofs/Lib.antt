@@ -15,6 +15,9 @@ pub mod Drawing
 pub mod Commands
 pub mod Opening
 pub mod Accepted
+pub mod Slices
+pub mod Filling
 pub mod Noting
 pub mod Whole
+pub mod Performing
 pub mod Ending

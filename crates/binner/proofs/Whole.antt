@@ -3,17 +3,20 @@ use Rattle.std.proofs.Common.{◌≡◌, ◌∙◌, ap, sym, subst, refl, arith,
 use Rattle.std.proofs.lemmas.List.{take_all}
 use Rattle.gfxspec.specs.State.{Settings}
 use Rattle.gfxspec.specs.Commands.{Command, Begin}
-use Rattle.gfxspec.specs.Recorded.{settings_after, open_after, items, items_at, issues, triangle_count}
+use Rattle.gfxspec.specs.Recorded.{settings_after, open_after, items, issues, triangle_count}
 use Rattle.gfxspec.specs.Refusals.{AreAccepted}
-use Rattle.meaning.specs.OneMore.{settings_with, triangles_of}
+use Rattle.gfxspec.specs.Predication.{performed}
+use Rattle.meaning.specs.OneMore.{settings_with, triangles_of, performed_items}
 use Rattle.meaning.proofs.Nearest.{settings_after-push}
-use Rattle.meaning.proofs.Growing.{items-push, issues-push, triangle_count-push}
+use Rattle.meaning.proofs.Growing.{issues-push, triangle_count-push}
+use Rattle.meaning.proofs.Performed.{performed_alike}
+use Rattle.meaning.proofs.Withheld.{items_performed-push}
 use Rattle.cmdlist.specs.declared.command.Command.{Command as Code}
 use Rattle.cmdlist.specs.Seen.{command_value}
 use Rattle.binner.specs.declared.compiling.Compiling.{Compiling}
 use Rattle.binner.specs.Meaning.{entry_of}
 use Rattle.binner.specs.Opened.{IsOpened, CanNote}
-use Rattle.binner.specs.Compiling.{tables, ListMeans, HasCompiled, HasRoom, IsSound, IsEntry, IsCurrent, Draws, SameTables, IsFresh, IsWhole}
+use Rattle.binner.specs.Compiling.{tables, ListMeans, HasCompiled, HasRoom, IsSound, IsEntry, IsCurrent, Performs, SameTables, IsFresh, IsWhole}
 use Rattle.gfxspec.specs.Items.{Item}
 use Rattle.gfxspec.specs.Tiles.{tile_count, tile_rect}
 use Rattle.binner.specs.Lists.{at, IsLists, IsShort}
@@ -22,8 +25,8 @@ use Rattle.binner.specs.declared.entry.Current.{Current}
 use Rattle.binner.proofs.Steps.{list_entered}
 use Rattle.binner.proofs.Accepted.{done, done_more, accepted_at, within_limits, can_note, drawable}
 
--- the first i commands are compiled, and this is the state behind them
-pub record SoFar {A : Type 0} (cs : List (Code A)) (i : ℕ) (s : Settings) (bits begun : ℕ) (of_query : List ℕ) (start now : Compiling A) : Type 0 where
+-- of the first i commands those that are performed are compiled, and this is the state behind them
+pub record SoFar {A : Type 0} (results : ℕ → Bool) (cs : List (Code A)) (i : ℕ) (s : Settings) (bits begun : ℕ) (of_query : List ℕ) (start now : Compiling A) : Type 0 where
   pub state : s ≡ settings_after (done cs i)
   pub opened : IsOpened bits begun of_query (done cs i)
   pub few : length (issues (done cs i)) ≤ 64
@@ -35,7 +38,7 @@ pub record SoFar {A : Type 0} (cs : List (Code A)) (i : ℕ) (s : Settings) (bit
   pub triangles : length now.triangles.items ≤ triangle_count (done cs i)
   pub clears : length now.colors.items + length now.depths.items ≤ length (done cs i)
   pub room : HasRoom now
-  pub means : HasCompiled now (items (done cs i))
+  pub means : HasCompiled now (items (performed results (done cs i)))
 
 -- what the next command asks
 pub record CanAdd {A : Type 0} (s : Settings) (begun : ℕ) (c : Command) (now : Compiling A) : Type 0 where
@@ -70,8 +73,8 @@ kept_means old new h cur is m =
     same : tables old ≡ tables new
     same = rw (h.states, h.triangles, h.colors, h.depths) refl
 
-module _ {A : Type 0} (cs : List (Code A)) where
-  pub so_far : (s : Settings) (bits begun : ℕ) (of_query : List ℕ) (start : Compiling A) → s ≡ settings_after [] → IsOpened bits begun of_query [] → IsFresh start → SoFar cs 0 s bits begun of_query start start
+module _ {A : Type 0} (results : ℕ → Bool) (cs : List (Code A)) where
+  pub so_far : (s : Settings) (bits begun : ℕ) (of_query : List ℕ) (start : Compiling A) → s ≡ settings_after [] → IsOpened bits begun of_query [] → IsFresh start → SoFar results cs 0 s bits begun of_query start start
   so_far s bits begun of_query start e o h = record {
     state = e;
     opened = o;
@@ -99,7 +102,7 @@ module _ {A : Type 0} (cs : List (Code A)) where
       two : (n m : ℕ) → n ≡ 0 → m ≡ 0 → n + m ≤ 65536
       two n m p q = omega arith
 
-  pub can_add : (i : ℕ) (d : Code A) (s : Settings) (bits begun : ℕ) (of_query : List ℕ) (start now : Compiling A) → AreAccepted (map command_value cs) → i < length cs → SoFar cs i s bits begun of_query start now → CanAdd s begun (command_value (get_or cs i d)) now
+  pub can_add : (i : ℕ) (d : Code A) (s : Settings) (bits begun : ℕ) (of_query : List ℕ) (start now : Compiling A) → AreAccepted (map command_value cs) → i < length cs → SoFar results cs i s bits begun of_query start now → CanAdd s begun (command_value (get_or cs i d)) now
   can_add i d s bits begun of_query start now accepted l h =
       let c = command_value (get_or cs i d) in
       let a = accepted_at cs i d accepted l in
@@ -125,7 +128,7 @@ module _ {A : Type 0} (cs : List (Code A)) where
       one (Begin q) can h = let l = can.1 in omega (arith, l)
       one c can h = omega (arith, h)
 
-  pub one_more : (i : ℕ) (d : Code A) (s t : Settings) (bits bits' begun begun' : ℕ) (of_query of_query' : List ℕ) (kept : Bool) (start now mid new : Compiling A) → i < length cs → CanAdd s begun (command_value (get_or cs i d)) now → SoFar cs i s bits begun of_query start now → length mid.lists.bins ≡ length now.lists.bins → Draws s bits (command_value (get_or cs i d)) now mid → SameTables mid new → ((n : Current) → new.current ≡ Some n → IsTrue kept × (bits ≡ bits') × (mid.current ≡ Some n)) → (IsTrue kept → (s : Settings) (b : ℕ) → entry_of (settings_with (command_value (get_or cs i d)) s) b ≡ entry_of s b) → IsOpened bits' begun' of_query' (done cs i ++ command_value (get_or cs i d) ∷ []) → t ≡ settings_with (command_value (get_or cs i d)) s → SoFar cs (i + 1) t bits' begun' of_query' start new
+  pub one_more : (i : ℕ) (d : Code A) (s t : Settings) (bits bits' begun begun' : ℕ) (of_query of_query' : List ℕ) (kept : Bool) (start now mid new : Compiling A) → i < length cs → CanAdd s begun (command_value (get_or cs i d)) now → SoFar results cs i s bits begun of_query start now → length mid.lists.bins ≡ length now.lists.bins → Performs results s bits (command_value (get_or cs i d)) now mid → SameTables mid new → ((n : Current) → new.current ≡ Some n → IsTrue kept × (bits ≡ bits') × (mid.current ≡ Some n)) → (IsTrue kept → (s : Settings) (b : ℕ) → entry_of (settings_with (command_value (get_or cs i d)) s) b ≡ entry_of s b) → IsOpened bits' begun' of_query' (done cs i ++ command_value (get_or cs i d) ∷ []) → t ≡ settings_with (command_value (get_or cs i d)) s → SoFar results cs (i + 1) t bits' begun' of_query' start new
   one_more i d s t bits bits' begun begun' of_query of_query' kept start now mid new l can h b m same cur keeps o e =
       let c = command_value (get_or cs i d) in
       let xs = done cs i in
@@ -149,9 +152,9 @@ module _ {A : Type 0} (cs : List (Code A)) where
           triangles = added _ _ _ _ (ap (λ v. length v.items) same.triangles) m.grows.drawn can.triangles;
           clears = cleared _ _ _ (two (ap (λ v. length v.items) same.colors) (ap (λ v. length v.items) same.depths)) m.grows.clears can.clears;
         };
-        means = kept_means mid new same (λ n q. (cur n q).2) (items (done cs (i + 1)))
-            (subst (HasCompiled mid) (ap (λ u. items xs ++ items_at u (open_after xs) c) h.state ∙ sym (items-push xs c) ∙ ap items (sym more))
-            (m.means (items xs) (open_after xs) h.opened.open_bits h.means));
+        means = kept_means mid new same (λ n q. (cur n q).2) (items (performed results (done cs (i + 1))))
+            (subst (HasCompiled mid) (ap (λ u. items (performed results xs) ++ performed_items results u (open_after xs) c) h.state ∙ sym (items_performed-push results xs c) ∙ ap (λ ys. items (performed results ys)) (sym more))
+            (m.means (items (performed results xs)) (open_after xs) h.opened.open_bits h.means));
       }
     where
       one : (a b c n : ℕ) → a ≡ b → b ≤ c + 1 → c ≤ n → {k : ℕ} → k ≡ n + 1 → a ≤ k
@@ -169,12 +172,12 @@ module _ {A : Type 0} (cs : List (Code A)) where
       cleared : (a b c : ℕ) → a ≡ b → b ≤ c + 1 → c < 65536 → a ≤ 65536
       cleared a b c p q r = omega arith
 
-  pub all_compiled : (i : ℕ) (s : Settings) (bits begun : ℕ) (of_query : List ℕ) (start now : Compiling A) → length cs ≡ i → SoFar cs i s bits begun of_query start now → IsWhole (map command_value cs) begun start now
+  pub all_compiled : (i : ℕ) (s : Settings) (bits begun : ℕ) (of_query : List ℕ) (start now : Compiling A) → length cs ≡ i → SoFar results cs i s bits begun of_query start now → IsWhole (performed results (map command_value cs)) begun start now
   all_compiled i s bits begun of_query start now all h = record {
-    begun_are = h.opened.count ∙ ap (λ ds. length (issues (map command_value ds))) (take_all i cs (omega (arith, all)));
+    begun_are = h.opened.count ∙ ap (λ ds. length (issues (map command_value ds))) (take_all i cs (omega (arith, all))) ∙ ap length (sym (performed_alike results (map command_value cs)).issues_are);
     few = subst (λ n. n ≤ 64) (sym h.opened.count) h.few;
     size = h.size;
     sound = h.sound;
     room = h.room;
-    compiled = subst (λ ds. HasCompiled now (items (map command_value ds))) (take_all i cs (omega (arith, all))) h.means;
+    compiled = subst (λ ds. HasCompiled now (items (performed results (map command_value ds)))) (take_all i cs (omega (arith, all))) h.means;
   }

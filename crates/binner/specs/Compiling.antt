@@ -1,5 +1,5 @@
 -- What a list that is being compiled means so far, and what each step adds.
-use Rattle.std.specs.Prelude.{ℕ, ◌≡◌, ◌<◌, ◌≤◌, ◌+◌, ◌*◌, ◌⊎◌, false, List, [], ◌∷◌, ◌++◌, length, Option, Some, None, slice_get}
+use Rattle.std.specs.Prelude.{ℕ, ◌≡◌, ◌<◌, ◌≤◌, ◌+◌, ◌*◌, ◌⊎◌, Bool, false, slice_index_or, List, [], ◌∷◌, ◌++◌, length, Option, Some, None, slice_get}
 use Rattle.gfxspec.specs.declared.pixel.DepthStencil.{DepthStencil}
 use Rattle.gfxspec.specs.declared.geometry.PixelRect.{PixelRect}
 use Rattle.gfxspec.specs.State.{Settings}
@@ -7,7 +7,7 @@ use Rattle.gfxspec.specs.Tiles.{tile_count, tile_rect}
 use Rattle.gfxspec.specs.Items.{Item}
 use Rattle.gfxspec.specs.Commands.{Command}
 use Rattle.gfxspec.specs.Recorded.{items, items_at, issues}
-use Rattle.meaning.specs.OneMore.{triangles_of}
+use Rattle.meaning.specs.OneMore.{triangles_of, performed_items}
 use Rattle.tileword.specs.declared.word.Word.TheVariants.{ClearC, ClearDs}
 use Rattle.binner.specs.declared.entry.StateEntry.{StateEntry}
 use Rattle.binner.specs.declared.entry.Current.{Current}
@@ -54,6 +54,10 @@ abbrev pub IsCurrent : {A : Type 0} → Compiling A → Settings → ℕ → Typ
 IsCurrent c s issues = (now : Current) → c.current ≡ Some now → IsEntry c.states.items (entry_of s issues) now
 
 -- ---- steps
+
+-- query results as a list has them, FALSE beyond it
+abbrev pub told : List Bool → ℕ → Bool
+told results query = slice_index_or results query false
 
 -- it is the current one; it may be new
 pub record Enters {A : Type 0} (e : StateEntry) (s : Current) (old new : Compiling A) : Type 0 where
@@ -105,6 +109,13 @@ pub record Draws {A : Type 0} (s : Settings) (bits : ℕ) (c : Command) (old new
   pub current : IsCurrent new s bits
   pub grows : Grows (triangles_of s c) old new
   pub means : (items : List Item) (opened : List ℕ) → AreBits bits opened → HasCompiled old items → HasCompiled new (items ++ items_at s opened c)
+
+-- what a command has added under query results that may withhold it
+pub record Performs {A : Type 0} (results : ℕ → Bool) (s : Settings) (bits : ℕ) (c : Command) (old new : Compiling A) : Type 0 where
+  pub sound : IsSound new
+  pub current : IsCurrent new s bits
+  pub grows : Grows (triangles_of s c) old new
+  pub means : (items : List Item) (opened : List ℕ) → AreBits bits opened → HasCompiled old items → HasCompiled new (items ++ performed_items results s opened c)
 
 -- all but the current entry
 pub record SameTables {A : Type 0} (old new : Compiling A) : Type 0 where

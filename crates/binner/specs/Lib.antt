@@ -6,3 +6,4 @@ pub mod Lists
 pub mod Compiled
 pub mod Compiling
 pub mod Opened
+pub mod Setups

@@ -1,6 +1,6 @@
 //! A compiled list.
 
-ghost use Rattle.std.specs.Prelude.{◌≡◌, map, IsTrue, IfOk, IfErr, List, length, replicate, false};
+ghost use Rattle.std.specs.Prelude.{◌≡◌, map, IsTrue, IfOk, IfErr, List, length, replicate, false, All};
 ghost use Rattle.gfxspec.specs.declared.error.GfxError.TheVariants.{OutOfMemory};
 ghost use Rattle.gfxspec.specs.Limits.{is_size};
 ghost use Rattle.gfxspec.specs.Tiles.{tile_count};
@@ -9,9 +9,12 @@ ghost use Rattle.cmdlist.specs.Seen.{command_value};
 ghost use Rattle.binmem.specs.Lists.{no_words};
 ghost use Rattle.gfxspec.specs.Recorded.{issues as issues_of};
 ghost use Rattle.gfxspec.specs.Commands.{Command as Call};
+ghost use Rattle.gfxspec.specs.Predication.{performed};
 ghost use Rattle.binner.specs.Compiled.{Compilation as Whole, IsCompilation, MeansList, CountsAreSums};
-ghost use Rattle.binner.specs.Compiling.{IsFresh, compilation_of};
+ghost use Rattle.binner.specs.Compiling.{IsFresh, compilation_of, told};
+ghost use Rattle.binner.specs.Setups.{MatchesDraw};
 
+use crate::ahead::{DrawSetups, set_up_ahead};
 use crate::compiling::{Compiling, add_commands};
 use crate::entry::StateEntry;
 use crate::lists::Lists;
@@ -21,6 +24,7 @@ use cmdlist::Command;
 use gfxspec::{DepthStencil, GfxError, Size, tile_count};
 use std::alloc::{AllocError, Allocator};
 use std::marker::Model;
+use std::thread::Threads;
 
 /// A list of commands, compiled for a size: words for each tile, and what their numbers name.
 #[derive(Drop)]
@@ -109,13 +113,42 @@ fn finished<A: Allocator + Copy>(compiling: Compiling<A>, issues: u32) -> Compil
     }
 }
 
-/// Compiles accepted commands, read from the default state, for a target of this size, with empty bins of as many tiles
-/// as it has. The only error is `OutOfMemory`, with the bins, empty again
+/// Compiles commands, some of whose draws may be set up already.
+fn compile_with<A: Allocator + Copy>(
+    alloc: A,
+    commands: &[Command<A>],
+    size: Size,
+    results: &[bool; 64],
+    bins: Bins<A>,
+    ahead: Vec<DrawSetups<A>, A>,
+) -> Result<Compiled<A>, (GfxError, Bins<A>)>
+    requires accepted { AreAccepted (map command_value commands.now) }
+    requires size { IsTrue (is_size size) }
+    requires empty { bins ≡ no_words (tile_count size) }
+    requires ahead { All (MatchesDraw commands.now size) ahead.items }
+    ensures size { IfOk result (λ c. c.size ≡ size) }
+    ensures issues { IfOk result (λ c. c.issues ≡ length (issues_of (map command_value commands.now))) }
+    ensures means { IfOk result (λ c. MeansList (performed (told results.now) (map command_value commands.now)) c) }
+    ensures refused { IfErr result (λ e. e ≡ (OutOfMemory, no_words (tile_count size))) }
+{
+    let mut compiling = match nothing(alloc, size, bins) {
+        Ok(compiling) => compiling,
+        Err(back) => return Err((GfxError::OutOfMemory, back)),
+    };
+    match add_commands(&mut compiling, commands, results, ahead) {
+        Ok(issues) => Ok(finished(compiling, issues)),
+        Err(_) => Err((GfxError::OutOfMemory, compiling.lists.bins.seal().reuse())),
+    }
+}
+
+/// Compiles accepted commands, read from the default state, for a target of this size, under the results that the queries
+/// have before them, with empty bins of as many tiles as it has. The only error is `OutOfMemory`, with the bins, empty again
 /// (Direct3D 11.3 Functional Specification, "Rasterizer Stage" and "Output Merger Stage"; tiles are this project's own).
 pub fn compile<A: Allocator + Copy>(
     alloc: A,
     commands: &[Command<A>],
     size: Size,
+    results: &[bool; 64],
     bins: Bins<A>,
 ) -> Result<Compiled<A>, (GfxError, Bins<A>)>
     requires accepted { AreAccepted (map command_value commands.now) }
@@ -123,17 +156,33 @@ pub fn compile<A: Allocator + Copy>(
     requires empty { bins ≡ no_words (tile_count size) }
     ensures size { IfOk result (λ c. c.size ≡ size) }
     ensures issues { IfOk result (λ c. c.issues ≡ length (issues_of (map command_value commands.now))) }
-    ensures means { IfOk result (λ c. MeansList (map command_value commands.now) c) }
+    ensures means { IfOk result (λ c. MeansList (performed (told results.now) (map command_value commands.now)) c) }
     ensures refused { IfErr result (λ e. e ≡ (OutOfMemory, no_words (tile_count size))) }
 {
-    let mut compiling = match nothing(alloc, size, bins) {
-        Ok(compiling) => compiling,
-        Err(back) => return Err((GfxError::OutOfMemory, back)),
+    compile_with(alloc, commands, size, results, bins, Vec::new(alloc))
+}
+
+/// The same. The triangles of large draws are set up in threads first, on which the call may wait.
+pub fn compile_parallel<A: Allocator + Copy + Send + Sync, R: Threads + Sync>(
+    rt: &R,
+    alloc: A,
+    commands: &[Command<A>],
+    size: Size,
+    results: &[bool; 64],
+    bins: Bins<A>,
+) -> Result<Compiled<A>, (GfxError, Bins<A>)>
+    requires accepted { AreAccepted (map command_value commands.now) }
+    requires size { IsTrue (is_size size) }
+    requires empty { bins ≡ no_words (tile_count size) }
+    ensures size { IfOk result (λ c. c.size ≡ size) }
+    ensures issues { IfOk result (λ c. c.issues ≡ length (issues_of (map command_value commands.now))) }
+    ensures means { IfOk result (λ c. MeansList (performed (told results.now) (map command_value commands.now)) c) }
+    ensures refused { IfErr result (λ e. e ≡ (OutOfMemory, no_words (tile_count size))) }
+{
+    let Ok(ahead) = set_up_ahead(rt, alloc, commands, size, results) else {
+        return Err((GfxError::OutOfMemory, bins));
     };
-    match add_commands(&mut compiling, commands) {
-        Ok(issues) => Ok(finished(compiling, issues)),
-        Err(_) => Err((GfxError::OutOfMemory, compiling.lists.bins.seal().reuse())),
-    }
+    compile_with(alloc, commands, size, results, bins, ahead)
 }
 
 impl<A: Allocator + Copy> Compiled<A> {
@@ -188,6 +237,19 @@ impl<A: Allocator + Copy> Compiled<A> {
         ensures { slice_get self.now.tables.triangles number ≡ Some result.now }
     {
         &self.triangles[number as usize]
+    }
+
+    /// Reads a part of a triangle's record, if there is one of that number, so that its memory is on its way before it is drawn. The
+    /// number that comes back is no result: a caller keeps it only so that the read is done.
+    #[inline]
+    pub fn prefetch(&self, number: u16) -> u64 {
+        match self.triangles.get(number as usize) {
+            Some(triangle) => {
+                let bounds = u64::from(triangle.bounds.left);
+                bounds ^ triangle.plane.prefetch() ^ triangle.edges.step_x(0).unsigned_abs()
+            }
+            None => 0,
+        }
     }
 
     /// The colour of a number.

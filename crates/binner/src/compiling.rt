@@ -1,26 +1,30 @@
 //! A list that is being compiled: each command adds to the words of the tiles.
 
-ghost use Rattle.std.specs.Prelude.{◌≡◌, ◌<◌, ◌≤◌, ◌+◌, ◌++◌, ◌∷◌, [], ℕ, List, length, IsTrue, IfOk, OnOk, Some};
+ghost use Rattle.std.specs.Prelude.{◌≡◌, ◌<◌, ◌≤◌, ◌+◌, ◌++◌, ◌∷◌, [], ℕ, List, length, slice_index_or, false, IsTrue, IfOk, IfSome, OnOk, Some, All};
 ghost use Rattle.std.specs.List.{list_all};
 ghost use Rattle.gfxspec.specs.Vertices.{is_in_range};
 ghost use Rattle.gfxspec.specs.Items.{Item, ColorCleared, DepthStencilCleared};
 ghost use Rattle.gfxspec.specs.Recorded.{drawn_items, items_at};
-ghost use Rattle.gfxspec.specs.Commands.{Draw as DrawCall, DrawIndexed as IndexedCall};
+ghost use Rattle.gfxspec.specs.Predication.{withholds, performed};
 ghost use Rattle.meaning.specs.OneMore.{triangles_of as count_of};
 ghost use Rattle.assemble.specs.Drawing.{IsInRange, triangles_of};
 ghost use Rattle.cmdlist.specs.Seen.{state_value, command_value};
 ghost use Rattle.binner.specs.Ready.{IsDrawable};
 ghost use Rattle.binner.specs.Meaning.{AreBits, entry_of};
-ghost use Rattle.binner.specs.Compiling.{HasCompiled, IsSound, IsCurrent, HasRoom, AddsSetup, AddsColor, AddsDepth, Enters, Grows, Draws, SameTables, IsFresh, IsWhole};
+ghost use Rattle.binner.specs.Setups.{AreSetups, all_setups, drawn_by, MatchesDraw};
+ghost use Rattle.binner.specs.Compiling.{HasCompiled, IsSound, IsCurrent, HasRoom, AddsSetup, AddsColor, AddsDepth, Enters, Grows, Draws, Performs, told, SameTables, IsFresh, IsWhole};
 ghost use Rattle.std.specs.Prelude.{map};
 ghost use Rattle.binner.specs.declared.entry.Current.{Current};
 ghost use Rattle.gfxspec.specs.State.{Settings};
 ghost use Rattle.gfxspec.specs.Refusals.{AreAccepted};
 ghost use Rattle.meaning.specs.OneMore.{settings_with};
 
+use crate::ahead::{DrawSetups, Parts, take_ahead};
+use crate::draws::draw_of;
 use crate::entry::{Current, StateEntry};
 use crate::lists::{Lists, add_to_all, add_to_tiles};
 use crate::opened::{note, nothing_begun};
+use crate::predicate::is_withheld;
 use crate::prepare::prepared;
 use crate::setup::TriSetup;
 use assemble::{Draw, triangles};
@@ -81,6 +85,7 @@ fn current_entry<A: Allocator + Copy>(
 }
 
 /// Adds a triangle under an entry.
+#[inline(always)]
 fn add_setup<A: Allocator + Copy>(
     compiling: &mut Compiling<A>,
     setup: TriSetup,
@@ -160,75 +165,98 @@ fn add_draw<A: Allocator + Copy>(
     Ok(())
 }
 
-/// Adds the triangles of a draw without indices.
-fn add_plain<A: Allocator + Copy>(
+/// Adds the triangles of a draw that are set up already, in parts.
+fn add_parts<A: Allocator + Copy>(
     compiling: &mut Compiling<A>,
-    count: u32,
-    start: u32,
+    draw: &Draw<'_>,
     state: &State<'_>,
     issues: u64,
+    parts: Parts<A>,
 ) -> Result<(), AllocError>
-    requires drawable { IsDrawable (state_value state.now) (DrawCall count start) }
     requires sound { IsSound compiling.old }
     requires current { IsCurrent compiling.old (state_value state.now) issues }
     requires states { length compiling.old.states.items < 65536 }
-    requires triangles { length compiling.old.triangles.items + count_of (state_value state.now) (DrawCall count start) ≤ 65536 }
-    requires clears { length compiling.old.colors.items + length compiling.old.depths.items < 65536 }
+    requires triangles { length compiling.old.triangles.items + length (triangles_of draw.now) ≤ 65536 }
+    requires clears { length compiling.old.colors.items + length compiling.old.depths.items ≤ 65536 }
+    requires made { AreSetups (state_value state.now) compiling.old.lists.size (triangles_of draw.now) (all_setups parts.items) }
     ensures bins { length compiling.new.lists.bins ≡ length compiling.old.lists.bins }
-    ensures drawn { OnOk result (Draws (state_value state.now) issues (DrawCall count start) compiling.old compiling.new) }
+    ensures sound { OnOk result (IsSound compiling.new) }
+    ensures current { OnOk result (IsCurrent compiling.new (state_value state.now) issues) }
+    ensures grows { OnOk result (Grows (length (triangles_of draw.now)) compiling.old compiling.new) }
+    ensures means { (items : List Item) (opened : List ℕ) → AreBits issues opened → HasCompiled compiling.old items
+        → OnOk result (HasCompiled compiling.new (items ++ drawn_items (state_value state.now) opened (triangles_of draw.now))) }
 {
-    let Some(topology) = state.topology else {
-        return Ok(());
-    };
-    let draw = Draw {
-        topology,
-        vertices: state.vertices,
-        indices: None,
-        count,
-        start,
-        base: 0,
-    };
-    add_draw(compiling, &draw, state, issues)
+    let current = current_entry(compiling, state, issues)?;
+    'parts: for part in parts {
+        'setups: for setup in part {
+            add_setup(compiling, setup, current)?;
+        }
+    }
+    Ok(())
 }
 
-/// Adds the triangles of a draw by indices.
-fn add_indexed<A: Allocator + Copy>(
+/// Adds the triangles of a draw: those parts, if they are set up already, or else one after the other.
+fn add_drawn<A: Allocator + Copy>(
     compiling: &mut Compiling<A>,
-    count: u32,
-    start: u32,
-    base: i32,
+    draw: &Draw<'_>,
     state: &State<'_>,
     issues: u64,
+    parts: Option<Parts<A>>,
 ) -> Result<(), AllocError>
-    requires drawable { IsDrawable (state_value state.now) (IndexedCall count start base) }
     requires sound { IsSound compiling.old }
     requires current { IsCurrent compiling.old (state_value state.now) issues }
     requires states { length compiling.old.states.items < 65536 }
-    requires triangles { length compiling.old.triangles.items + count_of (state_value state.now) (IndexedCall count start base) ≤ 65536 }
-    requires clears { length compiling.old.colors.items + length compiling.old.depths.items < 65536 }
+    requires triangles { length compiling.old.triangles.items + length (triangles_of draw.now) ≤ 65536 }
+    requires clears { length compiling.old.colors.items + length compiling.old.depths.items ≤ 65536 }
+    requires range { IsInRange draw.now }
+    requires vertices { IsTrue (list_all is_in_range draw.now.vertices.now) }
+    requires made { IfSome parts (λ parts. AreSetups (state_value state.now) compiling.old.lists.size (triangles_of draw.now) (all_setups parts.items)) }
     ensures bins { length compiling.new.lists.bins ≡ length compiling.old.lists.bins }
-    ensures drawn { OnOk result (Draws (state_value state.now) issues (IndexedCall count start base) compiling.old compiling.new) }
+    ensures sound { OnOk result (IsSound compiling.new) }
+    ensures current { OnOk result (IsCurrent compiling.new (state_value state.now) issues) }
+    ensures grows { OnOk result (Grows (length (triangles_of draw.now)) compiling.old compiling.new) }
+    ensures means { (items : List Item) (opened : List ℕ) → AreBits issues opened → HasCompiled compiling.old items
+        → OnOk result (HasCompiled compiling.new (items ++ drawn_items (state_value state.now) opened (triangles_of draw.now))) }
 {
-    let Some(topology) = state.topology else {
-        return Ok(());
-    };
-    let draw = Draw {
-        topology,
-        vertices: state.vertices,
-        indices: Some(state.indices),
-        count,
-        start,
-        base,
-    };
-    add_draw(compiling, &draw, state, issues)
+    match parts {
+        Some(parts) => add_parts(compiling, draw, state, issues, parts),
+        None => add_draw(compiling, draw, state, issues),
+    }
 }
 
-/// Adds what a command draws or clears under a state, with the open issues as bits.
-pub(crate) fn add_command<A: Allocator + Copy>(
+/// Adds what a command draws, if it is a draw.
+fn add_drawing<A: Allocator + Copy>(
     compiling: &mut Compiling<A>,
     command: &Command<A>,
     state: &State<'_>,
     issues: u64,
+    parts: Option<Parts<A>>,
+) -> Result<(), AllocError>
+    requires drawable { IsDrawable (state_value state.now) (command_value command.now) }
+    requires draws { (opened : List ℕ) → items_at (state_value state.now) opened (command_value command.now) ≡ drawn_items (state_value state.now) opened (drawn_by (state_value state.now) (command_value command.now)) }
+    requires sound { IsSound compiling.old }
+    requires current { IsCurrent compiling.old (state_value state.now) issues }
+    requires states { length compiling.old.states.items < 65536 }
+    requires triangles { length compiling.old.triangles.items + count_of (state_value state.now) (command_value command.now) ≤ 65536 }
+    requires clears { length compiling.old.colors.items + length compiling.old.depths.items < 65536 }
+    requires made { IfSome parts (λ parts. AreSetups (state_value state.now) compiling.old.lists.size (drawn_by (state_value state.now) (command_value command.now)) (all_setups parts.items)) }
+    ensures bins { length compiling.new.lists.bins ≡ length compiling.old.lists.bins }
+    ensures drawn { OnOk result (Draws (state_value state.now) issues (command_value command.now) compiling.old compiling.new) }
+{
+    let Some(draw) = draw_of(command, state) else {
+        return Ok(());
+    };
+    add_drawn(compiling, &draw, state, issues, parts)
+}
+
+/// Adds what a command draws or clears under a state, with the open issues as bits. What it draws may be set up already, in
+/// parts.
+fn add_command<A: Allocator + Copy>(
+    compiling: &mut Compiling<A>,
+    command: &Command<A>,
+    state: &State<'_>,
+    issues: u64,
+    parts: Option<Parts<A>>,
 ) -> Result<(), AllocError>
     requires drawable { IsDrawable (state_value state.now) (command_value command.now) }
     requires sound { IsSound compiling.old }
@@ -236,14 +264,13 @@ pub(crate) fn add_command<A: Allocator + Copy>(
     requires states { length compiling.old.states.items < 65536 }
     requires triangles { length compiling.old.triangles.items + count_of (state_value state.now) (command_value command.now) ≤ 65536 }
     requires clears { length compiling.old.colors.items + length compiling.old.depths.items < 65536 }
+    requires made { IfSome parts (λ parts. AreSetups (state_value state.now) compiling.old.lists.size (drawn_by (state_value state.now) (command_value command.now)) (all_setups parts.items)) }
     ensures bins { length compiling.new.lists.bins ≡ length compiling.old.lists.bins }
     ensures drawn { OnOk result (Draws (state_value state.now) issues (command_value command.now) compiling.old compiling.new) }
 {
     match command {
-        Command::Draw(count, start) => add_plain(compiling, *count, *start, state, issues),
-        Command::DrawIndexed(count, start, base) => {
-            add_indexed(compiling, *count, *start, *base, state, issues)
-        }
+        Command::Draw(_, _) => add_drawing(compiling, command, state, issues, parts),
+        Command::DrawIndexed(_, _, _) => add_drawing(compiling, command, state, issues, parts),
         Command::ClearColor(rgba) => add_color(compiling, *rgba),
         Command::ClearDepthStencil(depth, stencil) => {
             let value = DepthStencil {
@@ -256,6 +283,32 @@ pub(crate) fn add_command<A: Allocator + Copy>(
     }
 }
 
+/// Adds what a command draws or clears under a state, unless the state's predicate withholds it. What it draws may
+/// be set up already, in parts.
+fn add_performed<A: Allocator + Copy>(
+    compiling: &mut Compiling<A>,
+    command: &Command<A>,
+    state: &State<'_>,
+    issues: u64,
+    results: &[bool; 64],
+    parts: Option<Parts<A>>,
+) -> Result<(), AllocError>
+    requires drawable { IsDrawable (state_value state.now) (command_value command.now) }
+    requires sound { IsSound compiling.old }
+    requires current { IsCurrent compiling.old (state_value state.now) issues }
+    requires states { length compiling.old.states.items < 65536 }
+    requires triangles { length compiling.old.triangles.items + count_of (state_value state.now) (command_value command.now) ≤ 65536 }
+    requires clears { length compiling.old.colors.items + length compiling.old.depths.items < 65536 }
+    requires made { IfSome parts (λ parts. AreSetups (state_value state.now) compiling.old.lists.size (drawn_by (state_value state.now) (command_value command.now)) (all_setups parts.items)) }
+    ensures bins { length compiling.new.lists.bins ≡ length compiling.old.lists.bins }
+    ensures drawn { OnOk result (Performs (told results.now) (state_value state.now) issues (command_value command.now) compiling.old compiling.new) }
+{
+    if is_withheld(results, state.predicate) {
+        return Ok(());
+    }
+    add_command(compiling, command, state, issues, parts)
+}
+
 /// Whether a command leaves what entries are made of as it is.
 fn keeps_entry<A: Allocator>(command: &Command<A>) -> bool
     ensures { IsTrue result → (s : Settings) (issues : ℕ) → entry_of (settings_with (command_value command.now) s) issues ≡ entry_of s issues }
@@ -264,6 +317,7 @@ fn keeps_entry<A: Allocator>(command: &Command<A>) -> bool
         Command::SetVertices(_) => true,
         Command::SetIndices(_) => true,
         Command::SetTopology(_) => true,
+        Command::SetPredication(_) => true,
         Command::Draw(_, _) => true,
         Command::DrawIndexed(_, _, _) => true,
         Command::ClearColor(_) => true,
@@ -282,22 +336,29 @@ fn forget_unless<A: Allocator>(compiling: &mut Compiling<A>, kept: bool, before:
     }
 }
 
-/// Adds what the commands of a list draw and clear, from the default state on, and tells how many issues they begin.
+/// Adds what the commands of a list draw and clear, from the default state on and under the results before the list, and
+/// tells how many issues they begin. Some draws may be set up already.
 pub(crate) fn add_commands<A: Allocator + Copy>(
     compiling: &mut Compiling<A>,
     commands: &[Command<A>],
+    results: &[bool; 64],
+    ahead: Vec<DrawSetups<A>, A>,
 ) -> Result<u32, AllocError>
     requires accepted { AreAccepted (map command_value commands.now) }
     requires fresh { IsFresh compiling.old }
+    requires ahead { All (MatchesDraw commands.now compiling.old.lists.size) ahead.items }
     ensures bins { length compiling.new.lists.bins ≡ length compiling.old.lists.bins }
-    ensures compiled { IfOk result (λ issues. IsWhole (map command_value commands.now) issues compiling.old compiling.new) }
+    ensures compiled { IfOk result (λ issues. IsWhole (performed (told results.now) (map command_value commands.now)) issues compiling.old compiling.new) }
 {
     let mut state = State::new();
     let mut bits = 0_u64;
     let mut begun = 0_u32;
     let mut of_query = nothing_begun();
-    for command in commands {
-        add_command(compiling, command, &state, bits)?;
+    let mut ahead = ahead;
+    let size = compiling.lists.size;
+    for (place, command) in commands.iter().enumerate() {
+        let parts = take_ahead(&mut ahead, place, commands, size);
+        add_performed(compiling, command, &state, bits, results, parts)?;
         let before = bits;
         note(&mut bits, &mut begun, &mut of_query, command);
         let kept = keeps_entry(command);

@@ -6,14 +6,17 @@
 //! tile but its words and one flag, so compiling takes the time of the tiles that a list touches.
 #![tactic(auto)]
 
+mod ahead;
 mod compiled;
 mod compiling;
+mod draws;
 mod entry;
 mod lists;
 mod opened;
+mod predicate;
 mod prepare;
 mod setup;
 
-pub use compiled::{Compiled, compile, programs_count_the_target};
+pub use compiled::{Compiled, compile, compile_parallel, programs_count_the_target};
 pub use entry::StateEntry;
 pub use setup::TriSetup;

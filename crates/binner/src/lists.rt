@@ -95,6 +95,7 @@ fn push_word<A: Allocator + Copy>(
 }
 
 /// Whether a list's last words are a triangle, this one or a later one, and clears behind it.
+#[inline(always)]
 fn is_drawn_since(tail: &[u32], first: u32) -> bool
     ensures { IsTrue result → IsDrawnSince first tail.now }
 {
@@ -109,6 +110,7 @@ fn is_drawn_since(tail: &[u32], first: u32) -> bool
 }
 
 /// Puts the current entry in force in a tile.
+#[inline(always)]
 fn put_in_force<A: Allocator + Copy>(
     lists: &mut Lists<A>,
     tile: u32,
@@ -138,6 +140,7 @@ fn note_counted<A: Allocator>(counted: &mut Vec<bool, A>, tile: u32, now: bool)
 }
 
 /// Adds the words of a triangle to a tile's list, none where the tile lies outside of it.
+#[inline(always)]
 fn add_triangle<A: Allocator + Copy>(
     lists: &mut Lists<A>,
     tile: u32,
@@ -165,6 +168,7 @@ fn add_triangle<A: Allocator + Copy>(
 }
 
 /// Adds a triangle to each tile that its bounds meet.
+#[inline(always)]
 pub(crate) fn add_to_tiles<A: Allocator + Copy>(
     lists: &mut Lists<A>,
     setup: &TriSetup,

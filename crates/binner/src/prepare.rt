@@ -31,6 +31,7 @@ fn common(a: PixelRect, b: PixelRect) -> PixelRect
 }
 
 /// The pixels that a triangle can reach: those in its bounds that an enabled scissor rectangle lets through.
+#[inline(always)]
 fn within_reach(edges: &EdgeSet, state: &State<'_>) -> PixelRect
     ensures right { result.right ≤ side_bound }
     ensures bottom { result.bottom ≤ side_bound }
@@ -62,6 +63,7 @@ fn is_seen(bounds: PixelRect, size: Size) -> bool
 }
 
 /// A triangle under these settings, unless it is dropped or reaches no pixel of the target; the leading vertex is first.
+#[inline(always)]
 #[tactic(auto, using(gfxspec::proofs::Threes::All_three))]
 pub(crate) fn prepared(vertices: &[Vertex; 3], state: &State<'_>, size: Size) -> Option<TriSetup>
     requires { IsReady (primitive_of (record { v = vertices.now })) }

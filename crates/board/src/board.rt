@@ -13,6 +13,7 @@ use atomic_table::{Table, TableRule};
 use gfxspec::GfxError;
 use std::alloc::Allocator;
 use std::marker::Model;
+use std::snapshot::Snapshot;
 use tilecore::TileJob;
 
 /// What a table of a board keeps between any two steps. No value of it is made.
@@ -20,23 +21,20 @@ pub struct Keeping;
 
 /// What the table of a board is made for: the job, and whether its tiles are claimed by number.
 #[derive(Drop)]
-pub struct About<'a, J> {
-    job: &'a J,
+pub struct About<J> {
+    job: Snapshot<J>,
     named: bool,
 }
 
-impl<'a, J: TileJob> TableRule<
-    Option<Tile<J::Open, J::Done>>,
-    View<J, J::Open, J::Done>,
-    About<'a, J>,
-> for Keeping {
+impl<J: TileJob> TableRule<Option<Tile<J::Open, J::Done>>, View<J, J::Open, J::Done>, About<J>>
+    for Keeping {
     ghost use Rattle.board.specs.Views.{first_view};
     ghost use Rattle.board.specs.Rule.{Kept, work};
 
-    ghost holds = { λ a. Kept (work a.job.now (J.tile_count a.job.now) (J.issue_count a.job.now) J.done_count
-        (J.gives a.job.now) a.named) };
+    ghost holds = { λ a. Kept (work a.job.value (J.tile_count a.job.value) (J.issue_count a.job.value) J.done_count
+        (J.gives a.job.value) a.named) };
 
-    ghost first = { λ a. first_view a.job.now (J.tile_count a.job.now) (J.issue_count a.job.now) };
+    ghost first = { λ a. first_view a.job.value (J.tile_count a.job.value) (J.issue_count a.job.value) };
 }
 
 // How many words a board has for its tiles.
@@ -52,7 +50,7 @@ pub struct Board<'a, J: TileJob, A: Allocator> {
     pub(crate) table: Table<
         Option<Tile<J::Open, J::Done>>,
         View<J, J::Open, J::Done>,
-        About<'a, J>,
+        About<J>,
         Keeping,
         &'a A,
     >,
@@ -68,10 +66,10 @@ impl<'a, J: TileJob, A: Allocator> Model for Board<'a, J, A> {
 
     ghost Value = { KnownBoard J };
 
-    ghost view = { λ b. known_board b.table.shared.table_id b.table.shared.key.job.now b.table.shared.key.named };
+    ghost view = { λ b. known_board b.table.shared.table_id b.table.shared.key.job.value b.table.shared.key.named };
 
-    ghost invariant = { λ b. (b.tiles ≡ J.tile_count b.table.shared.key.job.now)
-        × (b.issues ≡ J.issue_count b.table.shared.key.job.now)
+    ghost invariant = { λ b. (b.tiles ≡ J.tile_count b.table.shared.key.job.value)
+        × (b.issues ≡ J.issue_count b.table.shared.key.job.value)
         × (b.table.shared.table_id.slots ≡ b.tiles)
         × (b.table.shared.table_id.words ≡ b.issues + 2 + marks b.table.shared.key.named b.tiles) };
 }
@@ -88,7 +86,7 @@ impl<'a, J: TileJob, A: Allocator> Board<'a, J, A> {
     ghost use Rattle.board.specs.Views.{handed, handed_view, share_of, left_half, right_half, both_views, answered_view, swapped_view, KnowsEach};
 
     // An empty board, and its first seat.
-    fn made(alloc: &'a A, job: &'a J, named: bool) -> Result<(Board<'a, J, A>, Seat<J>), GfxError>
+    fn made(alloc: &'a A, job: &J, named: bool) -> Result<(Board<'a, J, A>, Seat<J>), GfxError>
         ensures ok { IfOk result (λ b. AreNew J.tile_count J.issue_count job.now named b.0 b.1) }
         ensures err { IfErr result (λ e. e ≡ OutOfMemory) }
     {
@@ -96,7 +94,10 @@ impl<'a, J: TileJob, A: Allocator> Board<'a, J, A> {
         let issues = job.issues();
         let marks = mark_count(named, tiles);
         let words = Vec::from_elem(alloc, 0u64, issues as usize + 2 + marks as usize)?;
-        let about = About { job, named };
+        let about = About {
+            job: Snapshot::of(job),
+            named,
+        };
         let (table, inner) = Table::vacant(alloc, words.as_slice(), tiles as usize, &about)?;
         let board = Board {
             table,
@@ -113,7 +114,7 @@ impl<'a, J: TileJob, A: Allocator> Board<'a, J, A> {
     }
 
     /// An empty board, whose tiles are claimed in order, and its first seat.
-    pub fn new(alloc: &'a A, job: &'a J) -> Result<(Board<'a, J, A>, Seat<J>), GfxError>
+    pub fn new(alloc: &'a A, job: &J) -> Result<(Board<'a, J, A>, Seat<J>), GfxError>
         ensures ok { IfOk result (λ b. AreNew J.tile_count J.issue_count job.now false b.0 b.1) }
         ensures err { IfErr result (λ e. e ≡ OutOfMemory) }
     {
@@ -121,7 +122,7 @@ impl<'a, J: TileJob, A: Allocator> Board<'a, J, A> {
     }
 
     /// An empty board, whose tiles are claimed by number, and its first seat.
-    pub fn new_named(alloc: &'a A, job: &'a J) -> Result<(Board<'a, J, A>, Seat<J>), GfxError>
+    pub fn new_named(alloc: &'a A, job: &J) -> Result<(Board<'a, J, A>, Seat<J>), GfxError>
         ensures ok { IfOk result (λ b. AreNew J.tile_count J.issue_count job.now true b.0 b.1) }
         ensures err { IfErr result (λ e. e ≡ OutOfMemory) }
     {

@@ -86,6 +86,7 @@ fn fails_somewhere(edges: &EdgeSet, i: usize, rect: PixelRect) -> bool
 
 /// What a rectangle of pixels is to the triangle of the edges: outside exactly where some edge holds at none of the
 /// centres (Direct3D 11.3 Functional Specification, "Rasterization Rules").
+#[inline(always)]
 pub fn classify(edges: &EdgeSet, rect: PixelRect) -> Class
     requires { IsReal rect }
     ensures { IsClassOf result edges.now rect }

@@ -1,7 +1,7 @@
 -- Calls that record, and what each of them does, whichever context it is made on (Microsoft Learn, ID3D11DeviceContext).
 use Rattle.std.specs.Prelude.{◌≡◌, List, Result, OnOk, OnErr}
 use Rattle.gfxspec.specs.declared.error.GfxError.{GfxError}
-use Rattle.gfxspec.specs.Commands.{Command, SetVertices, SetIndices, SetTopology, SetRaster, SetScissor, SetDepthStencil, SetBlend, Draw, DrawIndexed, ClearColor, ClearDepthStencil, Begin, End}
+use Rattle.gfxspec.specs.Commands.{Command, SetVertices, SetIndices, SetTopology, SetRaster, SetScissor, SetDepthStencil, SetBlend, SetPredication, Draw, DrawIndexed, ClearColor, ClearDepthStencil, Begin, End}
 use Rattle.gfxspec.specs.Refusals.{AnswersBy, list_rows}
 use Rattle.cmdlist.specs.declared.call.Call as code
 use Rattle.cmdlist.specs.declared.call.Call.TheVariants as calls
@@ -15,6 +15,7 @@ call_value (calls.SetRaster raster) = SetRaster raster
 call_value (calls.SetScissor scissor) = SetScissor scissor
 call_value (calls.SetDepthStencil depth_stencil reference) = SetDepthStencil depth_stencil reference
 call_value (calls.SetBlend blend) = SetBlend blend
+call_value (calls.SetPredication predicate) = SetPredication predicate
 call_value (calls.Draw count start) = Draw count start
 call_value (calls.DrawIndexed count start base) = DrawIndexed count start base
 call_value (calls.ClearColor rgba) = ClearColor rgba

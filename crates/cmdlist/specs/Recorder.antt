@@ -1,8 +1,8 @@
 -- What a recorder keeps beside its commands.
-use Rattle.std.specs.Prelude.{ℕ, ◌≡◌, ◌≤◌, Bool, true, false, List, [], ◌∷◌, length, map}
+use Rattle.std.specs.Prelude.{ℕ, ◌≡◌, ◌≤◌, Bool, true, false, List, [], ◌∷◌, length, map, replicate, slice_set, Option, Some, None}
 use Rattle.gfxspec.specs.declared.TheConstants.{LIST_LIMIT}
 use Rattle.gfxspec.specs.Commands.{Command, Begin, Kept}
-use Rattle.gfxspec.specs.Recorded.{settings_after, issues, queries_open, triangle_count}
+use Rattle.gfxspec.specs.Recorded.{settings_after, issues, queries_named, queries_open, triangle_count}
 use Rattle.gfxspec.specs.Refusals.{first_row, list_rows, too_long, AreAccepted}
 use Rattle.meaning.specs.OneMore.{triangles_of}
 use Rattle.cmdlist.specs.Seen.{settings_value, command_value}
@@ -13,6 +13,19 @@ use Rattle.cmdlist.specs.declared.list.CommandList.TheInside as list
 abbrev pub commands_of : {A : Type 0} → context.Inside A → List Command
 commands_of c = map command_value c.commands.items
 
+-- marks with one more, if there is one
+abbrev pub marked_by : List Bool → Option ℕ → List Bool
+marked_by marks None = marks
+marked_by marks (Some query) = slice_set marks query true
+
+-- a mark for each query that is among these
+abbrev pub marked : List Bool → List ℕ → List Bool
+marked marks [] = marks
+marked marks (q ∷ qs) = marked (slice_set marks q true) qs
+
+abbrev pub marks_of : List ℕ → List Bool
+marks_of queries = marked (replicate 64 false) queries
+
 -- The commands are accepted ones, and what stands beside them is what the definitions give of them.
 pub record IsRecorded {A : Type 0} (c : context.Inside A) : Type 0 where
   pub accepted : AreAccepted (commands_of c)
@@ -20,6 +33,8 @@ pub record IsRecorded {A : Type 0} (c : context.Inside A) : Type 0 where
   pub triangles : c.triangles ≡ triangle_count (commands_of c)
   pub few_triangles : c.triangles ≤ LIST_LIMIT
   pub few_commands : length (commands_of c) ≤ LIST_LIMIT
+  pub begun : c.begun ≡ marks_of (issues (commands_of c))
+  pub named : c.named ≡ marks_of (queries_named (commands_of c))
   pub issues : c.issues ≡ length (issues (commands_of c))
   pub few_issues : c.issues ≤ 64
   pub opened : c.open_queries.items ≡ queries_open (commands_of c)

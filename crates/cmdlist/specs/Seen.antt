@@ -1,6 +1,6 @@
 -- Commands and settings of the code, as the definitions have them.
 use Rattle.gfxspec.specs.State.{Settings}
-use Rattle.gfxspec.specs.Commands.{Command, SetVertices, SetIndices, SetTopology, SetRaster, SetScissor, SetDepthStencil, SetBlend, Draw, DrawIndexed, ClearColor, ClearDepthStencil, Begin, End, Kept}
+use Rattle.gfxspec.specs.Commands.{Command, SetVertices, SetIndices, SetTopology, SetRaster, SetScissor, SetDepthStencil, SetBlend, SetPredication, Draw, DrawIndexed, ClearColor, ClearDepthStencil, Begin, End, Kept}
 use Rattle.cmdlist.specs.declared.settings.Settings as owned
 use Rattle.cmdlist.specs.declared.settings.State as lent
 use Rattle.cmdlist.specs.declared.command.Command as recorded
@@ -17,6 +17,7 @@ settings_value s =
       depth_stencil = s.depth_stencil;
       reference = s.reference;
       blend = s.blend;
+      predicate = s.predicate;
     }
 
 abbrev pub state_value : lent.State → Settings
@@ -30,6 +31,7 @@ state_value s =
       depth_stencil = s.depth_stencil;
       reference = s.reference;
       blend = s.blend;
+      predicate = s.predicate;
     }
 
 abbrev pub command_value : {A : Type 0} → recorded.Command A → Command
@@ -40,6 +42,7 @@ command_value (code.SetRaster raster) = SetRaster raster
 command_value (code.SetScissor scissor) = SetScissor scissor
 command_value (code.SetDepthStencil depth_stencil reference) = SetDepthStencil depth_stencil reference
 command_value (code.SetBlend blend) = SetBlend blend
+command_value (code.SetPredication predicate) = SetPredication predicate
 command_value (code.Draw count start) = Draw count start
 command_value (code.DrawIndexed count start base) = DrawIndexed count start base
 command_value (code.ClearColor rgba) = ClearColor rgba

@@ -20,6 +20,8 @@ pub enum Call<'a> {
     SetScissor(PixelRect),
     SetDepthStencil(DepthStencilState, u8),
     SetBlend(BlendState),
+    /// A query and a value, or no predicate.
+    SetPredication(Option<(u32, bool)>),
     /// A count, and the first place in the vertices.
     Draw(u32, u32),
     /// A count, the first place in the indices, and what is added to each index.
@@ -46,6 +48,7 @@ pub(crate) fn command_of<A: Allocator + Copy>(
         Call::SetScissor(scissor) => Command::SetScissor(scissor),
         Call::SetDepthStencil(state, reference) => Command::SetDepthStencil(state, reference),
         Call::SetBlend(blend) => Command::SetBlend(blend),
+        Call::SetPredication(predicate) => Command::SetPredication(predicate),
         Call::Draw(count, start) => Command::Draw(count, start),
         Call::DrawIndexed(count, start, base) => Command::DrawIndexed(count, start, base),
         Call::ClearColor(rgba) => Command::ClearColor(rgba),

@@ -7,7 +7,7 @@ use states::{BlendState, DepthStencilState, RasterState};
 use std::alloc::Allocator;
 
 /// An accepted call, with its arguments. `Kept` is the command that a finish with restore leaves at the front of the next
-/// list: it sets all seven kinds of state.
+/// list: it sets all eight kinds of state.
 #[derive(Drop)]
 pub enum Command<A: Allocator> {
     SetVertices(Buffer<Vertex, A>),
@@ -17,6 +17,8 @@ pub enum Command<A: Allocator> {
     SetScissor(PixelRect),
     SetDepthStencil(DepthStencilState, u8),
     SetBlend(BlendState),
+    /// A query and a value, or no predicate.
+    SetPredication(Option<(u32, bool)>),
     /// A count, and the first place in the vertices.
     Draw(u32, u32),
     /// A count, the first place in the indices, and what is added to each index.

@@ -1,14 +1,14 @@
 //! Recording.
 
-ghost use Rattle.std.specs.Prelude.{◌≡◌, ◌<◌, ◌++◌, ◌∷◌, [], length, map, nat_le, IfErr, IfOk, IsTrue, OnErr, OnOk, Some, false, true};
+ghost use Rattle.std.specs.Prelude.{◌≡◌, ◌<◌, ◌++◌, ◌∷◌, [], length, map, nat_le, option_map, replicate, slice_index_or, IfErr, IfOk, IsTrue, OnErr, OnOk, Some, false, true};
 ghost use Rattle.std.specs.List.{list_all};
 ghost use Rattle.arrayvec.specs.ArrayVec.{array_vec_len};
 ghost use Rattle.gfxspec.specs.Vertices.{is_in_range};
 ghost use Rattle.gfxspec.specs.Commands.{Kept};
-ghost use Rattle.gfxspec.specs.Recorded.{issues, queries_open, after_finish};
-ghost use Rattle.gfxspec.specs.Refusals.{AnswersBy, AreAccepted, AreSound, first_row, list_rows, finish_rows, some_open, is_among, is_bad_scissor, too_long};
+ghost use Rattle.gfxspec.specs.Recorded.{issues, query_begun, query_named, queries_named, queries_open, after_finish};
+ghost use Rattle.gfxspec.specs.Refusals.{AnswersBy, AreAccepted, AreSound, first_row, list_rows, finish_rows, some_open, is_among, is_bad_scissor, is_bad_predicate, is_begun_predicate, too_long};
 ghost use Rattle.meaning.specs.OneMore.{queries_with};
-ghost use Rattle.cmdlist.specs.Recorder.{is_begin};
+ghost use Rattle.cmdlist.specs.Recorder.{is_begin, marked_by};
 ghost use Rattle.cmdlist.specs.Calls.{call_value};
 ghost use Rattle.cmdlist.specs.Seen.{command_value, settings_value};
 
@@ -51,6 +51,75 @@ fn is_scissor_bad(scissor: PixelRect) -> bool
         || SIDE_LIMIT < scissor.bottom
 }
 
+/// Whether a predicate has no query.
+fn is_predicate_bad(predicate: Option<(u32, bool)>) -> bool
+    ensures { result ≡ is_bad_predicate predicate }
+{
+    match predicate {
+        Some((query, _)) => query >= QUERY_LIMIT,
+        None => false,
+    }
+}
+
+/// The query of a predicate.
+fn query_of(predicate: Option<(u32, bool)>) -> Option<u32>
+    ensures { result ≡ option_map (λ p. p.0) predicate }
+{
+    match predicate {
+        Some((query, _)) => Some(query),
+        None => None,
+    }
+}
+
+/// The query by which a command sets a predicate.
+fn named<A: Allocator>(command: &Command<A>) -> Option<u32>
+    ensures { result ≡ query_named (command_value command.now) }
+{
+    match command {
+        Command::SetPredication(predicate) => query_of(*predicate),
+        Command::Kept(settings) => query_of(settings.predicate),
+        _ => None,
+    }
+}
+
+/// The query that a command begins.
+fn begun<A: Allocator>(command: &Command<A>) -> Option<u32>
+    ensures { result ≡ query_begun (command_value command.now) }
+{
+    match command {
+        Command::Begin(query) => Some(*query),
+        _ => None,
+    }
+}
+
+/// No query is marked.
+fn no_marks() -> [bool; 64]
+    ensures { result ≡ replicate 64 false }
+{
+    [false; 64]
+}
+
+/// Marks a query, if there is one.
+fn mark(marks: &mut [bool; 64], query: Option<u32>)
+    ensures { marks.new ≡ marked_by marks.old query }
+{
+    if let Some(query) = query {
+        if query < QUERY_LIMIT {
+            marks[query as usize] = true;
+        }
+    }
+}
+
+/// Whether a query is marked.
+fn is_marked(marks: &[bool; 64], query: u32) -> bool
+    ensures { result ≡ slice_index_or marks.now query false }
+{
+    match marks.get(query as usize) {
+        Some(mark) => *mark,
+        None => false,
+    }
+}
+
 /// Whether a command begins a query.
 fn begins<A: Allocator>(command: &Command<A>) -> bool
     ensures { result ≡ is_begin (command_value command.now) }
@@ -78,6 +147,10 @@ pub struct DeferredContext<A: Allocator> {
     triangles: u32,
     issues: u32,
     open_queries: ArrayVec<u32, 64>,
+    /// The queries that the list has begun.
+    begun: [bool; 64],
+    /// The queries by which its commands set predicates.
+    named: [bool; 64],
 }
 
 impl<A: Allocator> Model for DeferredContext<A> {
@@ -106,6 +179,8 @@ impl<A: Allocator + Copy> DeferredContext<A> {
             triangles: 0,
             issues: 0,
             open_queries: ArrayVec::new(),
+            begun: no_marks(),
+            named: no_marks(),
         }
     }
 
@@ -130,6 +205,23 @@ impl<A: Allocator + Copy> DeferredContext<A> {
         !self.open_queries.is_empty()
     }
 
+    /// Whether the list has begun the query of a predicate.
+    fn is_predicate_begun(&self, predicate: Option<(u32, bool)>) -> bool
+        ensures { result ≡ is_begun_predicate self.now predicate }
+    {
+        match predicate {
+            Some((query, _)) => is_marked(&self.begun, query),
+            None => false,
+        }
+    }
+
+    /// Whether a command of the list, the kept state's included, sets a predicate by a query.
+    fn is_named(&self, query: u32) -> bool
+        ensures { result ≡ is_among query (queries_named self.now) }
+    {
+        is_marked(&self.named, query)
+    }
+
     /// Whether the list has all the issues that a list may have.
     fn has_all_issues(&self) -> bool
         ensures { result ≡ nat_le ISSUE_LIMIT (length (issues self.now)) }
@@ -149,6 +241,12 @@ impl<A: Allocator + Copy> DeferredContext<A> {
             Call::SetVertices(vertices) if !are_in_range(vertices) => Err(GfxError::VertexRange),
             Call::SetIndices(indices) if indices.len() > BUFFER_LIMIT => Err(GfxError::VertexCount),
             Call::SetScissor(scissor) if is_scissor_bad(scissor) => Err(GfxError::ScissorRect),
+            Call::SetPredication(predicate) if is_predicate_bad(predicate) => {
+                Err(GfxError::QueryNumber)
+            }
+            Call::SetPredication(predicate) if self.is_predicate_begun(predicate) => {
+                Err(GfxError::PredicateInList)
+            }
             Call::Draw(count, start) => drawn_triangles(&self.settings.state(), count, start),
             Call::DrawIndexed(count, start, base) => {
                 drawn_indexed_triangles(&self.settings.state(), count, start, base)
@@ -156,6 +254,7 @@ impl<A: Allocator + Copy> DeferredContext<A> {
             Call::ClearDepthStencil(depth, _) if depth > DEPTH_MAX => Err(GfxError::VertexRange),
             Call::Begin(query) if query >= QUERY_LIMIT => Err(GfxError::QueryNumber),
             Call::Begin(query) if self.is_open(query) => Err(GfxError::QueryOpen),
+            Call::Begin(query) if self.is_named(query) => Err(GfxError::PredicateInList),
             Call::Begin(_) if self.has_all_issues() => Err(GfxError::TooManyIssues),
             Call::End(query) if query >= QUERY_LIMIT => Err(GfxError::QueryNumber),
             Call::End(query) if !self.is_open(query) => Err(GfxError::QueryNotOpen),
@@ -189,6 +288,8 @@ impl<A: Allocator + Copy> DeferredContext<A> {
         self.triangles += triangles;
         self.issues += u32::from(begins(&command));
         note_query(&mut self.open_queries, &command);
+        mark(&mut self.begun, begun(&command));
+        mark(&mut self.named, named(&command));
         self.commands.push(command).unwrap();
         Ok(())
     }
@@ -256,6 +357,8 @@ impl<A: Allocator + Copy> DeferredContext<A> {
         ensures kept { IfOk result (λ context. context ≡ Kept (settings_value settings) ∷ []) }
         ensures memory { IfErr result (λ e. e ≡ GfxError.OutOfMemory) }
     {
+        let mut named = no_marks();
+        mark(&mut named, query_of(settings.predicate));
         let kept = Box::new(alloc, kept)?;
         let mut commands = Vec::new(alloc);
         commands.push(Command::Kept(kept))?;
@@ -265,6 +368,8 @@ impl<A: Allocator + Copy> DeferredContext<A> {
             triangles: 0,
             issues: 0,
             open_queries: ArrayVec::new(),
+            begun: no_marks(),
+            named,
         })
     }
 }

@@ -1,7 +1,7 @@
 //! The surface that both kinds of context have.
 
 ghost use Rattle.std.specs.Prelude.{◌≡◌, ◌++◌, ◌∷◌, [], List};
-ghost use Rattle.gfxspec.specs.Commands.{Command, SetVertices, SetIndices, SetTopology, SetRaster, SetScissor, SetDepthStencil, SetBlend, Draw, DrawIndexed, ClearColor, ClearDepthStencil, Begin, End};
+ghost use Rattle.gfxspec.specs.Commands.{Command, SetVertices, SetIndices, SetTopology, SetRaster, SetScissor, SetDepthStencil, SetBlend, SetPredication, Draw, DrawIndexed, ClearColor, ClearDepthStencil, Begin, End};
 ghost use Rattle.cmdlist.specs.Calls.{call_value, RecordsCall};
 
 use crate::call::Call;
@@ -78,6 +78,15 @@ pub trait DeviceContext {
         self.record(&Call::SetBlend(blend))
     }
 
+    /// Sets the predicate, a query, 0 to 63, and a value, or none. Draws and clears under it are not performed where the
+    /// result of the query is the value: TRUE where the last issue that ended before counted a pixel. Refused with
+    /// QueryNumber, PredicateInList where the list has begun the query, ListTooLong.
+    final fn set_predication(&mut self, predicate: Option<(u32, bool)>) -> Result<(), GfxError>
+        ensures { RecordsCall recorded with self.old (SetPredication predicate) self.new result }
+    {
+        self.record(&Call::SetPredication(predicate))
+    }
+
     /// Draws vertices: a count, and the first place. Refused with TopologyUnset, DrawRange, ListTooLong.
     final fn draw(&mut self, count: u32, start: u32) -> Result<(), GfxError>
         ensures { RecordsCall recorded with self.old (Draw count start) self.new result }
@@ -93,22 +102,23 @@ pub trait DeviceContext {
         self.record(&Call::DrawIndexed(count, start, base))
     }
 
-    /// Clears the colour of every pixel of the target, whatever the state is. Refused with ListTooLong.
+    /// Clears the colour of every pixel of the target, whatever the state is but the predicate. Refused with ListTooLong.
     final fn clear_color(&mut self, rgba: [u8; 4]) -> Result<(), GfxError>
         ensures { RecordsCall recorded with self.old (ClearColor rgba) self.new result }
     {
         self.record(&Call::ClearColor(rgba))
     }
 
-    /// Clears depth and stencil of every pixel of the target, whatever the state is. Refused with VertexRange for a depth
-    /// above 16,777,215, ListTooLong.
+    /// Clears depth and stencil of every pixel of the target, whatever the state is but the predicate. Refused with
+    /// VertexRange for a depth above 16,777,215, ListTooLong.
     final fn clear_depth_stencil(&mut self, depth: u32, stencil: u8) -> Result<(), GfxError>
         ensures { RecordsCall recorded with self.old (ClearDepthStencil depth stencil) self.new result }
     {
         self.record(&Call::ClearDepthStencil(depth, stencil))
     }
 
-    /// Begins a query, 0 to 63. Refused with QueryNumber, QueryOpen, TooManyIssues, ListTooLong.
+    /// Begins a query, 0 to 63. Refused with QueryNumber, QueryOpen, PredicateInList where a predicate of the list names
+    /// the query, TooManyIssues, ListTooLong.
     final fn begin(&mut self, query: u32) -> Result<(), GfxError>
         ensures { RecordsCall recorded with self.old (Begin query) self.new result }
     {

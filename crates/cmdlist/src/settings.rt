@@ -1,4 +1,4 @@
-//! The seven kinds of state, owned and lent.
+//! The eight kinds of state, owned and lent.
 
 ghost use Rattle.std.specs.Prelude.{◌≡◌, IfOk, OnOk, OnErr};
 ghost use Rattle.gfxspec.specs.State.{defaults};
@@ -17,7 +17,7 @@ const NO_PIXELS: PixelRect = PixelRect {
     bottom: 0,
 };
 
-/// The seven kinds of state: the depth-stencil state and its reference are one.
+/// The eight kinds of state: the depth-stencil state and its reference are one.
 #[derive(Drop)]
 pub struct Settings<A: Allocator> {
     pub vertices: Buffer<Vertex, A>,
@@ -28,6 +28,7 @@ pub struct Settings<A: Allocator> {
     pub depth_stencil: DepthStencilState,
     pub reference: u8,
     pub blend: BlendState,
+    pub predicate: Option<(u32, bool)>,
 }
 
 impl<A: Allocator + Copy> Settings<A> {
@@ -47,6 +48,7 @@ impl<A: Allocator + Copy> Settings<A> {
             depth_stencil: DepthStencilState::default(),
             reference: 0,
             blend: BlendState::default(),
+            predicate: None,
         }
     }
 
@@ -63,6 +65,7 @@ impl<A: Allocator + Copy> Settings<A> {
             depth_stencil: self.depth_stencil,
             reference: self.reference,
             blend: self.blend,
+            predicate: self.predicate,
         })
     }
 
@@ -82,6 +85,7 @@ impl<A: Allocator + Copy> Settings<A> {
                 self.reference = *reference;
             }
             Command::SetBlend(blend) => self.blend = *blend,
+            Command::SetPredication(predicate) => self.predicate = *predicate,
             Command::Kept(settings) => *self = settings.share()?,
             _ => {}
         }
@@ -101,11 +105,12 @@ impl<A: Allocator + Copy> Settings<A> {
             depth_stencil: self.depth_stencil,
             reference: self.reference,
             blend: self.blend,
+            predicate: self.predicate,
         }
     }
 }
 
-/// The seven kinds of state, lent: what a reader of a list goes along with.
+/// The eight kinds of state, lent: what a reader of a list goes along with.
 #[derive(Clone, Copy)]
 pub struct State<'a> {
     pub vertices: &'a [Vertex],
@@ -116,6 +121,7 @@ pub struct State<'a> {
     pub depth_stencil: DepthStencilState,
     pub reference: u8,
     pub blend: BlendState,
+    pub predicate: Option<(u32, bool)>,
 }
 
 impl<'a> State<'a> {
@@ -135,6 +141,7 @@ impl<'a> State<'a> {
             depth_stencil: DepthStencilState::default(),
             reference: 0,
             blend: BlendState::default(),
+            predicate: None,
         }
     }
 
@@ -153,6 +160,7 @@ impl<'a> State<'a> {
                 self.reference = *reference;
             }
             Command::SetBlend(blend) => self.blend = *blend,
+            Command::SetPredication(predicate) => self.predicate = *predicate,
             Command::Kept(settings) => *self = settings.state(),
             _ => {}
         }

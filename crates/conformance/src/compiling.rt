@@ -55,7 +55,7 @@ fn compiled_for<A: Allocator + Copy>(
         height: side,
     };
     let bins = Bins::new(alloc, tile_count(size))?;
-    match compile(alloc, list.commands(), size, bins) {
+    match compile(alloc, list.commands(), size, &[false; 64], bins) {
         Ok(compiled) => Ok(compiled),
         Err((error, _)) => Err(error),
     }
@@ -179,9 +179,9 @@ fn insisting<A: Allocator + Copy>(alloc: A) -> Result<(bool, bool), GfxError> {
         Ok(bins) => bins,
         Err(_) => Bins::new(alloc, 4)?,
     };
-    match compile(alloc, list.commands(), SIZE, bins) {
+    match compile(alloc, list.commands(), SIZE, &[false; 64], bins) {
         Ok(compiled) => Ok((false, is_four_tiles(&compiled))),
-        Err((_, back)) => match compile(alloc, list.commands(), SIZE, back) {
+        Err((_, back)) => match compile(alloc, list.commands(), SIZE, &[false; 64], back) {
             Ok(compiled) => Ok((true, is_four_tiles(&compiled))),
             Err((error, _)) => Err(error),
         },

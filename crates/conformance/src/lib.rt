@@ -31,4 +31,6 @@ mod refusals;
 #[cfg(test)]
 mod scripts;
 #[cfg(test)]
+mod setting_up;
+#[cfg(test)]
 mod words;

@@ -74,7 +74,11 @@ const LATER_LINES: &str = "101\x20
 104 d0 pixel 0 0
 104 d0 query 0
 104 i begins 0
-104 i predicate
+104 i predication
+105 i predicate 0
+105 i predicate 0 1 0
+106 i predicate 0 2
+106 i predicate d0 1
 105 i vb a b
 105 i vb 1 2 3 4 5 6 7 8
 105 i topology

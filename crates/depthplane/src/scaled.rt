@@ -62,6 +62,7 @@ fn error_of(origin: Divided, right: Divided, down: Divided) -> u8
 
 impl Scaled {
     /// The divisions of a linear number's value at pixel (0, 0), and of its steps, in 2^40ths.
+    #[inline(always)]
     pub(crate) fn of(origin: Divided, right: Divided, down: Divided, divisor: i64) -> Scaled
         requires divisor { IsDivisor divisor }
         requires origin { IsRest divisor origin.remainder }

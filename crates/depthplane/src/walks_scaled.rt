@@ -96,6 +96,23 @@ fn mended(depth: u32, height: i128, area: i64) -> u32
     }
 }
 
+/// The depths at pixels whose values are near above whole numbers: those, or the ones below. The walks themselves aren't lent
+/// here, so that a loop over rows keeps their values in registers.
+#[cold]
+#[inline(never)]
+fn mend(plane: &Plane, x: u32, y: u32, depths: [u32; 8]) -> [u32; 8]
+    requires x { x ≤ 4103 }
+    requires y { y ≤ side_bound }
+    ensures { (j : ℕ) → j < 8 → slice_index result j ≡ mended_by (height plane.now (centre (x + j) y)) (size_of plane.now) (slice_index depths j) }
+{
+    let mut exact = depths;
+    for j in 0..8u32 {
+        let height = plane.height.at(x + j, y);
+        exact[j as usize] = mended(depths[j as usize], height, plane.area);
+    }
+    exact
+}
+
 /// Whether an area is so small, or nothing was rounded, that each depth is sure.
 fn is_sure(area: i64, error: u8) -> bool
     requires divisor { IsDivisor area }
@@ -129,23 +146,6 @@ impl Plane {
     }
 }
 
-impl<'a> ScaledWalks<'a> {
-    /// The depths at pixels whose values are near above whole numbers: those, or the ones below.
-    #[cold]
-    #[inline(never)]
-    fn mend(&self, depths: [u32; 8]) -> [u32; 8]
-        ensures { (j : ℕ) → j < 8 → slice_index result j ≡ mended_by (height self.now.plane (centre (self.now.x + j) self.now.y)) (size_of self.now.plane) (slice_index depths j) }
-    {
-        let plane = self.plane;
-        let mut exact = depths;
-        for j in 0..8u32 {
-            let height = plane.height.at(self.x + j, self.y);
-            exact[j as usize] = mended(depths[j as usize], height, self.area);
-        }
-        exact
-    }
-}
-
 impl<'a> Walks for ScaledWalks<'a> {
     ghost place = { λ w. w };
 
@@ -158,7 +158,7 @@ impl<'a> Walks for ScaledWalks<'a> {
         if all_far(&self.lanes) {
             return depths;
         }
-        self.mend(depths)
+        mend(self.plane, self.x, self.y, depths)
     }
 
     #[inline]

@@ -94,6 +94,7 @@ fn edge_function(start: Corner, end: Corner, turn: bool) -> EdgeFunction
 impl EdgeSet {
     /// The edges of a triangle, if it has an area
     /// (Direct3D 11.3 Functional Specification, "Rasterization Rules": top-left rule).
+    #[inline(always)]
     pub fn of(triangle: &SnapTri) -> Option<EdgeSet>
         ensures none { IsNone result ↔ (area (triangle_of triangle.now) ≡ pos 0) }
         ensures set { IfSome result (λ edges. edges ≡ triangle_of triangle.now) }
@@ -152,6 +153,7 @@ impl EdgeSet {
 
     /// The pixels among the first 4,096 each way whose centres lie between the corners' least and greatest places in
     /// both directions. No other of them has a covered centre.
+    #[inline(always)]
     pub fn bounds(&self) -> PixelRect
         ensures exact { (x y : ℕ) → x < side_bound → y < side_bound → IsIn result x y ↔ IsWithinExtremes self.now (centre x y) }
         ensures covered { (x y : ℕ) → x < side_bound → y < side_bound → IsTrue (covers self.now (centre x y)) → IsIn result x y }

@@ -14,9 +14,10 @@ use Rattle.gfxspec.specs.Limits.{is_size}
 use Rattle.gfxspec.specs.Depth.{biased}
 use Rattle.gfxspec.specs.State.{defaults, default_raster}
 use Rattle.gfxspec.specs.Items.{Drawn, opening, after_items, issue_count}
-use Rattle.gfxspec.specs.Commands.{Command, SetVertices, SetIndices, SetTopology, SetRaster, SetScissor, Draw, DrawIndexed, ClearColor, ClearDepthStencil, Begin, End}
-use Rattle.gfxspec.specs.Recorded.{items, triangle_count}
+use Rattle.gfxspec.specs.Commands.{Command, SetVertices, SetIndices, SetTopology, SetRaster, SetScissor, SetPredication, Draw, DrawIndexed, ClearColor, ClearDepthStencil, Begin, End}
+use Rattle.gfxspec.specs.Recorded.{items, triangle_count, after_finish}
 use Rattle.gfxspec.specs.Session.{Step, Records, Executes, Flushes, items_of_session, settings_now, last_issue, pending}
+use Rattle.gfxspec.specs.Predication.{performed, performed_session, results_behind}
 use Rattle.gfxspec.specs.Refusals.{first_row, list_rows, finish_rows, worker_rows, flush_rows, flush_rows_by, pixel_rows, query_rows, query_rows_by}
 use Rattle.gfxspec.specs.Tiles.{tile_count, tile_of, tile_rect}
 use Rattle.gfxspec.proofs.Vectors.{at, grey, upper_left, count_of}
@@ -131,3 +132,79 @@ counts_begin_anew = (refl, refl, refl)
 
 biases : (biased (negsuc 2) 1 ≡ 0) × (biased (negsuc 2) 6 ≡ 3) × (biased (pos 16777215) 1 ≡ 16777215) × (count_of (Drawn upper_left (record defaults { raster = record default_raster { depth_bias = pos 16777215 } }) (0 ∷ []) ∷ []) ≡ 0)
 biases = (refl, refl, refl, refl)
+
+-- ---- predication
+
+-- a triangle that covers 6 pixels
+abbrev halves : List Command
+halves = SetVertices (at 0 0 0 (grey 9) ∷ at 4 0 0 (grey 9) ∷ at 0 4 0 (grey 9) ∷ []) ∷ SetTopology TriangleList ∷ []
+
+abbrev predicated : ℕ → Bool → Command
+predicated q value = SetPredication (Some (q, value))
+
+-- the steps that are performed on 4 by 4 pixels, and what a session of them leaves
+abbrev left : List Step → List Step
+left steps = performed_session (of_size 4 4) steps
+
+abbrev left_pixel : List Step → ℕ → ℕ → List ℕ
+left_pixel steps x y = (after_items (items_of_session (left steps)) x y opening).rgba
+
+abbrev left_count : ℕ → List Step → ℕ
+left_count issue steps = session_count issue (left steps)
+
+-- query 0 counted, and it ran
+abbrev counted_first : List Step
+counted_first = recorded (halves ++ asked) ++ Flushes ∷ []
+
+abbrev cleared : Bool → ℕ → List Step
+cleared value n = recorded (predicated 0 value ∷ ClearColor (grey n) ∷ []) ++ Flushes ∷ []
+
+-- a clear is dropped where the result is the value, and performed where it isn't
+dropped_and_not : (left_pixel (counted_first ++ cleared true 1) 0 0 ≡ grey 9) × (left_pixel (counted_first ++ cleared false 1) 0 0 ≡ grey 1) × (left_pixel (counted_first ++ cleared true 1 ++ cleared false 2) 0 0 ≡ grey 2)
+dropped_and_not = (refl, refl, refl)
+
+-- a query without an issue is FALSE
+never_issued : (left_pixel (cleared true 1) 3 3 ≡ grey 1) × (left_pixel (cleared false 1) 3 3 ≡ grey 0)
+never_issued = (refl, refl)
+
+-- only the last ended issue tells, and one that is open doesn't yet
+last_ended_tells : (results_behind (of_size 4 4) counted_first 0 ≡ true) × (results_behind (of_size 4 4) (counted_first ++ recorded asked) 0 ≡ false) × (results_behind (of_size 4 4) (counted_first ++ recorded (Begin 0 ∷ [])) 0 ≡ true) × (results_behind (of_size 4 4) (recorded (halves ++ Begin 0 ∷ Draw 3 0 ∷ [])) 0 ≡ false)
+last_ended_tells = (refl, refl, refl, refl)
+
+-- a list is executed twice, round a change of the result
+abbrev clearing : List Command
+clearing = predicated 0 true ∷ ClearColor (grey 7) ∷ []
+
+executed_twice : (left_pixel (Executes clearing true ∷ []) 3 3 ≡ grey 7) × (left (Executes clearing true ∷ counted_first ++ Executes clearing true ∷ []) ≡ Executes clearing true ∷ counted_first ++ Executes (predicated 0 true ∷ []) true ∷ [])
+executed_twice = (refl, refl)
+
+-- a list has none of the predicate of the immediate context, which goes on behind it
+not_inherited : left (counted_first ++ recorded (predicated 0 true ∷ []) ++ Executes (ClearColor (grey 3) ∷ []) true ∷ recorded (ClearColor (grey 4) ∷ [])) ≡ counted_first ++ recorded (predicated 0 true ∷ []) ++ Executes (ClearColor (grey 3) ∷ []) true ∷ []
+not_inherited = refl
+
+-- the kept state has the predicate, and no execution that doesn't restore leaves it
+kept_on : (performed (λ q. true) (after_finish true clearing ++ ClearColor (grey 3) ∷ []) ≡ after_finish true clearing) × (left (counted_first ++ recorded (predicated 0 true ∷ []) ++ Executes [] false ∷ recorded (ClearColor (grey 4) ∷ [])) ≡ counted_first ++ recorded (predicated 0 true ∷ []) ++ Executes [] false ∷ recorded (ClearColor (grey 4) ∷ []))
+kept_on = (refl, refl)
+
+-- an issue of which each draw is dropped ends with count 0, and so tells FALSE
+abbrev dropped_issue : List Step
+dropped_issue = recorded (halves ++ predicated 1 false ∷ asked)
+
+dropped_issue_ends : (left dropped_issue ≡ recorded (halves ++ predicated 1 false ∷ Begin 0 ∷ End 0 ∷ [])) × (left_count 0 dropped_issue ≡ 0) × (last_issue 0 (left dropped_issue) ≡ Some 0) × (results_behind (of_size 4 4) (left dropped_issue) 0 ≡ false)
+dropped_issue_ends = (refl, refl, refl, refl)
+
+-- dropped draws still count towards the limit of a list, and still are refused
+dropped_draws_count : (triangle_count (halves ++ predicated 1 false ∷ Draw 3 0 ∷ []) ≡ 1) × (refused (predicated 1 false ∷ []) (Draw 3 0) ≡ Some E.TopologyUnset) × (refused (halves ++ predicated 1 false ∷ []) (Draw 3 1) ≡ Some E.DrawRange)
+dropped_draws_count = (refl, refl, refl)
+
+-- no list both begins a query and names it in a predicate; an issue that has ended counts, and so does the kept state
+apart : (refused [] (predicated 63 true) ≡ None) × (refused [] (predicated 64 true) ≡ Some E.QueryNumber) × (refused asked (predicated 0 true) ≡ Some E.PredicateInList) × (refused asked (predicated 1 true) ≡ None) × (refused asked (SetPredication None) ≡ None) × (refused (predicated 0 true ∷ []) (Begin 0) ≡ Some E.PredicateInList) × (refused (predicated 0 true ∷ []) (Begin 1) ≡ None) × (refused (predicated 0 true ∷ SetPredication None ∷ []) (Begin 0) ≡ Some E.PredicateInList)
+apart = (refl, refl, refl, refl, refl, refl, refl, refl)
+
+-- behind a flush only the predicate that is kept is named
+apart_behind_a_flush : (refused (pending counted_first) (predicated 0 true) ≡ None) × (refused (pending (recorded (predicated 0 true ∷ []) ++ Flushes ∷ [])) (Begin 0) ≡ Some E.PredicateInList) × (refused (pending (recorded (predicated 0 true ∷ SetPredication None ∷ []) ++ Flushes ∷ [])) (Begin 0) ≡ None) × (refused (pending (recorded (predicated 0 true ∷ []) ++ Executes [] false ∷ [])) (Begin 0) ≡ None)
+apart_behind_a_flush = (refl, refl, refl, refl)
+
+-- in the order of the rows
+predicates_in_order : (refused (issued 64) (predicated 0 true) ≡ Some E.PredicateInList) × (refused (predicated 1 true ∷ issued 64) (Begin 1) ≡ Some E.PredicateInList) × (refused (Begin 1 ∷ predicated 1 true ∷ []) (Begin 1) ≡ Some E.QueryOpen)
+predicates_in_order = (refl, refl, refl)

@@ -1,5 +1,5 @@
 -- The commands of a list (Microsoft Learn, ID3D11DeviceContext: the calls that record).
-use Rattle.std.specs.Prelude.{ℕ, ℤ, List}
+use Rattle.std.specs.Prelude.{ℕ, ℤ, Bool, List, Option}
 use Rattle.gfxspec.specs.declared.geometry.Vertex.{Vertex}
 use Rattle.gfxspec.specs.declared.geometry.PixelRect.{PixelRect}
 use Rattle.gfxspec.specs.declared.state.Topology.{Topology}
@@ -7,7 +7,7 @@ use Rattle.gfxspec.specs.DepthStencil.{DepthStencilSetting}
 use Rattle.gfxspec.specs.Color.{BlendSetting}
 use Rattle.gfxspec.specs.State.{RasterSetting, Settings}
 
--- `Kept` sets all seven kinds: the state that a finish keeps for the next list.
+-- `SetPredication` has a query and a value, or clears the predicate. `Kept` sets all eight kinds: the state that a finish keeps for the next list.
 pub data Command : Type 0 where
   SetVertices : (vertices : List Vertex) → Command
   SetIndices : (indices : List ℕ) → Command
@@ -16,6 +16,7 @@ pub data Command : Type 0 where
   SetScissor : (scissor : PixelRect) → Command
   SetDepthStencil : (depth_stencil : DepthStencilSetting) (reference : ℕ) → Command
   SetBlend : (blend : BlendSetting) → Command
+  SetPredication : (predicate : Option (ℕ × Bool)) → Command
   Draw : (count start : ℕ) → Command
   DrawIndexed : (count start : ℕ) (base : ℤ) → Command
   ClearColor : (rgba : List ℕ) → Command

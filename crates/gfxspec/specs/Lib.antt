@@ -15,5 +15,6 @@ pub mod Items
 pub mod Commands
 pub mod Recorded
 pub mod Session
+pub mod Predication
 pub mod Refusals
 pub mod Tiles

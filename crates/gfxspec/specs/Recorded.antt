@@ -1,5 +1,5 @@
 -- What a recorded list means: its settings found by looking back, its issues, its items (Microsoft Learn, "Command List", ID3D11DeviceContext::FinishCommandList; Direct3D 11.3 Functional Specification, "Asynchronous Notification": begin and end of a query).
-use Rattle.std.specs.Prelude.{ℕ, ◌+◌, ◌==◌, Bool, true, false, List, [], ◌∷◌, ◌++◌, map, Option, Some, None, filter_map, count_by, if◌then◌else◌}
+use Rattle.std.specs.Prelude.{ℕ, ◌+◌, ◌==◌, Bool, true, false, List, [], ◌∷◌, ◌++◌, map, Option, Some, None, option_map, filter_map, count_by, if◌then◌else◌}
 use Rattle.std.specs.List.{list_any}
 use Rattle.gfxspec.specs.declared.geometry.Vertex.{Vertex}
 use Rattle.gfxspec.specs.declared.geometry.PixelRect.{PixelRect}
@@ -9,7 +9,7 @@ use Rattle.gfxspec.specs.Color.{BlendSetting}
 use Rattle.gfxspec.specs.State.{RasterSetting, Settings, default_raster, default_scissor, default_depth_stencil, default_blend}
 use Rattle.gfxspec.specs.Assembly.{Primitive, draw_primitives, draw_indexed_primitives}
 use Rattle.gfxspec.specs.Items.{Item, Drawn, ColorCleared, DepthStencilCleared}
-use Rattle.gfxspec.specs.Commands.{Command, SetVertices, SetIndices, SetTopology, SetRaster, SetScissor, SetDepthStencil, SetBlend, Draw, DrawIndexed, ClearColor, ClearDepthStencil, Begin, End, Kept}
+use Rattle.gfxspec.specs.Commands.{Command, SetVertices, SetIndices, SetTopology, SetRaster, SetScissor, SetDepthStencil, SetBlend, SetPredication, Draw, DrawIndexed, ClearColor, ClearDepthStencil, Begin, End, Kept}
 
 -- ---- settings: that of the nearest earlier command which sets the kind, else the default
 
@@ -53,6 +53,11 @@ blend_set (SetBlend blend) = Some blend
 blend_set (Kept s) = Some s.blend
 blend_set c = None
 
+abbrev pub predicate_set : Command → Option (Option (ℕ × Bool))
+predicate_set (SetPredication predicate) = Some predicate
+predicate_set (Kept s) = Some s.predicate
+predicate_set c = None
+
 -- the last of some values, else a default
 abbrev pub last_or : {A : Type 0} → A → List A → A
 last_or d [] = d
@@ -73,6 +78,7 @@ settings_after earlier =
       depth_stencil = nearest depth_stencil_set default_depth_stencil earlier;
       reference = nearest reference_set 0 earlier;
       blend = nearest blend_set default_blend earlier;
+      predicate = nearest predicate_set None earlier;
     }
 
 -- ---- issues: issue k is the k-th `Begin`, counted from 0
@@ -84,6 +90,16 @@ query_begun c = None
 -- the query of each issue
 abbrev pub issues : List Command → List ℕ
 issues commands = filter_map query_begun commands
+
+-- the query by which a command sets a predicate; the kept state's command too
+abbrev pub query_named : Command → Option ℕ
+query_named (SetPredication predicate) = option_map (λ p. p.0) predicate
+query_named (Kept s) = option_map (λ p. p.0) s.predicate
+query_named c = None
+
+-- the queries by which commands set predicates
+abbrev pub queries_named : List Command → List ℕ
+queries_named commands = filter_map query_named commands
 
 abbrev pub ends : ℕ → Command → Bool
 ends q (End query) = query == q

@@ -3,7 +3,7 @@ use Rattle.std.specs.Prelude.{ℕ, ◌+◌, ◌≡◌, ◌⊎◌, ℤ, pos, ◌+
 use Rattle.std.specs.List.{list_any, list_all}
 use Rattle.gfxspec.specs.declared.TheConstants.{SIDE_LIMIT, DEPTH_MAX, BUFFER_LIMIT, LIST_LIMIT, QUERY_LIMIT, ISSUE_LIMIT, WORKER_LIMIT}
 use Rattle.gfxspec.specs.declared.error.GfxError.{GfxError}
-use Rattle.gfxspec.specs.declared.error.GfxError.TheVariants.{OutOfMemory, VertexRange, VertexCount, DrawRange, IndexRange, TopologyUnset, ScissorRect, QueryOpen, QueryNotOpen, QueryNumber, QueryLeftOpen, ListTooLong, TooManyIssues, PixelRange, WorkerCount, NotIssued}
+use Rattle.gfxspec.specs.declared.error.GfxError.TheVariants.{OutOfMemory, VertexRange, VertexCount, DrawRange, IndexRange, TopologyUnset, ScissorRect, QueryOpen, QueryNotOpen, QueryNumber, QueryLeftOpen, ListTooLong, TooManyIssues, PixelRange, WorkerCount, NotIssued, PredicateInList}
 use Rattle.gfxspec.specs.declared.geometry.PixelRect.{PixelRect}
 use Rattle.gfxspec.specs.declared.geometry.Size.{Size}
 use Rattle.gfxspec.specs.declared.state.Topology.{Topology}
@@ -11,8 +11,8 @@ use Rattle.gfxspec.specs.declared.state.Topology.TheVariants.{TriangleList, Tria
 use Rattle.gfxspec.specs.Vertices.{is_in_range}
 use Rattle.gfxspec.specs.State.{Settings}
 use Rattle.gfxspec.specs.Assembly.{is_cut, part, draw_primitives, draw_indexed_primitives}
-use Rattle.gfxspec.specs.Commands.{Command, SetVertices, SetIndices, SetTopology, SetRaster, SetScissor, SetDepthStencil, SetBlend, Draw, DrawIndexed, ClearColor, ClearDepthStencil, Begin, End, Kept}
-use Rattle.gfxspec.specs.Recorded.{settings_after, queries_open, issues, triangle_count}
+use Rattle.gfxspec.specs.Commands.{Command, SetVertices, SetIndices, SetTopology, SetRaster, SetScissor, SetDepthStencil, SetBlend, SetPredication, Draw, DrawIndexed, ClearColor, ClearDepthStencil, Begin, End, Kept}
+use Rattle.gfxspec.specs.Recorded.{settings_after, queries_open, queries_named, issues, triangle_count}
 
 -- a refusal, and whether it applies
 abbrev pub Row : Type 0
@@ -49,6 +49,16 @@ is_used_well (Some TriangleStrip) count base index = is_cut index || names_verte
 abbrev pub are_used_well : Settings → ℤ → List ℕ → Bool
 are_used_well s base indices = list_all (is_used_well s.topology (length s.vertices) base) indices
 
+-- a predicate by a query that is none
+abbrev pub is_bad_predicate : Option (ℕ × Bool) → Bool
+is_bad_predicate None = false
+is_bad_predicate (Some (query, value)) = nat_le QUERY_LIMIT query
+
+-- a predicate by a query that a list begins
+abbrev pub is_begun_predicate : List Command → Option (ℕ × Bool) → Bool
+is_begun_predicate list None = false
+is_begun_predicate list (Some (query, value)) = is_among query (issues list)
+
 -- one more command, and its triangles, are too many
 abbrev pub too_long : List Command → ℕ → Row
 too_long list triangles =
@@ -64,6 +74,8 @@ command_rows list s opened (SetRaster raster) = too_long list 0 ∷ []
 command_rows list s opened (SetScissor scissor) = (ScissorRect, is_bad_scissor scissor) ∷ too_long list 0 ∷ []
 command_rows list s opened (SetDepthStencil depth_stencil reference) = too_long list 0 ∷ []
 command_rows list s opened (SetBlend blend) = too_long list 0 ∷ []
+command_rows list s opened (SetPredication predicate) =
+    (QueryNumber, is_bad_predicate predicate) ∷ (PredicateInList, is_begun_predicate list predicate) ∷ too_long list 0 ∷ []
 command_rows list s opened (Draw count start) =
     (TopologyUnset, is_none s.topology) ∷ (DrawRange, nat_lt (length s.vertices) (start + count))
     ∷ too_long list (length (draw_primitives s count start)) ∷ []
@@ -75,7 +87,7 @@ command_rows list s opened (ClearColor rgba) = too_long list 0 ∷ []
 command_rows list s opened (ClearDepthStencil depth stencil) = (VertexRange, nat_lt DEPTH_MAX depth) ∷ too_long list 0 ∷ []
 command_rows list s opened (Begin query) =
     (QueryNumber, nat_le QUERY_LIMIT query) ∷ (QueryOpen, is_among query opened)
-    ∷ (TooManyIssues, nat_le ISSUE_LIMIT (length (issues list))) ∷ too_long list 0 ∷ []
+    ∷ (PredicateInList, is_among query (queries_named list)) ∷ (TooManyIssues, nat_le ISSUE_LIMIT (length (issues list))) ∷ too_long list 0 ∷ []
 command_rows list s opened (End query) =
     (QueryNumber, nat_le QUERY_LIMIT query) ∷ (QueryNotOpen, not (is_among query opened)) ∷ too_long list 0 ∷ []
 command_rows list s opened (Kept settings) = []
@@ -123,6 +135,7 @@ pub record AreSound (s : Settings) : Type 0 where
   pub in_range : list_all is_in_range s.vertices ≡ true
   pub index_count : nat_lt BUFFER_LIMIT (length s.indices) ≡ false
   pub scissor : is_bad_scissor s.scissor ≡ false
+  pub predicate : is_bad_predicate s.predicate ≡ false
 
 -- a command that was accepted behind those of its list; kept settings stand at the front alone
 abbrev pub IsAccepted : List Command → Command → Type 0

@@ -31,7 +31,7 @@ run Flushes = []
 abbrev pub all_run : List Step → List Command
 all_run steps = flat_map run steps
 
--- the items of a step behind earlier ones; a list is read from defaults
+-- the items of a step behind earlier ones, where each draw and clear is performed; a list is read from defaults
 abbrev pub step_items : List Step → Step → List Item
 step_items earlier (Records c) = items_at (settings_after (all_seen earlier)) (open_after (all_run earlier)) c
 step_items earlier (Executes commands restore) = items_behind (all_run earlier) [] commands
@@ -41,7 +41,7 @@ abbrev pub session_items : List Step → List Step → List Item
 session_items earlier [] = []
 session_items earlier (s ∷ ss) = step_items earlier s ++ session_items (earlier ++ s ∷ []) ss
 
--- the items of a session
+-- the items of a session of which each draw and clear is performed (`Predication` leaves the others out)
 abbrev pub items_of_session : List Step → List Item
 items_of_session steps = session_items [] steps
 

@@ -1,4 +1,4 @@
--- The state of a context: seven kinds, and their defaults (Microsoft Learn, "Introduction to a Device in Direct3D 11": deferred contexts; Direct3D 11.3 Functional Specification, "Input Assembler Stage", "Rasterizer Stage", "Output Merger Stage": state objects and their defaults).
+-- The state of a context: eight kinds, and their defaults (Microsoft Learn, "Introduction to a Device in Direct3D 11": deferred contexts; Direct3D 11.3 Functional Specification, "Input Assembler Stage", "Rasterizer Stage", "Output Merger Stage": state objects and their defaults; Microsoft Learn, ID3D11DeviceContext::SetPredication).
 use Rattle.std.specs.Prelude.{ℕ, ℤ, pos, Bool, true, false, List, [], Option, None}
 use Rattle.gfxspec.specs.declared.geometry.Vertex.{Vertex}
 use Rattle.gfxspec.specs.declared.geometry.PixelRect.{PixelRect}
@@ -18,7 +18,7 @@ pub record RasterSetting : Type 0 where
   pub scissor : Bool
   pub depth_bias : ℤ
 
--- vertices, indices, topology, rasterizer state, scissor rectangle, depth-stencil state with its reference, blend state
+-- vertices, indices, topology, rasterizer state, scissor rectangle, depth-stencil state with its reference, blend state, and the predicate: a query and a value
 pub record Settings : Type 0 where
   pub vertices : List Vertex
   pub indices : List ℕ
@@ -28,6 +28,7 @@ pub record Settings : Type 0 where
   pub depth_stencil : DepthStencilSetting
   pub reference : ℕ
   pub blend : BlendSetting
+  pub predicate : Option (ℕ × Bool)
 
 abbrev pub default_raster : RasterSetting
 default_raster = record { cull = C.Back; front_ccw = false; scissor = false; depth_bias = pos 0 }
@@ -54,7 +55,7 @@ default_depth_stencil =
 abbrev pub default_blend : BlendSetting
 default_blend = record { logic = false; op = Noop; mask = 15 }
 
--- The topology is undefined until it is set.
+-- The topology is undefined until it is set, and there is no predicate.
 abbrev pub defaults : Settings
 defaults =
     record {
@@ -66,4 +67,5 @@ defaults =
       depth_stencil = default_depth_stencil;
       reference = 0;
       blend = default_blend;
+      predicate = None;
     }

@@ -5,9 +5,11 @@ use Rattle.std.specs.List.{list_any}
 use Rattle.gfxspec.specs.declared.geometry.Size.{Size}
 use Rattle.gfxspec.specs.declared.pixel.Pixel.{Pixel}
 use Rattle.gfxspec.specs.Items.{Item}
-use Rattle.gfxspec.specs.Commands.{Command, SetVertices, SetIndices, SetTopology, SetRaster, SetScissor, SetDepthStencil, SetBlend, Draw, DrawIndexed, ClearColor, ClearDepthStencil, Begin, End, Kept}
+use Rattle.gfxspec.specs.Commands.{Command, SetVertices, SetIndices, SetTopology, SetRaster, SetScissor, SetDepthStencil, SetBlend, SetPredication, Draw, DrawIndexed, ClearColor, ClearDepthStencil, Begin, End, Kept}
 use Rattle.gfxspec.specs.Recorded.{items}
 use Rattle.gfxspec.specs.Session.{last_of, begun_from}
+use Rattle.gfxspec.specs.Predication.{performed}
+use Rattle.meaning.proofs.Performed.{performed_alike}
 use Rattle.meaning.specs.Contexts.{counted_or, result_after, last_begun}
 use Rattle.std.proofs.Common.{cond}
 use Rattle.immediate.specs.Issues.{begins}
@@ -30,6 +32,7 @@ begun_none q k (SetRaster v ∷ cs) = begun_none q k cs
 begun_none q k (SetScissor v ∷ cs) = begun_none q k cs
 begun_none q k (SetDepthStencil v r ∷ cs) = begun_none q k cs
 begun_none q k (SetBlend v ∷ cs) = begun_none q k cs
+begun_none q k (SetPredication v ∷ cs) = begun_none q k cs
 begun_none q k (Draw count start ∷ cs) = begun_none q k cs
 begun_none q k (DrawIndexed count start base ∷ cs) = begun_none q k cs
 begun_none q k (ClearColor rgba ∷ cs) = begun_none q k cs
@@ -38,8 +41,10 @@ begun_none q k (End p ∷ cs) = begun_none q k cs
 begun_none q k (Kept s ∷ cs) = begun_none q k cs
 
 -- an issue that ran, or one that the list begins
-pub issued : (size : Size) (list : List Command) (pixels : ℕ → ℕ → Pixel) (q : ℕ) (before : Option ℕ) → (is_some before || list_any (begins q) list) ≡ not (is_none (result_after size list pixels q before))
-issued size list pixels q before = by before (last_begun q list) (list_any (begins q) list) (items list) (begun_none q 0 list)
+pub issued : (size : Size) (told : ℕ → Bool) (list : List Command) (pixels : ℕ → ℕ → Pixel) (q : ℕ) (before : Option ℕ) → (is_some before || list_any (begins q) list) ≡ not (is_none (result_after size (performed told list) pixels q before))
+issued size told list pixels q before =
+    by before (last_begun q (performed told list)) (list_any (begins q) list) (items (performed told list))
+    (ap (λ (ks : List ℕ). is_none (last_of ks)) ((performed_alike told list).begun q) ∙ begun_none q 0 list)
   where
     by : (before last : Option ℕ) (b : Bool) (is : List Item) → is_none last ≡ not b → (is_some before || b) ≡ not (is_none (counted_or before last is size pixels))
     by None None true is e = absurd cc
@@ -54,5 +59,5 @@ any_map f p [] = refl
 any_map f p (x ∷ xs) = ap (λ b. p (f x) || b) (any_map f p xs)
 
 -- where no issue ran, one that the list begins
-pub issued_else : (size : Size) (list : List Command) (pixels : ℕ → ℕ → Pixel) (q : ℕ) (before : Option ℕ) (b : Bool) → is_some before ≡ false → b ≡ list_any (begins q) list → b ≡ not (is_none (result_after size list pixels q before))
-issued_else size list pixels q before b none e = e ∙ ap (λ a. a || list_any (begins q) list) (sym none) ∙ issued size list pixels q before
+pub issued_else : (size : Size) (told : ℕ → Bool) (list : List Command) (pixels : ℕ → ℕ → Pixel) (q : ℕ) (before : Option ℕ) (b : Bool) → is_some before ≡ false → b ≡ list_any (begins q) list → b ≡ not (is_none (result_after size (performed told list) pixels q before))
+issued_else size told list pixels q before b none e = e ∙ ap (λ a. a || list_any (begins q) list) (sym none) ∙ issued size told list pixels q before

@@ -1,3 +1,4 @@
+mod Telling
 mod Settled
 mod Issued
 mod Storing

@@ -9,15 +9,18 @@ use Rattle.gfxspec.specs.Commands.{Command}
 use Rattle.gfxspec.specs.Recorded.{items, issues, after_finish}
 use Rattle.gfxspec.specs.Tiles.{tile_count}
 use Rattle.binmem.specs.Lists.{no_words}
-use Rattle.meaning.specs.Contexts.{result_after, result_at, with_counts}
-use Rattle.meaning.proofs.Contexts.{result_same, results_stored}
+use Rattle.meaning.specs.Contexts.{result_after, result_at, with_counts, performed_next}
+use Rattle.meaning.proofs.Contexts.{result_same, performed_results_stored}
+use Rattle.meaning.proofs.Predicates.{performed_same}
+use Rattle.gfxspec.specs.Predication.{performed, result_of}
+use Rattle.gfxspec.specs.Refusals.{AreAccepted}
 use Rattle.tileblock.specs.Surface.{Surface, IsWhole, pixel_of}
 use Rattle.binner.specs.Compiled.{Compilation, IsCompilation, MeansList}
 use Rattle.tileprog.specs.Programs.{ProgramsRan}
 use Rattle.tileprog.proofs.Ordering.{list_ran}
 use Rattle.immediate.specs.Outputs as outputs
-use Rattle.immediate.specs.Outputs.{Outputs, IsOutput, IsCompiled}
-use Rattle.immediate.specs.Held.{Held, Ran, shown, answered, held_of, outputs_of}
+use Rattle.immediate.specs.Outputs.{Outputs, IsOutput, performed_over, IsCompiled}
+use Rattle.immediate.specs.Held.{Held, Ran, shown, answered, context_of, held_of, outputs_of}
 
 same_counts : (f h : ℕ → ℕ) (k : ℕ) (queries : List ℕ) (results : List (Option ℕ)) → ((i : ℕ) → i < k + length queries → f i ≡ h i) → with_counts k f queries results ≡ with_counts k h queries results
 same_counts f h k [] results same = refl
@@ -33,20 +36,22 @@ fresh_output s results bins whole long none = record {
 }
 
 -- the programs of a compiled list ran, and the counts are stored
-pub list_has_run : (list : List Command) (c : Compilation) (old new : Surface) (results after : List (Option ℕ)) (counts : List ℕ) → IsCompilation c → c.size ≡ old.size → MeansList list c → c.issues ≡ length (issues list) → length results ≡ 64
+pub list_has_run : (list : List Command) (c : Compilation) (old new : Surface) (results after : List (Option ℕ)) (counts : List ℕ) → IsCompilation c → c.size ≡ old.size → MeansList (performed_over record { surface = old; results = results } list) c → c.issues ≡ length (issues list) → length results ≡ 64
     → ProgramsRan c old new counts → after ≡ with_counts 0 (λ k. get_or counts k 0) (issues list) results
     → outputs.HasRun list record { surface = old; results = results } record { surface = new; results = after }
 list_has_run list c old new results after counts sound size means many long ran stored =
-    let all = list_ran list c old new counts sound size means ran in
+    let told : ℕ → Bool = λ q. result_of (result_at results q) in
+    let left : List Command = performed told list in
+    let all = list_ran left c old new counts sound size means ran in
     record {
       size = ran.size;
       pixels = all.pixels;
       results = λ q l.
           ap (λ (rs : List (Option ℕ)). result_at rs q) stored
           ∙ ap (λ (rs : List (Option ℕ)). result_at rs q)
-          (same_counts (λ k. get_or counts k 0) (λ k. issue_count k (items list) old.size.width old.size.height (pixel_of old)) 0 (issues list) results
+          (same_counts (λ k. get_or counts k 0) (λ k. issue_count k (items left) old.size.width old.size.height (pixel_of old)) 0 (issues list) results
           (λ i less. all.counts i (omega (arith, less, many))))
-          ∙ results_stored old.size list (pixel_of old) results q (omega (arith, l, long));
+          ∙ performed_results_stored old.size told list (pixel_of old) results q (omega (arith, l, long));
     }
 
 pub length_counts : (counts : ℕ → ℕ) (k : ℕ) (queries : List ℕ) (results : List (Option ℕ)) → length (with_counts k counts queries results) ≡ length results
@@ -62,19 +67,25 @@ pending_ran old new before after ran begun = record {
 }
 
 -- and then a list
-pub list_ran_behind : (list : List Command) (restore : Bool) (a m n : Held) → Ran [] true a m → outputs.HasRun list (outputs_of m) (outputs_of n) → n.pending ≡ after_finish restore a.pending → Ran list restore a n
-list_ran_behind list restore a m n first ran begun = record {
-  size = ran.size ∙ first.size;
-  run = record {
-    pixels = λ x y w h.
-        ran.pixels x y (subst (λ (s : Size). x < s.width) (sym first.size) w) (subst (λ (s : Size). y < s.height) (sym first.size) h)
-        ∙ ap (after_items (items list) x y) (first.run.pixels x y w h);
-    results = λ q l.
-        subst (λ (s : Size). result_at n.results q ≡ result_after s list (pixel_of m.surface) q (result_at m.results q)) first.size (ran.results q l)
-        ∙ result_same a.surface.size list (pixel_of m.surface) (shown a) q (result_at m.results q) (answered a q) first.run.pixels (first.run.results q l);
-    pending = begun;
-  };
-}
+pub list_ran_behind : (list : List Command) (restore : Bool) (a m n : Held) → AreAccepted list → Ran [] true a m → outputs.HasRun list (outputs_of m) (outputs_of n) → n.pending ≡ after_finish restore a.pending → Ran list restore a n
+list_ran_behind list restore a m n accepted first ran begun =
+    let left : List Command = performed_over (outputs_of m) list in
+    let same : left ≡ performed_next a.surface.size (context_of a) list =
+    performed_same (λ q. result_of (result_at m.results q)) (λ q. result_of (answered a q)) list accepted (λ q l. ap result_of (first.run.results q l)) in
+    record {
+      size = ran.size ∙ first.size;
+      run = record {
+        pixels = λ x y w h.
+            ran.pixels x y (subst (λ (s : Size). x < s.width) (sym first.size) w) (subst (λ (s : Size). y < s.height) (sym first.size) h)
+            ∙ ap (after_items (items left) x y) (first.run.pixels x y w h)
+            ∙ ap (λ (cs : List Command). after_items (items cs) x y (shown a x y)) same;
+        results = λ q l.
+            subst (λ (s : Size). result_at n.results q ≡ result_after s left (pixel_of m.surface) q (result_at m.results q)) first.size (ran.results q l)
+            ∙ result_same a.surface.size left (pixel_of m.surface) (shown a) q (result_at m.results q) (answered a q) first.run.pixels (first.run.results q l)
+            ∙ ap (λ (cs : List Command). result_after a.surface.size cs (shown a) q (answered a q)) same;
+        pending = begun;
+      };
+    }
 
 -- ---- the steps of a run, over what stands in the code
 
@@ -86,7 +97,7 @@ module _ (list : List Command) (o : Outputs) (c : Compilation) (old new : Surfac
       → outputs.HasRun list o record { surface = new; results = after }
   run_stored sound long ran stored =
       subst (λ (p : Outputs). outputs.HasRun list p record { surface = new; results = after }) is
-      (list_has_run list c old new results after counts sound size_is compiled.means compiled.issues long ran stored)
+      (list_has_run list c old new results after counts sound size_is (subst (λ (p : Outputs). MeansList (performed_over p list) c) (sym is) compiled.means) compiled.issues long ran stored)
 
   -- what the type of outputs keeps, behind a run
   pub output_behind : (bins : List (List ℕ)) → ProgramsRan c old new counts → length after ≡ 64 → bins ≡ no_words (tile_count c.size) → IsOutput new after (Some bins)

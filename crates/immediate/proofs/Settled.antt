@@ -1,5 +1,5 @@
 -- A list that draws and clears nothing leaves each pixel.
-use Rattle.std.proofs.Common.{◌≡◌, ◌∙◌, sym, ap, refl, ℕ, ◌++◌, List, [], ◌∷◌}
+use Rattle.std.proofs.Common.{◌≡◌, ◌∙◌, sym, ap, refl, ℕ, ◌++◌, List, [], ◌∷◌, cond, not, ◌&&◌}
 use Rattle.std.specs.Prelude.{Bool, true, false, ◌||◌}
 use Rattle.std.specs.List.{list_any}
 use Rattle.gfxspec.specs.declared.pixel.Pixel.{Pixel}
@@ -7,7 +7,9 @@ use Rattle.gfxspec.specs.Items.{Item, after_items}
 use Rattle.gfxspec.specs.State.{Settings}
 use Rattle.tileblock.specs.Surface.{Surface, pixel_of}
 use Rattle.immediate.specs.Held.{Held, shown}
-use Rattle.gfxspec.specs.Commands.{Command, SetVertices, SetIndices, SetTopology, SetRaster, SetScissor, SetDepthStencil, SetBlend, Draw, DrawIndexed, ClearColor, ClearDepthStencil, Begin, End, Kept}
+use Rattle.gfxspec.specs.Commands.{Command, SetVertices, SetIndices, SetTopology, SetRaster, SetScissor, SetDepthStencil, SetBlend, SetPredication, Draw, DrawIndexed, ClearColor, ClearDepthStencil, Begin, End, Kept}
+use Rattle.gfxspec.specs.Predication.{withholds, performed_behind, performed, result_of}
+use Rattle.meaning.specs.Contexts.{result_at}
 use Rattle.gfxspec.specs.Recorded.{is_drawing, items, items_at, items_behind, settings_after, open_after}
 
 -- a command that draws and clears nothing has no item
@@ -19,6 +21,7 @@ no_item s opened (SetRaster v) h = refl
 no_item s opened (SetScissor v) h = refl
 no_item s opened (SetDepthStencil v r) h = refl
 no_item s opened (SetBlend v) h = refl
+no_item s opened (SetPredication v) h = refl
 no_item s opened (Draw count start) h = absurd cc
 no_item s opened (DrawIndexed count start base) h = absurd cc
 no_item s opened (ClearColor rgba) h = absurd cc
@@ -47,6 +50,19 @@ no_items list h = no_items_behind [] list h
 pub nothing_drawn : (list : List Command) → list_any is_drawing list ≡ false → (x y : ℕ) (old : Pixel) → old ≡ after_items (items list) x y old
 nothing_drawn list h x y old = sym (ap (λ (is : List Item). after_items is x y old) (no_items list h))
 
+-- where nothing is drawn, nothing is withheld
+none_withheld_behind : (results : ℕ → Bool) (earlier list : List Command) → list_any is_drawing list ≡ false → performed_behind results earlier list ≡ list
+none_withheld_behind results earlier [] h = refl
+none_withheld_behind results earlier (c ∷ cs) h =
+    let rest = performed_behind results (earlier ++ c ∷ []) cs in
+    ap (λ d. cond (not (d && withholds results (settings_after earlier).predicate)) (c ∷ rest) rest) (first_false (is_drawing c) (list_any is_drawing cs) h)
+    ∙ ap (λ l. c ∷ l) (none_withheld_behind results (earlier ++ c ∷ []) cs (second_false (is_drawing c) (list_any is_drawing cs) h))
+
+pub none_withheld : (results : ℕ → Bool) (list : List Command) → list_any is_drawing list ≡ false → performed results list ≡ list
+none_withheld results list h = none_withheld_behind results [] list h
+
 -- where nothing is drawn, the stored pixels are shown
 pub settled : (h : Held) (s : Surface) → h.surface ≡ s → (x y : ℕ) → list_any is_drawing h.pending ≡ false → pixel_of s x y ≡ shown h x y
-settled h s e x y none = ap (λ (t : Surface). pixel_of t x y) (sym e) ∙ nothing_drawn h.pending none x y (pixel_of h.surface x y)
+settled h s e x y none =
+    ap (λ (t : Surface). pixel_of t x y) (sym e) ∙ nothing_drawn h.pending none x y (pixel_of h.surface x y)
+    ∙ ap (λ (l : List Command). after_items (items l) x y (pixel_of h.surface x y)) (sym (none_withheld (λ q. result_of (result_at h.results q)) h.pending none))

@@ -3,6 +3,7 @@ use Rattle.std.specs.Prelude.{ℕ, ◌≡◌, ◌<◌, List, length, Option, Som
 use Rattle.gfxspec.specs.declared.TheConstants.{QUERY_LIMIT}
 use Rattle.gfxspec.specs.Commands.{Command}
 use Rattle.gfxspec.specs.Recorded.{issues}
+use Rattle.gfxspec.specs.Predication.{performed, result_of}
 use Rattle.gfxspec.specs.Tiles.{tile_count}
 use Rattle.tileblock.specs.Surface.{Surface, IsWhole, pixel_of}
 use Rattle.binmem.specs.Lists.{no_words}
@@ -20,17 +21,21 @@ pub record IsOutput (surface : Surface) (results : List (Option ℕ)) (waiting :
   pub many : length results ≡ 64
   pub empty : (bins : List (List ℕ)) → waiting ≡ Some bins → bins ≡ no_words (tile_count surface.size)
 
+-- the commands of a list that are performed under these results
+abbrev pub performed_over : Outputs → List Command → List Command
+performed_over o list = performed (λ q. result_of (result_at o.results q)) list
+
 -- a list ran
 pub record HasRun (list : List Command) (old new : Outputs) : Type 0 where
   pub size : new.surface.size ≡ old.surface.size
-  pub pixels : (x y : ℕ) → x < old.surface.size.width → y < old.surface.size.height → pixel_of new.surface x y ≡ pixels_after list (pixel_of old.surface) x y
-  pub results : (q : ℕ) → q < QUERY_LIMIT → result_at new.results q ≡ result_after old.surface.size list (pixel_of old.surface) q (result_at old.results q)
+  pub pixels : (x y : ℕ) → x < old.surface.size.width → y < old.surface.size.height → pixel_of new.surface x y ≡ pixels_after (performed_over old list) (pixel_of old.surface) x y
+  pub results : (q : ℕ) → q < QUERY_LIMIT → result_at new.results q ≡ result_after old.surface.size (performed_over old list) (pixel_of old.surface) q (result_at old.results q)
 
--- a compilation of the list for the target
+-- a compilation of the list for the target, under the results
 pub record IsCompiled (list : List Command) (o : Outputs) (c : Compilation) : Type 0 where
   pub size : c.size ≡ o.surface.size
   pub issues : c.issues ≡ length (issues list)
-  pub means : MeansList list c
+  pub means : MeansList (performed_over o list) c
 
 -- the list runs by its compilation, or without one, if it leaves everything as it is
 abbrev pub IsRunBy : List Command → Outputs → Option Compilation → Type 0

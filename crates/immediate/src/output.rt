@@ -1,9 +1,10 @@
 //! The target and the query results, as the last run left them, and what a run makes of them.
 
-ghost use Rattle.std.specs.Prelude.{◌≡◌, ℕ, ◌<◌, ◌≤◌, None, map, replicate, OnOk, IfOk, IfErr, OnErr};
+ghost use Rattle.std.specs.Prelude.{◌≡◌, ℕ, ◌<◌, ◌≤◌, None, false, map, replicate, slice_index_or, OnOk, IfOk, IfErr, OnErr};
 ghost use Rattle.std.specs.List.{list_any};
 ghost use Rattle.gfxspec.specs.declared.error.GfxError.TheVariants.{OutOfMemory};
 ghost use Rattle.gfxspec.specs.Items.{opening};
+ghost use Rattle.gfxspec.specs.Predication.{result_of};
 ghost use Rattle.gfxspec.specs.Refusals.{AnswersBy, AreAccepted};
 ghost use Rattle.gfxspec.specs.Tiles.{tile_count};
 ghost use Rattle.tileblock.specs.Surface.{IsWhole, pixel_of, size_rows};
@@ -16,7 +17,7 @@ ghost use Rattle.immediate.specs.Outputs.{HasRun, IsRunBy};
 use crate::counts::store_counts;
 use crate::crew::{draw_alone, draw_with_workers};
 use binmem::Bins;
-use binner::{Compiled, compile};
+use binner::{Compiled, compile, compile_parallel};
 use cmdlist::Command;
 use gfxspec::GfxError;
 use std::alloc::Allocator;
@@ -30,6 +31,27 @@ fn no_results() -> [Option<u64>; 64]
     ensures { result ≡ replicate 64 None }
 {
     [None; 64]
+}
+
+/// Whether some pixel was counted.
+fn is_counted(count: Option<u64>) -> bool
+    ensures { result ≡ result_of count }
+{
+    match count {
+        Some(count) => count > 0,
+        None => false,
+    }
+}
+
+/// The result of each query as a predicate.
+fn told_by(results: &[Option<u64>; 64]) -> [bool; 64]
+    ensures { (q : ℕ) → q < 64 → slice_index_or result q false ≡ result_of (result_at results.now q) }
+{
+    let mut told = [false; 64];
+    for query in 0..64usize {
+        told[query] = is_counted(results[query]);
+    }
+    told
 }
 
 /// Whether a command draws, clears or begins a query.
@@ -119,8 +141,8 @@ impl<A: Allocator + Copy + Send> Output<A> {
         }
     }
 
-    /// Compiles commands for the target. Where none draws, clears or begins a query, nothing is compiled. Refused with
-    /// OutOfMemory alone.
+    /// Compiles commands for the target, under the results of the queries. Where none draws, clears or begins a query,
+    /// nothing is compiled. Refused with OutOfMemory alone.
     fn compiled(&mut self, commands: &[Command<A>]) -> Result<Option<Compiled<A>>, GfxError>
         requires { AreAccepted (map command_value commands.now) }
         ensures same { self.new ≡ self.old }
@@ -131,7 +153,8 @@ impl<A: Allocator + Copy + Send> Output<A> {
             return Ok(None);
         }
         let bins = self.take_bins()?;
-        match compile(self.alloc, commands, self.target.size(), bins) {
+        let told = told_by(&self.results);
+        match compile(self.alloc, commands, self.target.size(), &told, bins) {
             Ok(compiled) => Ok(Some(compiled)),
             Err((refusal, bins)) => {
                 self.bins = Some(bins);
@@ -160,7 +183,36 @@ impl<A: Allocator + Copy + Send> Output<A> {
 }
 
 impl<A: Allocator + Copy + Send + Sync> Output<A> {
-    /// The same with as many threads beside the caller, each of which passes the gate.
+    /// The same as `compiled`, with the triangles of large draws set up in threads where there are workers.
+    fn compiled_in_threads<R: Threads + Sync>(
+        &mut self,
+        rt: &R,
+        commands: &[Command<A>],
+        workers: u32,
+    ) -> Result<Option<Compiled<A>>, GfxError>
+        requires { AreAccepted (map command_value commands.now) }
+        ensures same { self.new ≡ self.old }
+        ensures compiled { IfOk result (λ compiled. IsRunBy (map command_value commands.now) self.old compiled) }
+        ensures memory { IfErr result (λ e. e ≡ OutOfMemory) }
+    {
+        if workers == 0 {
+            return self.compiled(commands);
+        }
+        if !some_act(commands) {
+            return Ok(None);
+        }
+        let bins = self.take_bins()?;
+        let told = told_by(&self.results);
+        match compile_parallel(rt, self.alloc, commands, self.target.size(), &told, bins) {
+            Ok(compiled) => Ok(Some(compiled)),
+            Err((refusal, bins)) => {
+                self.bins = Some(bins);
+                Err(refusal)
+            }
+        }
+    }
+
+    /// The same as `run_alone` with as many threads beside the caller, each of which passes the gate.
     pub(crate) fn run_with_workers<R: Threads + Sync, G: Gate + Sync>(
         &mut self,
         rt: &R,
@@ -174,7 +226,7 @@ impl<A: Allocator + Copy + Send + Sync> Output<A> {
         ensures memory { IfErr result (λ e. e ≡ OutOfMemory) }
         ensures err { OnErr result (self.new ≡ self.old) }
     {
-        let Some(compiled) = self.compiled(commands)? else {
+        let Some(compiled) = self.compiled_in_threads(rt, commands, workers)? else {
             return Ok(());
         };
         let drawn = draw_with_workers(rt, &self.alloc, &compiled, &mut self.target, workers, gate);

@@ -4,7 +4,7 @@ use Rattle.std.specs.Prelude.{Some, None, ◌==◌}
 use Rattle.std.proofs.lemmas.Bool.Decides.{nat_tests}
 use Rattle.std.proofs.lemmas.List.{append-nil}
 use Rattle.gfxspec.specs.State.{Settings}
-use Rattle.gfxspec.specs.Commands.{Command, SetVertices, SetIndices, SetScissor, Kept}
+use Rattle.gfxspec.specs.Commands.{Command, SetVertices, SetIndices, SetScissor, SetPredication, Kept}
 use Rattle.gfxspec.specs.Recorded.{settings_after, queries_open}
 use Rattle.gfxspec.specs.Refusals.{Row, first_row, list_rows, some_open, flush_rows, finish_rows, AreSound, IsAccepted, AcceptedBehind, AreAccepted}
 use Rattle.meaning.specs.OneMore.{settings_with}
@@ -28,17 +28,19 @@ not_false true h = refl
 not_false false h = sym h
 
 -- sound settings stay so behind one more accepted command
-sound_with : (cs : List Command) (c : Command) (s : Settings) → IsAccepted cs c → AreSound s → AreSound (settings_with c s)
+pub sound_with : (cs : List Command) (c : Command) (s : Settings) → IsAccepted cs c → AreSound s → AreSound (settings_with c s)
 sound_with cs (SetVertices vs) s h k =
     let n = none_of (list_rows cs (SetVertices vs)) h in
-    record { vertex_count = n.0; in_range = not_false _ n.1.0; index_count = k.index_count; scissor = k.scissor }
+    record { vertex_count = n.0; in_range = not_false _ n.1.0; index_count = k.index_count; scissor = k.scissor; predicate = k.predicate }
 sound_with cs (SetIndices ns) s h k =
-    record { vertex_count = k.vertex_count; in_range = k.in_range; index_count = (none_of (list_rows cs (SetIndices ns)) h).0; scissor = k.scissor }
+    record { vertex_count = k.vertex_count; in_range = k.in_range; index_count = (none_of (list_rows cs (SetIndices ns)) h).0; scissor = k.scissor; predicate = k.predicate }
 sound_with cs (SetScissor r) s h k =
-    record { vertex_count = k.vertex_count; in_range = k.in_range; index_count = k.index_count; scissor = (none_of (list_rows cs (SetScissor r)) h).0 }
+    record { vertex_count = k.vertex_count; in_range = k.in_range; index_count = k.index_count; scissor = (none_of (list_rows cs (SetScissor r)) h).0; predicate = k.predicate }
+sound_with cs (SetPredication p) s h k =
+    record { vertex_count = k.vertex_count; in_range = k.in_range; index_count = k.index_count; scissor = k.scissor; predicate = (none_of (list_rows cs (SetPredication p)) h).0 }
 sound_with cs (Kept t) s h k = h.1
 sound_with cs c s h k =
-    record { vertex_count = k.vertex_count; in_range = k.in_range; index_count = k.index_count; scissor = k.scissor }
+    record { vertex_count = k.vertex_count; in_range = k.in_range; index_count = k.index_count; scissor = k.scissor; predicate = k.predicate }
 
 sound_behind : (earlier cs : List Command) → AcceptedBehind earlier cs → AreSound (settings_after earlier) → AreSound (settings_after (earlier ++ cs))
 sound_behind earlier [] h k = subst (λ e. AreSound (settings_after e)) (sym (append-nil earlier)) k
@@ -48,7 +50,7 @@ sound_behind earlier (c ∷ cs) h k =
 
 -- accepted commands leave sound settings
 pub sound_after : (cs : List Command) → AreAccepted cs → AreSound (settings_after cs)
-sound_after cs h = sound_behind [] cs h (record { vertex_count = refl; in_range = refl; index_count = refl; scissor = refl })
+sound_after cs h = sound_behind [] cs h (record { vertex_count = refl; in_range = refl; index_count = refl; scissor = refl; predicate = refl })
 
 -- ---- where no query is open
 

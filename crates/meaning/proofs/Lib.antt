@@ -1,4 +1,5 @@
 pub mod Nearest
+pub mod Performed
 pub mod Growing
 pub mod Folding
 pub mod Sessions
@@ -11,4 +12,9 @@ mod Rows
 pub mod Issues
 pub mod Following
 pub mod Standing
+pub mod Predicates
+pub mod Ended
+pub mod Performing
+pub mod Withheld
+pub mod Flushing
 pub mod Contexts

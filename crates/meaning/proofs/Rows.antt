@@ -5,11 +5,11 @@ use Rattle.std.specs.List.{flat_map}
 use Rattle.gfxspec.specs.declared.geometry.Vertex.{Vertex}
 use Rattle.gfxspec.specs.declared.geometry.Size.{Size}
 use Rattle.gfxspec.specs.declared.state.Topology.TheVariants.{TriangleList}
-use Rattle.gfxspec.specs.Commands.{Command, SetVertices, SetTopology, Draw, ClearDepthStencil, Begin, End}
+use Rattle.gfxspec.specs.Commands.{Command, SetVertices, SetTopology, SetPredication, Draw, ClearColor, ClearDepthStencil, Begin, End}
 use Rattle.gfxspec.specs.Recorded.{open_after}
 use Rattle.gfxspec.specs.Session.{Step, Records, Executes, Flushes, pending}
 use Rattle.meaning.specs.OneMore.{open_with}
-use Rattle.meaning.specs.Contexts.{Context, last_begun, answered}
+use Rattle.meaning.specs.Contexts.{Context, last_begun, shown, answered, performed_next}
 use Rattle.meaning.specs.Standing.{session_pixels, session_result, settled, issues_begun}
 
 abbrev four : Size
@@ -30,7 +30,7 @@ recorded commands = flat_map (λ c. Records c ∷ []) commands
 -- what a context keeps of these steps
 abbrev behind : List Step → Context
 behind steps = record {
-  stored = session_pixels (settled steps);
+  stored = session_pixels four (settled steps);
   results = session_result four (settled steps) 0 ∷ session_result four (settled steps) 1 ∷ [];
   pending = pending steps;
 }
@@ -80,3 +80,36 @@ settled_at = (refl, refl, refl, refl)
 
 opened : (open_after (Begin 3 ∷ Begin 5 ∷ End 3 ∷ Begin 3 ∷ []) ≡ 1 ∷ 2 ∷ []) × (open_with (3 ∷ 5 ∷ 3 ∷ []) (End 5) (1 ∷ 2 ∷ []) ≡ 2 ∷ []) × (open_with (3 ∷ 5 ∷ 3 ∷ []) (Begin 4) (1 ∷ 2 ∷ []) ≡ 1 ∷ 2 ∷ 3 ∷ []) × (last_begun 3 (Begin 3 ∷ Begin 5 ∷ End 3 ∷ Begin 3 ∷ []) ≡ Some 2)
 opened = (refl, refl, refl, refl)
+
+-- ---- predication: what a pixel holds, by the session and by the context
+
+abbrev Shown : List Step → List ℕ → Type 0
+Shown steps rgba = ((session_pixels four steps 0 0).rgba ≡ rgba) × ((shown (behind steps) 0 0).rgba ≡ rgba)
+
+abbrev clear : Bool → ℕ → List Step
+clear value n = recorded (SetPredication (Some (0, value)) ∷ ClearColor (n ∷ n ∷ n ∷ n ∷ []) ∷ [])
+
+-- query 0 counted 6
+dropped : Shown (once ++ Flushes ∷ clear true 1) (9 ∷ 9 ∷ 9 ∷ 9 ∷ [])
+dropped = (refl, refl)
+
+not_dropped : Shown (once ++ Flushes ∷ clear true 1 ++ Flushes ∷ clear false 2) (2 ∷ 2 ∷ 2 ∷ 2 ∷ [])
+not_dropped = (refl, refl)
+
+-- it counted 0, in the second issue
+last_issue_tells : Shown (once ++ recorded (asked 0) ++ Flushes ∷ clear true 1) (1 ∷ 1 ∷ 1 ∷ 1 ∷ [])
+last_issue_tells = (refl, refl)
+
+-- an execution takes the results of the pending commands, which run first
+abbrev predicated : List Command
+predicated = SetPredication (Some (0, true)) ∷ ClearColor (3 ∷ 3 ∷ 3 ∷ 3 ∷ []) ∷ []
+
+pending_first : (performed_next four (behind once) predicated ≡ SetPredication (Some (0, true)) ∷ []) × (performed_next four (behind []) predicated ≡ predicated) × (performed_next four (behind (once ++ Flushes ∷ recorded (asked 0))) predicated ≡ predicated)
+pending_first = (refl, refl, refl)
+
+executed_round_a_change : Shown (Executes predicated true ∷ []) (3 ∷ 3 ∷ 3 ∷ 3 ∷ []) × Shown (Executes predicated true ∷ once ++ Executes predicated true ∷ []) (9 ∷ 9 ∷ 9 ∷ 9 ∷ [])
+executed_round_a_change = ((refl, refl), (refl, refl))
+
+-- the issue of a pending list whose draws are all dropped
+dropped_issue : Answers (once ++ Flushes ∷ recorded (SetPredication (Some (0, true)) ∷ ClearDepthStencil 9 0 ∷ asked 1)) (Some 6) (Some 0)
+dropped_issue = (refl, refl, refl, refl)

@@ -19,7 +19,7 @@ step-same e f Flushes p q = refl
 grows : {X : Type 0} (g : Step → List X) (e f : List Step) (s : Step) → flat_map g e ≡ flat_map g f → flat_map g (e ++ s ∷ []) ≡ flat_map g (f ++ s ∷ [])
 grows g e f s p = flat_map-append g e (s ∷ []) ∙ ap (λ x. x ++ flat_map g (s ∷ [])) p ∙ sym (flat_map-append g f (s ∷ []))
 
-items-same : (e f ss : List Step) → all_seen e ≡ all_seen f → all_run e ≡ all_run f → session_items e ss ≡ session_items f ss
+pub items-same : (e f ss : List Step) → all_seen e ≡ all_seen f → all_run e ≡ all_run f → session_items e ss ≡ session_items f ss
 items-same e f [] p q = refl
 items-same e f (s ∷ ss) p q =
     ap (λ x. x ++ session_items (e ++ s ∷ []) ss) (step-same e f s p q)

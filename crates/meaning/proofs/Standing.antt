@@ -1,18 +1,19 @@
 -- The immediate context behind a session: what its pending list and its stored values come to, and what one more step changes.
 use Rattle.std.proofs.Common.{◌≡◌, ◌∙◌, ap, sym, subst, refl, ℕ, ◌+◌, Bool, true, false, ◌||◌, cond, List, [], ◌∷◌, ◌++◌, map, append_assoc}
-use Rattle.std.specs.Prelude.{None}
+use Rattle.std.specs.Prelude.{Option, None}
 use Rattle.std.specs.List.{list_any}
 use Rattle.std.proofs.Math.Bool.{or-false}
 use Rattle.std.proofs.lemmas.List.{append-nil, map-append}
 use Rattle.std.proofs.lemmas.List.Folds.{list_any-append}
 use Rattle.gfxspec.specs.declared.geometry.Size.{Size}
-use Rattle.gfxspec.specs.Items.{Item, opening}
+use Rattle.gfxspec.specs.declared.pixel.Pixel.{Pixel}
+use Rattle.gfxspec.specs.Items.{Item, after_items, opening}
 use Rattle.gfxspec.specs.Commands.{Command}
 use Rattle.gfxspec.specs.Recorded.{settings_after, open_after, queries_open, items_at, items, after_finish}
 use Rattle.gfxspec.specs.Session.{Step, Records, Executes, Flushes, all_seen, all_run, items_of_session, settings_now, open_now, last_issue, pending}
 use Rattle.meaning.specs.Renumbering.{renumbered}
 use Rattle.meaning.specs.Contexts.{last_begun, counted_or, result_after}
-use Rattle.meaning.specs.Standing.{session_pixels, session_result, issues_begun, is_run, settled, Follows}
+use Rattle.meaning.specs.Standing.{issues_begun, is_run, settled, Follows}
 use Rattle.meaning.proofs.Growing.{items-push}
 use Rattle.meaning.proofs.Sessions.{items_of_session-push, all_run-push, pending-push, settings_agree}
 use Rattle.meaning.proofs.Renumbering.{open_after-behind, items_at-renumbered, renumbers}
@@ -165,12 +166,20 @@ execution_follows steps list restore h =
     follows _ _ _ _ (λ issue le. session_without issue steps le)
     (items_of_session-push steps (Executes list restore) ∙ ap (λ l. items_of_session steps ++ l) (renumbers (all_run steps) list h).items_are)
 
-pub pending_result : (size : Size) (steps : List Step) (q : ℕ) → open_now (settled steps) ≡ [] → session_result size steps q ≡ result_after size (pending steps) (session_pixels (settled steps)) q (session_result size (settled steps) q)
+-- ---- pixels and results of steps of which each draw and clear is performed
+
+abbrev pub pixels_of : List Step → ℕ → ℕ → Pixel
+pixels_of steps x y = after_items (items_of_session steps) x y opening
+
+abbrev pub count_of : Size → List Step → ℕ → Option ℕ
+count_of size steps q = counted_or None (last_issue q steps) (items_of_session steps) size (λ x y. opening)
+
+pub pending_result : (size : Size) (steps : List Step) (q : ℕ) → open_now (settled steps) ≡ [] → count_of size steps q ≡ result_after size (pending steps) (pixels_of (settled steps)) q (count_of size (settled steps) q)
 pending_result size steps q h =
     ap (λ o. counted_or None o (items_of_session steps) size (λ x y. opening)) (last_agrees steps q)
     ∙ result_follows _ _ _ _ (pending_follows steps h) size (λ x y. opening) q (last_issue q (settled steps)) (λ j is. last_begun_below q (all_run (settled steps)) j is)
 
-pub execution_result : (size : Size) (steps : List Step) (list : List Command) (restore : Bool) (q : ℕ) → open_now steps ≡ [] → session_result size (steps ++ Executes list restore ∷ []) q ≡ result_after size list (session_pixels steps) q (session_result size steps q)
+pub execution_result : (size : Size) (steps : List Step) (list : List Command) (restore : Bool) (q : ℕ) → open_now steps ≡ [] → count_of size (steps ++ Executes list restore ∷ []) q ≡ result_after size list (pixels_of steps) q (count_of size steps q)
 execution_result size steps list restore q h =
     ap (λ o. counted_or None o (items_of_session (steps ++ Executes list restore ∷ [])) size (λ x y. opening))
     (ap (last_begun q) (all_run-push steps (Executes list restore)) ∙ last_begun-append q (all_run steps) list)

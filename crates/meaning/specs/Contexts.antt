@@ -7,6 +7,7 @@ use Rattle.gfxspec.specs.Items.{Item, after_items, issue_count}
 use Rattle.gfxspec.specs.Commands.{Command}
 use Rattle.gfxspec.specs.Recorded.{items, after_finish}
 use Rattle.gfxspec.specs.Session.{last_of, begun_from}
+use Rattle.gfxspec.specs.Predication.{performed, result_of}
 
 -- `results` has, for each query, the count of its last issue that ran
 pub record Context : Type 0 where
@@ -40,16 +41,24 @@ abbrev pub with_counts : ℕ → (ℕ → ℕ) → List ℕ → List (Option ℕ
 with_counts k counts [] results = results
 with_counts k counts (q ∷ queries) results = with_counts (k + 1) counts queries (slice_set results q (Some (counts k)))
 
+-- the pending commands that are performed: no list both begins a query and names it in a predicate, so the results that tell are the stored ones
+abbrev pub performed_pending : Context → List Command
+performed_pending c = performed (λ q. result_of (result_at c.results q)) c.pending
+
 -- what a pixel holds: the pending commands, run on what is stored
 abbrev pub shown : Context → ℕ → ℕ → Pixel
-shown c x y = pixels_after c.pending c.stored x y
+shown c x y = pixels_after (performed_pending c) c.stored x y
 
 -- what a query answers, if anything: the pending commands, run on what is stored. With no query open each issue has ended, so this is asked there alone.
 abbrev pub answered : Size → Context → ℕ → Option ℕ
-answered size c q = result_after size c.pending c.stored q (result_at c.results q)
+answered size c q = result_after size (performed_pending c) c.stored q (result_at c.results q)
+
+-- the commands of a list that are performed behind the pending ones, under the results that these leave
+abbrev pub performed_next : Size → Context → List Command → List Command
+performed_next size c list = performed (λ q. result_of (answered size c q)) list
 
 -- The pending commands ran, and then those of a list, from the default settings and with issues of its own. A call that runs the pending commands and nothing else has the empty list, and restores.
 pub record HasRun (size : Size) (list : List Command) (restore : Bool) (old new : Context) : Type 0 where
-  pub pixels : (x y : ℕ) → x < size.width → y < size.height → new.stored x y ≡ pixels_after list (shown old) x y
-  pub results : (q : ℕ) → q < QUERY_LIMIT → result_at new.results q ≡ result_after size list (shown old) q (answered size old q)
+  pub pixels : (x y : ℕ) → x < size.width → y < size.height → new.stored x y ≡ pixels_after (performed_next size old list) (shown old) x y
+  pub results : (q : ℕ) → q < QUERY_LIMIT → result_at new.results q ≡ result_after size (performed_next size old list) (shown old) q (answered size old q)
   pub pending : new.pending ≡ after_finish restore old.pending

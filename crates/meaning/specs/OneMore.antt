@@ -1,9 +1,11 @@
 -- What one more command of a list, or one more step of a session, changes. The definitions (gfxspec) look back over all of them; these follow from them, as this crate proves.
-use Rattle.std.specs.Prelude.{ℕ, true, ◌==◌, not, List, [], ◌∷◌, ◌++◌, length, filter, unwrap_or, slice_index_or}
+use Rattle.std.specs.Prelude.{ℕ, Bool, true, if◌then◌else◌, ◌==◌, not, List, [], ◌∷◌, ◌++◌, length, filter, unwrap_or, slice_index_or}
 use Rattle.gfxspec.specs.State.{Settings}
 use Rattle.gfxspec.specs.Assembly.{draw_primitives, draw_indexed_primitives}
 use Rattle.gfxspec.specs.Commands.{Command, Draw, DrawIndexed, Begin, End}
-use Rattle.gfxspec.specs.Recorded.{vertices_set, indices_set, topology_set, raster_set, scissor_set, depth_stencil_set, reference_set, blend_set, after_finish}
+use Rattle.gfxspec.specs.Recorded.{vertices_set, indices_set, topology_set, raster_set, scissor_set, depth_stencil_set, reference_set, blend_set, predicate_set, items_at, after_finish}
+use Rattle.gfxspec.specs.Items.{Item}
+use Rattle.gfxspec.specs.Predication.{withholds}
 use Rattle.gfxspec.specs.Session.{Step, Records, Executes, Flushes, all_seen}
 
 -- settings with those kinds changed that a command sets
@@ -18,6 +20,7 @@ settings_with c s =
       depth_stencil = unwrap_or (depth_stencil_set c) s.depth_stencil;
       reference = unwrap_or (reference_set c) s.reference;
       blend = unwrap_or (blend_set c) s.blend;
+      predicate = unwrap_or (predicate_set c) s.predicate;
     }
 
 -- how many triangles a command draws
@@ -25,6 +28,10 @@ abbrev pub triangles_of : Settings → Command → ℕ
 triangles_of s (Draw count start) = length (draw_primitives s count start)
 triangles_of s (DrawIndexed count start base) = length (draw_indexed_primitives s count start base)
 triangles_of s c = 0
+
+-- the items of a command, unless its predicate withholds them
+abbrev pub performed_items : (ℕ → Bool) → Settings → List ℕ → Command → List Item
+performed_items results s opened c = if withholds results s.predicate then [] else items_at s opened c
 
 -- the open queries but this one
 abbrev pub without : ℕ → List ℕ → List ℕ

@@ -9,18 +9,21 @@ use Rattle.gfxspec.specs.Commands.{Command}
 use Rattle.gfxspec.specs.Recorded.{items, issues, settings_after, queries_open}
 use Rattle.gfxspec.specs.Session as session
 use Rattle.gfxspec.specs.Session.{Step, Records, Executes, Flushes, all_run, items_of_session, settings_now, open_now, last_issue}
+use Rattle.gfxspec.specs.Predication.{performed_session}
+use Rattle.gfxspec.specs.Refusals.{AreAccepted}
 use Rattle.meaning.specs.Contexts.{Context, counted_or, result_at, shown, answered}
 use Rattle.meaning.specs.Renumbering.{renumbered}
 
 -- ---- what a session comes to
 
 -- what each pixel of a new target holds after the steps
-abbrev pub session_pixels : List Step → ℕ → ℕ → Pixel
-session_pixels steps x y = after_items (items_of_session steps) x y opening
+abbrev pub session_pixels : Size → List Step → ℕ → ℕ → Pixel
+session_pixels size steps x y = after_items (items_of_session (performed_session size steps)) x y opening
 
 -- the count of the last issue of a query, if there is one
 abbrev pub session_result : Size → List Step → ℕ → Option ℕ
-session_result size steps q = counted_or None (last_issue q steps) (items_of_session steps) size (λ x y. opening)
+session_result size steps q =
+    counted_or None (last_issue q (performed_session size steps)) (items_of_session (performed_session size steps)) size (λ x y. opening)
 
 -- how many issues the steps begin, which is the number of the next one
 abbrev pub issues_begun : List Step → ℕ
@@ -39,16 +42,17 @@ abbrev pub settled : List Step → List Step
 settled [] = []
 settled (s ∷ ss) = if list_any is_run (s ∷ ss) then s ∷ settled ss else []
 
--- What the context keeps behind the steps: the pixels and results are those of the last run, where no query was open.
+-- What the context keeps behind the steps: the pixels and results are those of the last run, where no query was open; the pending commands were accepted.
 pub record Stands (size : Size) (steps : List Step) (c : Context) : Type 0 where
-  pub pixels : (x y : ℕ) → x < size.width → y < size.height → c.stored x y ≡ session_pixels (settled steps) x y
+  pub pixels : (x y : ℕ) → x < size.width → y < size.height → c.stored x y ≡ session_pixels size (settled steps) x y
   pub results : (q : ℕ) → q < QUERY_LIMIT → result_at c.results q ≡ session_result size (settled steps) q
   pub none_open : open_now (settled steps) ≡ []
   pub pending : c.pending ≡ session.pending steps
+  pub accepted : AreAccepted c.pending
 
 -- What the context shows behind the steps: what the session comes to.
 pub record Shows (size : Size) (steps : List Step) (c : Context) : Type 0 where
-  pub pixels : (x y : ℕ) → x < size.width → y < size.height → shown c x y ≡ session_pixels steps x y
+  pub pixels : (x y : ℕ) → x < size.width → y < size.height → shown c x y ≡ session_pixels size steps x y
   pub answers : (q : ℕ) → q < QUERY_LIMIT → answered size c q ≡ session_result size steps q
   pub issued : (q : ℕ) → q < QUERY_LIMIT → is_none (answered size c q) ≡ is_none (last_issue q steps)
   pub settings : settings_after c.pending ≡ settings_now steps

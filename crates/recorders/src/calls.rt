@@ -23,6 +23,7 @@ fn call_of<A: Allocator>(verb: &Verb<A>) -> Option<Call<'_>>
         Verb::SetScissor(rectangle) => Call::SetScissor(*rectangle),
         Verb::SetDepthStencil(state, reference) => Call::SetDepthStencil(*state, *reference),
         Verb::SetBlend(blend) => Call::SetBlend(*blend),
+        Verb::SetPredication(predicate) => Call::SetPredication(*predicate),
         Verb::Draw(count, start) => Call::Draw(*count, *start),
         Verb::DrawIndexed(count, start, base) => Call::DrawIndexed(*count, *start, *base),
         Verb::ClearColor(rgba) => Call::ClearColor(*rgba),

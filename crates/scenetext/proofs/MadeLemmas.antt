@@ -1,6 +1,6 @@
 -- The verbs that are made of natural numbers alone.
 use Rattle.std.proofs.Common.{◌≡◌, ◌∙◌, ℕ, pos, ◌<◌, Bool, List, [], ◌∷◌, length, map, get_or, zero, suc, refl, sym, ap, subst, arith}
-use Rattle.std.specs.Prelude.{decimal}
+use Rattle.std.specs.Prelude.{decimal, Some, None}
 use Rattle.gfxspec.specs.Numbers.{compare_number}
 use Rattle.gfxspec.specs.DepthStencil.{FaceSetting, DepthStencilSetting}
 use Rattle.gfxspec.specs.Color.{BlendSetting}
@@ -71,6 +71,10 @@ depth_stencil_set ns = Call (gfx.SetDepthStencil (depth_stencil_from ns) (get_or
 
 abbrev pub blend_set : List ℕ → Verb
 blend_set ns = Call (gfx.SetBlend (record { logic = flag_from (get_or ns 0 0); op = logic_op_from (get_or ns 1 0); mask = get_or ns 2 0 }))
+
+abbrev pub predicate_set : List ℕ → Verb
+predicate_set [] = Call (gfx.SetPredication None)
+predicate_set (n ∷ ns) = Call (gfx.SetPredication (Some (n, flag_from (get_or ns 0 0))))
 
 abbrev pub drawn : List ℕ → Verb
 drawn ns = Call (gfx.Draw (get_or ns 0 0) (get_or ns 1 0))

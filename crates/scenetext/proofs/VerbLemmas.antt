@@ -1,6 +1,6 @@
 -- Verbs and their words: the words are what the table of commands wants, and what it lets through are words of a verb.
-use Rattle.std.proofs.Common.{◌≡◌, ℕ, ℤ, ◌+◌, ◌-◌, ◌*◌, ◌/◌, ◌<◌, Bool, true, false, cond, not, eqb, eq-eqb, List, [], ◌∷◌, ◌++◌, length, map, replicate, Some, None, refl, sym, ap, subst, ◌∙◌, arith}
-use Rattle.std.specs.Prelude.{decimal, codes, FitsSigned}
+use Rattle.std.proofs.Common.{◌≡◌, ℕ, ℤ, suc, ◌+◌, ◌-◌, ◌*◌, ◌/◌, ◌<◌, Bool, true, false, cond, not, eqb, eq-eqb, List, [], ◌∷◌, ◌++◌, length, map, replicate, Some, None, refl, sym, ap, subst, ◌∙◌, arith}
+use Rattle.std.specs.Prelude.{decimal, codes, FitsSigned, Option}
 use Rattle.std.specs.List.{list_all, AllByRecursion, flat_map}
 use Rattle.std.specs.Int.{w32}
 use Rattle.std.specs.Fmt.{signed_decimal}
@@ -17,14 +17,14 @@ use Rattle.scenetext.specs.Scene.{Verb, Call, Finish, Flush, Execute, Query, Pix
 use Rattle.scenetext.specs.Text.{is_printable, is_word}
 use Rattle.scenetext.specs.Numbers.{context_word, Kind, Context, is_context, fits_kind, fit, i32s}
 use Rattle.scenetext.specs.Commands.{vertex_kinds, OneOf, name, serves, ranges, shape, kinds_of, command_named}
-use Rattle.scenetext.specs.Spelling.{flag_number, raster_numbers, rect_numbers, depth_stencil_numbers, blend_numbers, vertex_words, verb_words, may_take, IsVerb}
+use Rattle.scenetext.specs.Spelling.{flag_number, raster_numbers, rect_numbers, depth_stencil_numbers, blend_numbers, vertex_words, verb_words, may_take, IsPredicate, IsVerb}
 use Rattle.scenetext.specs.Faults.{word}
 use Rattle.scenetext.specs.Ranges.{kind_of, kinds, IsIn, AreIn}
 use Rattle.scenetext.proofs.TextLemmas.{IsWordText, Lacks, and_left, and_right}
 use Rattle.scenetext.proofs.NumberLemmas.{IsWordText-decimal, IsWordText-signed_decimal, IsWordText-context, natural_fits, integer_fits, context_fits, small_signed, value-signed_decimal, value, number, context, value-decimal, natural_between, integer_is, context_is}
 use Rattle.scenetext.proofs.RangeLemmas.{are_small, length-AreIn, naturals_fit, naturals_texts, values_again, naturals_back}
 use Rattle.scenetext.proofs.ChoiceLemmas.{flag_from, flag_back, flag_again, topology_again}
-use Rattle.scenetext.proofs.MadeLemmas.{topology_set, raster_set, scissor_set, depth_stencil_set, blend_set, drawn, color_cleared, depth_stencil_cleared, begun, ended, finished, flushed, query_asked, pixel_asked, IsMade, topology_made, raster_made, scissor_made, depth_stencil_made, blend_made, draw_made, color_made, clear_made, begin_made, end_made, finish_made, flush_made, query_made, pixel_made, raster_again, depth_stencil_again, blend_again}
+use Rattle.scenetext.proofs.MadeLemmas.{topology_set, raster_set, scissor_set, depth_stencil_set, blend_set, predicate_set, drawn, color_cleared, depth_stencil_cleared, begun, ended, finished, flushed, query_asked, pixel_asked, IsMade, topology_made, raster_made, scissor_made, depth_stencil_made, blend_made, draw_made, color_made, clear_made, begin_made, end_made, finish_made, flush_made, query_made, pixel_made, raster_again, depth_stencil_again, blend_again}
 use Rattle.scenetext.proofs.GroupLemmas.{groups_found, vertices_from, vertices_texts, length-vertices, vertices_fit, vertices_again, groups_of, vertices_back, IsIndex, index_ranges, indices_small, indices_in, indices_are, singles_of}
 
 -- the verb of a command with these words
@@ -36,6 +36,7 @@ verb_from words.Raster ws = raster_set (map value ws)
 verb_from words.Scissor ws = scissor_set (map value ws)
 verb_from words.Ds ws = depth_stencil_set (map value ws)
 verb_from words.Blend ws = blend_set (map value ws)
+verb_from words.Predicate ws = predicate_set (map value ws)
 verb_from words.Draw ws = drawn (map value ws)
 verb_from words.Drawi ws = Call (gfx.DrawIndexed (value (word ws 0)) (value (word ws 1)) (number (word ws 2)))
 verb_from words.Clearc ws = color_cleared (map value ws)
@@ -128,6 +129,33 @@ exec_fits k list restore h numbers =
           rw (e, value-decimal list (omega (arith, numbers.0.high)), value-decimal (flag_number restore) (omega (arith, numbers.1.0.high)), flag_again restore) refl);
     }
 
+-- no argument, or a query and a value
+predicate_fits : (o : Option (ℕ × Bool)) → IsPredicate o → Fits (Call (gfx.SetPredication o))
+predicate_fits None h = record {
+  command = words.Predicate;
+  arguments = [];
+  words_are = refl;
+  taken = λ im. refl;
+  kinds = [];
+  found = refl;
+  fits = refl;
+  texts = tt;
+  again = refl;
+}
+predicate_fits (Some (query, set)) h =
+    let ns : List ℕ = query ∷ flag_number set ∷ [] in
+    record {
+      command = words.Predicate;
+      arguments = map decimal ns;
+      words_are = refl;
+      taken = λ im. refl;
+      kinds = kinds (ranges words.Predicate);
+      found = refl;
+      fits = naturals_fit (ranges words.Predicate) ns refl h;
+      texts = naturals_texts (ranges words.Predicate) ns refl h;
+      again = rw (value-decimal query (omega (arith, h.0.high)), value-decimal (flag_number set) (omega (arith, h.1.0.high)), flag_again set) refl;
+    }
+
 pub verb_fits : (v : Verb) → IsVerb v → Fits v
 verb_fits (Call (gfx.SetVertices vs)) h = record {
   command = words.Vb;
@@ -146,6 +174,7 @@ verb_fits (Call (gfx.SetRaster r)) h = naturals words.Raster raster_set (raster_
 verb_fits (Call (gfx.SetScissor r)) h = naturals words.Scissor scissor_set (rect_numbers r) _ refl (λ im. refl) refl refl (λ ws. refl) refl h
 verb_fits (Call (gfx.SetDepthStencil s reference)) h = naturals words.Ds depth_stencil_set (depth_stencil_numbers s reference) _ refl (λ im. refl) refl refl (λ ws. refl) (depth_stencil_again s reference) h
 verb_fits (Call (gfx.SetBlend b)) h = naturals words.Blend blend_set (blend_numbers b) _ refl (λ im. refl) refl refl (λ ws. refl) (blend_again b) h
+verb_fits (Call (gfx.SetPredication o)) h = predicate_fits o h
 verb_fits (Call (gfx.Draw count start)) h = naturals words.Draw drawn (count ∷ start ∷ []) _ refl (λ im. refl) refl refl (λ ws. refl) refl h
 verb_fits (Call (gfx.DrawIndexed count start base)) h = drawi_fits count start base h.0 h.1
 verb_fits (Call (gfx.ClearColor rgba)) h = naturals words.Clearc color_cleared rgba _ refl (λ im. refl) refl refl (λ ws. refl) refl h
@@ -230,6 +259,40 @@ indices_backs ls ws found fits =
     let b = naturals_back (index_ranges n) ws (indices_small n) (length-replicate n _) (subst (λ ks. fit ks ws ≡ true) same fits) in
     record { words = ap (λ x. codes "ib" ∷ x) b.0; verb = indices_are n (map value ws) b.1; taken = λ im. refl }
 
+predicate_backs : (ls : List Kind) (ws : List (List ℕ)) → kinds_of (shape words.Predicate) (length ws) ≡ Some ls → fit ls ws ≡ true → Backs words.Predicate ws
+predicate_backs ls [] found fits = record { words = refl; verb = tt; taken = λ im. refl }
+predicate_backs ls (a ∷ []) found fits = absurd cc
+predicate_backs ls (a ∷ b ∷ []) found fits =
+    let same : kinds (ranges words.Predicate) ≡ ls = cc in
+    let r = naturals_back (ranges words.Predicate) (a ∷ b ∷ []) refl refl (subst (λ ks. fit ks (a ∷ b ∷ []) ≡ true) (sym same) fits) in
+    let flag = flag_back (value b) r.1.1.0 in
+    record {
+      words = ap (λ n. codes "predicate" ∷ decimal (value a) ∷ decimal n ∷ []) flag ∙ ap (λ x. codes "predicate" ∷ x) r.0;
+      verb = (r.1.0, (subst (IsIn FLAG) (sym flag) r.1.1.0, tt));
+      taken = λ im. refl;
+    }
+predicate_backs ls (a ∷ b ∷ c ∷ ws) found fits = absurd (none (sym (many (length ws)) ∙ found))
+  where
+    ks : List Kind
+    ks = kinds (ranges words.Predicate)
+
+    not_none : (n : ℕ) → eqb 0 (n + 3) ≡ false
+    not_none n = grind (arith, nat_tests)
+
+    not_two : (n : ℕ) → eqb 2 (n + 3) ≡ false
+    not_two n = grind (arith, nat_tests)
+
+    three : (n : ℕ) → suc (suc (suc n)) ≡ n + 3
+    three n = omega arith
+
+    many : (n : ℕ) → kinds_of (shape words.Predicate) (suc (suc (suc n))) ≡ None
+    many n =
+        ap (kinds_of (shape words.Predicate)) (three n)
+        ∙ ap (λ b. cond b (Some []) (cond (eqb 2 (n + 3)) (Some ks) None)) (not_none n) ∙ ap (λ b. cond b (Some ks) None) (not_two n)
+
+    none : None ≡ Some ls → ⊥
+    none e = absurd cc
+
 -- words that fit a command are those of the verb that they make
 pub backs : (c : CommandWord) (ls : List Kind) (ws : List (List ℕ)) → kinds_of (shape c) (length ws) ≡ Some ls → fit ls ws ≡ true → Backs c ws
 backs words.Vb ls ws found fits =
@@ -243,6 +306,7 @@ backs words.Raster ls ws found fits = naturals_backs words.Raster raster_set ref
 backs words.Scissor ls ws found fits = naturals_backs words.Scissor scissor_set refl refl (λ ws. refl) scissor_made ls ws found fits
 backs words.Ds ls ws found fits = naturals_backs words.Ds depth_stencil_set refl refl (λ ws. refl) depth_stencil_made ls ws found fits
 backs words.Blend ls ws found fits = naturals_backs words.Blend blend_set refl refl (λ ws. refl) blend_made ls ws found fits
+backs words.Predicate ls ws found fits = predicate_backs ls ws found fits
 backs words.Draw ls ws found fits = naturals_backs words.Draw drawn refl refl (λ ws. refl) draw_made ls ws found fits
 backs words.Drawi ls ws found fits =
     let g = one_of (kinds (ranges words.Drawi) ++ i32s ∷ []) ls (length ws) found in
@@ -286,6 +350,7 @@ IsWordText-name words.Raster = IsWordText-known (codes "raster") refl refl refl
 IsWordText-name words.Scissor = IsWordText-known (codes "scissor") refl refl refl
 IsWordText-name words.Ds = IsWordText-known (codes "ds") refl refl refl
 IsWordText-name words.Blend = IsWordText-known (codes "blend") refl refl refl
+IsWordText-name words.Predicate = IsWordText-known (codes "predicate") refl refl refl
 IsWordText-name words.Draw = IsWordText-known (codes "draw") refl refl refl
 IsWordText-name words.Drawi = IsWordText-known (codes "drawi") refl refl refl
 IsWordText-name words.Clearc = IsWordText-known (codes "clearc") refl refl refl

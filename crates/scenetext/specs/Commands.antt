@@ -2,14 +2,14 @@
 use Rattle.std.specs.Prelude.{ℕ, ◌==◌, ◌/◌, ◌%◌, Bool, true, ◌&&◌, not, List, [], ◌∷◌, ◌++◌, length, Option, Some, None, bytes_eq, codes, find, replicate, if◌then◌else◌}
 use Rattle.std.specs.List.{flat_map}
 use Rattle.scenetext.specs.declared.command.CommandWord.{CommandWord}
-use Rattle.scenetext.specs.declared.command.CommandWord.TheVariants.{Vb, Ib, Topology, Raster, Scissor, Ds, Blend, Draw, Drawi, Clearc, Cleards, Begin, End, Finish, Flush, Exec, Query, Pixel}
+use Rattle.scenetext.specs.declared.command.CommandWord.TheVariants.{Vb, Ib, Topology, Raster, Scissor, Ds, Blend, Predicate, Draw, Drawi, Clearc, Cleards, Begin, End, Finish, Flush, Exec, Query, Pixel}
 use Rattle.scenetext.specs.declared.range.Range.{Range}
 use Rattle.scenetext.specs.declared.range.TheConstants.{U32, BYTE, FLAG, INDEX, TOPOLOGY, CULL, COMPARISON, STENCIL_OP, LOGIC_OP, COLOR_MASK}
 use Rattle.scenetext.specs.Numbers.{Kind, Context, i32s}
 use Rattle.scenetext.specs.Ranges.{kinds}
 
 abbrev pub commands : List CommandWord
-commands = Vb ∷ Ib ∷ Topology ∷ Raster ∷ Scissor ∷ Ds ∷ Blend ∷ Draw ∷ Drawi ∷ Clearc ∷ Cleards ∷ Begin ∷ End ∷ Finish ∷ Flush ∷ Exec ∷ Query ∷ Pixel ∷ []
+commands = Vb ∷ Ib ∷ Topology ∷ Raster ∷ Scissor ∷ Ds ∷ Blend ∷ Predicate ∷ Draw ∷ Drawi ∷ Clearc ∷ Cleards ∷ Begin ∷ End ∷ Finish ∷ Flush ∷ Exec ∷ Query ∷ Pixel ∷ []
 
 abbrev pub name : CommandWord → List ℕ
 name Vb = codes "vb"
@@ -19,6 +19,7 @@ name Raster = codes "raster"
 name Scissor = codes "scissor"
 name Ds = codes "ds"
 name Blend = codes "blend"
+name Predicate = codes "predicate"
 name Draw = codes "draw"
 name Drawi = codes "drawi"
 name Clearc = codes "clearc"
@@ -40,6 +41,7 @@ serves Raster immediate = true
 serves Scissor immediate = true
 serves Ds immediate = true
 serves Blend immediate = true
+serves Predicate immediate = true
 serves Draw immediate = true
 serves Drawi immediate = true
 serves Clearc immediate = true
@@ -56,7 +58,7 @@ serves Pixel immediate = immediate
 abbrev pub face_ranges : List Range
 face_ranges = STENCIL_OP ∷ STENCIL_OP ∷ STENCIL_OP ∷ COMPARISON ∷ []
 
--- the ranges of a command's natural numbers, in order: of one vertex behind its x and y, of one index, of `drawi` before its base, of `exec` behind its context
+-- the ranges of a command's natural numbers, in order: of one vertex behind its x and y, of one index, of `predicate` where it has any, of `drawi` before its base, of `exec` behind its context
 abbrev pub ranges : CommandWord → List Range
 ranges Vb = U32 ∷ BYTE ∷ BYTE ∷ BYTE ∷ BYTE ∷ []
 ranges Ib = INDEX ∷ []
@@ -65,6 +67,7 @@ ranges Raster = CULL ∷ FLAG ∷ FLAG ∷ []
 ranges Scissor = U32 ∷ U32 ∷ U32 ∷ U32 ∷ []
 ranges Ds = FLAG ∷ FLAG ∷ COMPARISON ∷ FLAG ∷ BYTE ∷ BYTE ∷ (face_ranges ++ (face_ranges ++ BYTE ∷ []))
 ranges Blend = FLAG ∷ LOGIC_OP ∷ COLOR_MASK ∷ []
+ranges Predicate = U32 ∷ FLAG ∷ []
 ranges Draw = U32 ∷ U32 ∷ []
 ranges Drawi = U32 ∷ U32 ∷ []
 ranges Clearc = BYTE ∷ BYTE ∷ BYTE ∷ BYTE ∷ []
@@ -89,6 +92,7 @@ vertex_kinds = i32s ∷ i32s ∷ kinds (ranges Vb)
 abbrev pub shape : CommandWord → Shape
 shape Vb = Groups vertex_kinds
 shape Ib = Groups (kinds (ranges Ib))
+shape Predicate = OneOf ([] ∷ kinds (ranges Predicate) ∷ [])
 shape Drawi = OneOf ((kinds (ranges Drawi) ++ i32s ∷ []) ∷ [])
 shape Exec = OneOf ((Context ∷ kinds (ranges Exec)) ∷ [])
 shape command = OneOf (kinds (ranges command) ∷ [])

@@ -1,5 +1,5 @@
 -- The spelling of a scene: what stands in its text, word by word.
-use Rattle.std.specs.Prelude.{ℕ, pos, ◌≡◌, ◌<◌, Bool, true, false, not, ◌&&◌, ◌==◌, List, [], ◌∷◌, ◌++◌, map, decimal, codes, count_by, FitsSigned}
+use Rattle.std.specs.Prelude.{ℕ, pos, ◌≡◌, ◌<◌, Bool, true, false, not, ◌&&◌, ◌==◌, Option, Some, None, List, [], ◌∷◌, ◌++◌, map, decimal, codes, count_by, FitsSigned}
 use Rattle.std.specs.List.{flat_map, AllByRecursion}
 use Rattle.std.specs.Int.{w32}
 use Rattle.std.specs.Fmt.{signed_decimal}
@@ -52,6 +52,11 @@ blend_numbers b = flag_number b.logic ∷ logic_op_number b.op ∷ b.mask ∷ []
 abbrev pub rect_numbers : PixelRect → List ℕ
 rect_numbers r = r.left ∷ r.top ∷ r.right ∷ r.bottom ∷ []
 
+-- a query and a value, or none
+abbrev pub predicate_numbers : Option (ℕ × Bool) → List ℕ
+predicate_numbers None = []
+predicate_numbers (Some (query, value)) = query ∷ flag_number value ∷ []
+
 -- the command word of a verb, and its arguments in order; kept settings have no word
 abbrev pub verb_words : Verb → List (List ℕ)
 verb_words (Call (gfx.SetVertices vertices)) = codes "vb" ∷ flat_map vertex_words vertices
@@ -61,6 +66,7 @@ verb_words (Call (gfx.SetRaster r)) = codes "raster" ∷ map decimal (raster_num
 verb_words (Call (gfx.SetScissor r)) = codes "scissor" ∷ map decimal (rect_numbers r)
 verb_words (Call (gfx.SetDepthStencil s reference)) = codes "ds" ∷ map decimal (depth_stencil_numbers s reference)
 verb_words (Call (gfx.SetBlend b)) = codes "blend" ∷ map decimal (blend_numbers b)
+verb_words (Call (gfx.SetPredication predicate)) = codes "predicate" ∷ map decimal (predicate_numbers predicate)
 verb_words (Call (gfx.Draw count start)) = codes "draw" ∷ decimal count ∷ decimal start ∷ []
 verb_words (Call (gfx.DrawIndexed count start base)) = codes "drawi" ∷ decimal count ∷ decimal start ∷ signed_decimal base ∷ []
 verb_words (Call (gfx.ClearColor rgba)) = codes "clearc" ∷ map decimal rgba
@@ -97,6 +103,10 @@ pub record IsVertex (v : Vertex) : Type 0 where
   pub y : FitsSigned w32 v.y
   pub others : AreIn (ranges commands.Vb) (v.z ∷ v.rgba)
 
+abbrev pub IsPredicate : Option (ℕ × Bool) → Type 0
+IsPredicate None = Unit {0}
+IsPredicate (Some (query, value)) = AreIn (ranges commands.Predicate) (query ∷ flag_number value ∷ [])
+
 -- the values that the arguments may have: numbers in the ranges of the command; kept settings have no spelling, nor has a depth bias
 abbrev pub IsVerb : Verb → Type 0
 IsVerb (Call (gfx.SetVertices vertices)) = AllByRecursion IsVertex vertices
@@ -106,6 +116,7 @@ IsVerb (Call (gfx.SetRaster r)) = AreIn (ranges commands.Raster) (raster_numbers
 IsVerb (Call (gfx.SetScissor r)) = AreIn (ranges commands.Scissor) (rect_numbers r)
 IsVerb (Call (gfx.SetDepthStencil s reference)) = AreIn (ranges commands.Ds) (depth_stencil_numbers s reference)
 IsVerb (Call (gfx.SetBlend b)) = AreIn (ranges commands.Blend) (blend_numbers b)
+IsVerb (Call (gfx.SetPredication predicate)) = IsPredicate predicate
 IsVerb (Call (gfx.Draw count start)) = AreIn (ranges commands.Draw) (count ∷ start ∷ [])
 IsVerb (Call (gfx.DrawIndexed count start base)) = AreIn (ranges commands.Drawi) (count ∷ start ∷ []) × FitsSigned w32 base
 IsVerb (Call (gfx.ClearColor rgba)) = AreIn (ranges commands.Clearc) rgba

@@ -12,6 +12,7 @@ pub enum CommandWord {
     Scissor,
     Ds,
     Blend,
+    Predicate,
     Draw,
     Drawi,
     Clearc,
@@ -25,7 +26,7 @@ pub enum CommandWord {
     Pixel,
 }
 
-const COMMANDS: [CommandWord; 18] = [
+const COMMANDS: [CommandWord; 19] = [
     CommandWord::Vb,
     CommandWord::Ib,
     CommandWord::Topology,
@@ -33,6 +34,7 @@ const COMMANDS: [CommandWord; 18] = [
     CommandWord::Scissor,
     CommandWord::Ds,
     CommandWord::Blend,
+    CommandWord::Predicate,
     CommandWord::Draw,
     CommandWord::Drawi,
     CommandWord::Clearc,
@@ -60,6 +62,7 @@ impl CommandWord {
             CommandWord::Scissor => b"scissor",
             CommandWord::Ds => b"ds",
             CommandWord::Blend => b"blend",
+            CommandWord::Predicate => b"predicate",
             CommandWord::Draw => b"draw",
             CommandWord::Drawi => b"drawi",
             CommandWord::Clearc => b"clearc",
@@ -86,6 +89,7 @@ impl CommandWord {
             | CommandWord::Scissor
             | CommandWord::Ds
             | CommandWord::Blend
+            | CommandWord::Predicate
             | CommandWord::Draw
             | CommandWord::Drawi
             | CommandWord::Clearc

@@ -84,6 +84,8 @@ pub enum Verb<A: Allocator> {
     /// The state, and its reference.
     SetDepthStencil(DepthStencilState, u8),
     SetBlend(BlendState),
+    /// The number of a query and a value, or no predicate.
+    SetPredication(Option<(u32, bool)>),
     /// How many vertices, and the first.
     Draw(u32, u32),
     /// How many indices, the first, and what is added to each.

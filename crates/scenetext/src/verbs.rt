@@ -131,6 +131,18 @@ fn set_blend<A: Allocator>(words: &mut Words) -> Result<Verb<A>, ReadError>
     })))
 }
 
+fn set_predication<A: Allocator>(words: &mut Words) -> Result<Verb<A>, ReadError>
+    ensures ok { IfOk result (λ v. Reads CommandWord.Predicate words.old (verb_value v)) }
+    ensures err { IfErr result (Refuses CommandWord.Predicate words.old) }
+{
+    if words.count() == 0 {
+        return Ok(Verb::SetPredication(None));
+    }
+    expect(words, 2)?;
+    let [query, value] = next_naturals(words, [U32, FLAG])?;
+    Ok(Verb::SetPredication(Some((query, value == 1))))
+}
+
 fn draw<A: Allocator>(words: &mut Words) -> Result<Verb<A>, ReadError>
     ensures ok { IfOk result (λ v. Reads CommandWord.Draw words.old (verb_value v)) }
     ensures err { IfErr result (Refuses CommandWord.Draw words.old) }
@@ -240,6 +252,7 @@ pub(crate) fn verb_of<A: Allocator>(
         CommandWord::Scissor => set_scissor(words),
         CommandWord::Ds => set_depth_stencil(words),
         CommandWord::Blend => set_blend(words),
+        CommandWord::Predicate => set_predication(words),
         CommandWord::Draw => draw(words),
         CommandWord::Drawi => draw_indexed(words),
         CommandWord::Clearc => clear_color(words),

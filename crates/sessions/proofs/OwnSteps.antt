@@ -94,7 +94,7 @@ module _ (size : Size) (ls : List Line) (i : ℕ) (l : Line) (c : Held) (text : 
 
     pub reached_own : (w : ℕ → ℕ → List Command) (d : Held) (reply : Option Reply) (new : List ℕ) (marked : List Mark) → ListsOf ls w → first_row (own_rows c l.verb) ≡ None → OwnTaken w l.verb c d → replied reply ≡ own_answers l.verb c → new ≡ text ++ answer_lines (replied reply) → marked ≡ marks_with marks i (length new) reply → OwnReached size ls (i + 1) d new marked
     reached_own w d reply new marked right none took answer grown marks_are =
-        let step = next_played size (take i ls) c h.played w l.verb d (named w right) none took in
+        let step = next_played size (take i ls) c h.played w l.verb d (named w right) is.verb none took in
         let says = answers_are size (take i ls) c h.played l.verb none in
         record {
           played = subst (λ x. IsPlayed size x d) (ap (λ m. take i ls ++ m ∷ []) turned ∙ more) step;

@@ -4,7 +4,7 @@ use Rattle.gfxspec.specs.declared.error.GfxError.{GfxError}
 use Rattle.gfxspec.specs.declared.geometry.Size.{Size}
 use Rattle.gfxspec.specs.Commands.{Command}
 use Rattle.gfxspec.specs.Recorded.{queries_open}
-use Rattle.gfxspec.specs.Refusals.{Row, list_rows, flush_rows, pixel_rows, query_rows}
+use Rattle.gfxspec.specs.Refusals.{Row, AreAccepted, list_rows, flush_rows, pixel_rows, query_rows}
 use Rattle.scenetext.specs.Scene.{Actor, Immediate, Deferred, Verb, Call, Finish, Flush, Execute, Query, Pixel, Line}
 use Rattle.scenetext.specs.Spelling.{AreLines}
 use Rattle.recorders.specs.declared.stop.Stop.{Stop}
@@ -37,7 +37,7 @@ abbrev pub OwnTaken : (ℕ → ℕ → List Command) → Verb → Held → Held 
 OwnTaken w (Call k) old new = new ≡ held_more old k
 OwnTaken w (Finish restore) old new = new ≡ old
 OwnTaken w Flush old new = Ran [] true old new
-OwnTaken w (Execute k n restore) old new = (queries_open (w k n) ≡ []) × Ran (w k n) restore old new
+OwnTaken w (Execute k n restore) old new = (queries_open (w k n) ≡ []) × AreAccepted (w k n) × Ran (w k n) restore old new
 OwnTaken w (Query q) old new = Ran [] true old new
 OwnTaken w (Pixel x y) old new = Ran [] true old new
 

@@ -2,7 +2,7 @@
 
 ghost use Rattle.std.specs.Prelude.{◌≡◌, ◌<◌, length, map, OnOk, IfOk, IfErr, MatchOption, [], None};
 ghost use Rattle.gfxspec.specs.Recorded.{queries_open};
-ghost use Rattle.gfxspec.specs.Refusals.{first_row};
+ghost use Rattle.gfxspec.specs.Refusals.{AreAccepted, first_row};
 ghost use Rattle.meaning.specs.Standing.{IsNew};
 ghost use Rattle.scenetext.specs.Seen.{actor_value, verb_value, line_value};
 ghost use Rattle.scenetext.specs.Scene.{Execute};
@@ -53,9 +53,10 @@ impl<A: Allocator + Copy> Own<A> {
     }
 }
 
-/// A finished list leaves no query open. This does nothing.
+/// A finished list has accepted commands and leaves no query open. This does nothing.
 pub(crate) fn leaves_none_open<A: Allocator>(list: &CommandList<A>)
-    ensures { queries_open list.now ≡ [] }
+    ensures none_open { queries_open list.now ≡ [] }
+    ensures accepted { AreAccepted list.now }
 {
     list.commands();
 }

@@ -61,6 +61,7 @@ impl SnapTri {
 
     /// Snaps three corners that are known one by one, the leading one first.
     #[tactic(auto, using(gfxspec::proofs::Threes::All_three))]
+    #[inline(always)]
     pub fn of(first: &Vertex, second: &Vertex, third: &Vertex) -> SnapTri
         requires first { IsPlaced first.now }
         requires second { IsPlaced second.now }

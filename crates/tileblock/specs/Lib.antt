@@ -1,4 +1,5 @@
 pub mod Block
 pub mod Bounds
+pub mod Widening
 pub mod SpanStored
 pub mod Surface

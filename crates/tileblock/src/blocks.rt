@@ -1,5 +1,6 @@
 //! A tile's block: what its pixels hold.
 
+use crate::extremes::Extremes;
 use gfxspec::{DEPTH_MAX, DepthStencil, Pixel, PixelRect};
 use lanes::{select_bytes8, select8};
 use std::alloc::{AllocError, Allocator};
@@ -89,6 +90,7 @@ impl<A: Allocator> TileBlock<A> {
     ghost use Rattle.gfxspec.specs.Tiles.{IsInTile};
     ghost use Rattle.tileblock.specs.Block.{Block, pixel_at};
     ghost use Rattle.tileblock.specs.Bounds.{LieBetween};
+    ghost use Rattle.tileblock.specs.Widening.{HoldsRow, IsWider};
     ghost use Rattle.lanes.specs.Stencil.{has};
     ghost use Rattle.tileblock.specs.SpanStored.{SpanStored};
 
@@ -290,5 +292,45 @@ impl<A: Allocator> TileBlock<A> {
         ensures { self.new ≡ self.old }
     {
         self.bounds = Some(DepthBounds { least, greatest });
+    }
+
+    /// What the depths of a row lie between, with those that were looked at before.
+    #[inline]
+    fn with_row(&self, row: u32, before: Extremes) -> Extremes
+        requires { row < 32 }
+        ensures row { HoldsRow self.now row result }
+        ensures before { IsWider before result }
+    {
+        let a = self.depth_span(0, row);
+        let b = self.depth_span(1, row);
+        let c = self.depth_span(2, row);
+        let d = self.depth_span(3, row);
+        let first = before.with(&a);
+        let second = first.with(&b);
+        let third = second.with(&c);
+        let last = third.with(&d);
+        last
+    }
+
+    /// What the depths of all rows lie between, lane by lane.
+    fn extremes(&self) -> Extremes
+        ensures rows { (row : ℕ) → row < 32 → HoldsRow self.now row result }
+        ensures tile { IsInTile self.now.rect }
+    {
+        let _rect = &self.rect;
+        let mut all = Extremes::none();
+        for row in 0..32u32 {
+            let more = self.with_row(row, all);
+            all = more;
+        }
+        all
+    }
+
+    /// Looks at all depths, and keeps what those of the rectangle lie between, until one is stored.
+    pub fn measure_bounds(&mut self)
+        ensures { self.new ≡ self.old }
+    {
+        let all = self.extremes();
+        self.keep_bounds(all.least_of_all(), all.greatest_of_all());
     }
 }

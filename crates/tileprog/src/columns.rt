@@ -17,15 +17,17 @@ use lanes::StencilTest;
 use std::alloc::Allocator;
 use tileblock::TileBlock;
 
-/// A column under a brush without tests; the answer is how many pixels pass.
-#[inline(never)]
-fn open_column<A: Allocator>(
+/// The rows of a column under a brush without tests, with the mask of its edges known to the loop.
+#[inline(always)]
+fn open_rows<A: Allocator>(
     block: &mut TileBlock<A>,
     column: &Column,
+    mask: u8,
     mut edges: EdgeWalk<'_>,
     plane: &Plane,
     brush: Brush,
 ) -> u32
+    requires same { mask ≡ column.now.mask }
     requires column { IsColumn column.now plane.now.triangle block.old.rect }
     requires edges { edges ≡ record { triangle = plane.now.triangle; x = column.now.x; y = column.now.clip.top } }
     requires named { IsNamed plane.now column.now.mask block.old.rect }
@@ -36,24 +38,48 @@ fn open_column<A: Allocator>(
     let rect = block.rect();
     let mut passed = 0u32;
     for row in column.clip.top - rect.top..column.clip.bottom - rect.top {
-        let more = open_row(block, &column, row, &edges, plane, &brush);
+        let more = open_row(block, &column, mask, row, &edges, plane, &brush);
         passed += more;
         edges.down();
     }
     passed
 }
 
-/// A column under a brush that tests depth alone; the answer is how many pixels pass.
-#[inline(always)]
-fn depth_rows<A: Allocator, W: Walks>(
+/// A column under a brush without tests; the answer is how many pixels pass. Where no edge is named, its loop has none.
+#[inline(never)]
+fn open_column<A: Allocator>(
     block: &mut TileBlock<A>,
     column: &Column,
+    edges: EdgeWalk<'_>,
+    plane: &Plane,
+    brush: Brush,
+) -> u32
+    requires column { IsColumn column.now plane.now.triangle block.old.rect }
+    requires edges { edges ≡ record { triangle = plane.now.triangle; x = column.now.x; y = column.now.clip.top } }
+    requires named { IsNamed plane.now column.now.mask block.old.rect }
+    requires kind { tests_of brush.state ≡ Open }
+    ensures { ColumnDrew (record { brush = brush; plane = plane.now; mask = column.now.mask; clip = column.now.clip }) block.old block.new column.now.x result }
+{
+    if column.mask == 0 {
+        open_rows(block, column, 0, edges, plane, brush)
+    } else {
+        open_rows(block, column, column.mask, edges, plane, brush)
+    }
+}
+
+/// The rows of a column under a brush that tests depth alone, with the mask of its edges known to the loop.
+#[inline(always)]
+fn depth_spans<A: Allocator, W: Walks>(
+    block: &mut TileBlock<A>,
+    column: &Column,
+    mask: u8,
     mut edges: EdgeWalk<'_>,
     mut walk: W,
     func: Compare,
     write: bool,
     brush: Brush,
 ) -> u32
+    requires same { mask ≡ column.now.mask }
     requires column { IsColumn column.now (W.place walk).plane.triangle block.old.rect }
     requires edges { edges ≡ record { triangle = (W.place walk).plane.triangle; x = column.now.x; y = column.now.clip.top } }
     requires walk { W.place walk ≡ record (W.place walk) { x = column.now.x; y = column.now.clip.top } }
@@ -67,12 +93,41 @@ fn depth_rows<A: Allocator, W: Walks>(
     let rect = block.rect();
     let mut passed = 0u32;
     for row in column.clip.top - rect.top..column.clip.bottom - rect.top {
-        let more = depth_row(block, &column, row, &edges, &walk, func, write, &brush);
+        let more = depth_row(
+            block, &column, mask, row, &edges, &walk, func, write, &brush,
+        );
         passed += more;
         edges.down();
         walk.next();
     }
     passed
+}
+
+/// A column under a brush that tests depth alone; the answer is how many pixels pass.
+#[inline(always)]
+fn depth_rows<A: Allocator, W: Walks>(
+    block: &mut TileBlock<A>,
+    column: &Column,
+    edges: EdgeWalk<'_>,
+    walk: W,
+    func: Compare,
+    write: bool,
+    brush: Brush,
+) -> u32
+    requires column { IsColumn column.now (W.place walk).plane.triangle block.old.rect }
+    requires edges { edges ≡ record { triangle = (W.place walk).plane.triangle; x = column.now.x; y = column.now.clip.top } }
+    requires walk { W.place walk ≡ record (W.place walk) { x = column.now.x; y = column.now.clip.top } }
+    requires left { block.old.rect.left ≤ (W.place walk).left }
+    requires top { block.old.rect.top ≤ (W.place walk).top }
+    requires named { IsNamed (W.place walk).plane column.now.mask block.old.rect }
+    requires kind { tests_of brush.state ≡ Depth func write }
+    ensures { ColumnDrew (record { brush = brush; plane = (W.place walk).plane; mask = column.now.mask; clip = column.now.clip }) block.old block.new column.now.x result }
+{
+    if column.mask == 0 {
+        depth_spans(block, column, 0, edges, walk, func, write, brush)
+    } else {
+        depth_spans(block, column, column.mask, edges, walk, func, write, brush)
+    }
 }
 
 /// The same, with the comparison known to each of the loops.
@@ -121,15 +176,17 @@ fn depth_column<A: Allocator, W: Walks>(
     }
 }
 
-/// A column under a brush with a stencil test; the answer is how many pixels pass.
-#[inline(never)]
-fn stencil_column<A: Allocator, W: Walks>(
+/// The rows of a column under a brush with a stencil test, with the mask of its edges known to the loop.
+#[inline(always)]
+fn stencil_rows<A: Allocator, W: Walks>(
     block: &mut TileBlock<A>,
     column: &Column,
+    mask: u8,
     mut edges: EdgeWalk<'_>,
     mut walk: W,
     brush: Brush,
 ) -> u32
+    requires same { mask ≡ column.now.mask }
     requires column { IsColumn column.now (W.place walk).plane.triangle block.old.rect }
     requires edges { edges ≡ record { triangle = (W.place walk).plane.triangle; x = column.now.x; y = column.now.clip.top } }
     requires walk { W.place walk ≡ record (W.place walk) { x = column.now.x; y = column.now.clip.top } }
@@ -144,12 +201,37 @@ fn stencil_column<A: Allocator, W: Walks>(
     let test = StencilTest::of(&brush.state, brush.front, brush.reference);
     let mut passed = 0u32;
     for row in column.clip.top - rect.top..column.clip.bottom - rect.top {
-        let more = stencil_row(block, &column, row, &edges, &walk, &test, &brush);
+        let more = stencil_row(block, &column, mask, row, &edges, &walk, &test, &brush);
         passed += more;
         edges.down();
         walk.next();
     }
     passed
+}
+
+/// A column under a brush with a stencil test; the answer is how many pixels pass.
+#[inline(never)]
+fn stencil_column<A: Allocator, W: Walks>(
+    block: &mut TileBlock<A>,
+    column: &Column,
+    edges: EdgeWalk<'_>,
+    walk: W,
+    brush: Brush,
+) -> u32
+    requires column { IsColumn column.now (W.place walk).plane.triangle block.old.rect }
+    requires edges { edges ≡ record { triangle = (W.place walk).plane.triangle; x = column.now.x; y = column.now.clip.top } }
+    requires walk { W.place walk ≡ record (W.place walk) { x = column.now.x; y = column.now.clip.top } }
+    requires left { block.old.rect.left ≤ (W.place walk).left }
+    requires top { block.old.rect.top ≤ (W.place walk).top }
+    requires named { IsNamed (W.place walk).plane column.now.mask block.old.rect }
+    requires kind { tests_of brush.state ≡ Stencil }
+    ensures { ColumnDrew (record { brush = brush; plane = (W.place walk).plane; mask = column.now.mask; clip = column.now.clip }) block.old block.new column.now.x result }
+{
+    if column.mask == 0 {
+        stencil_rows(block, column, 0, edges, walk, brush)
+    } else {
+        stencil_rows(block, column, column.mask, edges, walk, brush)
+    }
 }
 
 /// One column of spans, in the rows of the clip rectangle.

@@ -85,13 +85,25 @@ pub(crate) fn bounds_after(
     })
 }
 
-/// Keeps what the depths of a block lie between, where that is known.
-pub(crate) fn keep_after<A: Allocator>(block: &mut TileBlock<A>, after: Option<DepthBounds>)
+/// So many pixels of a tile have to pass before a look at all its depths is worth its time.
+const MANY: u32 = 256;
+
+/// Keeps what the depths of a block lie between, where that is known. Behind a triangle of which many pixels passed, all depths are
+/// looked at, so that the bounds are exact again.
+pub(crate) fn keep_after<A: Allocator>(
+    block: &mut TileBlock<A>,
+    after: Option<DepthBounds>,
+    passed: u32,
+)
     requires { IfSome after (λ d. LieBetween block.old d.least d.greatest) }
     ensures { block.new ≡ block.old }
 {
     let Some(known) = after else {
         return;
     };
+    if passed >= MANY {
+        block.measure_bounds();
+        return;
+    }
     block.keep_bounds(known.least, known.greatest);
 }

@@ -3,7 +3,8 @@
 ghost use Rattle.std.specs.Prelude.{◌≡◌, ◌≤◌, length};
 ghost use Rattle.tilerun.specs.Touched.{AreTiles};
 
-use crate::tile::{count_of, run_tile};
+use crate::tile::count_of;
+use crate::words::{prefetch, run_words};
 use binner::Compiled;
 use std::alloc::Allocator;
 use tileblock::{OpenTile, TileBlock};
@@ -34,6 +35,8 @@ pub struct RunTile<A: Allocator> {
     place: u32,
     block: TileBlock<A>,
     counts: [u32; 64],
+    /// What `prefetch` read: an aid and no part of the result, kept so that the reads are done.
+    prefetched: u64,
 }
 
 impl<'a, A: Allocator + Copy> TileProgram<'a, A> {
@@ -104,11 +107,14 @@ impl<'a, A: Allocator + Copy + Send> TileJob for TileProgram<'a, A> {
 
     fn run(&self, tile: PlacedTile<A>) -> RunTile<A> {
         let PlacedTile { place, tile } = tile;
-        let (block, counts) = run_tile(self.compiled, tile).into_parts();
+        let OpenTile { number, mut block } = tile;
+        let prefetched = prefetch(self.compiled, number);
+        let counts = run_words(self.compiled, number, &mut block);
         RunTile {
             place,
             block,
             counts,
+            prefetched,
         }
     }
 

@@ -22,8 +22,9 @@ use std::alloc::Allocator;
 use tileblock::TileBlock;
 
 /// The pixels of a span that the clip's columns and the named edges leave.
-#[inline]
-fn lanes_left(column: &Column, edges: &EdgeWalk<'_>) -> u8
+#[inline(always)]
+fn lanes_left(column: &Column, mask: u8, edges: &EdgeWalk<'_>) -> u8
+    requires same { mask ≡ column.now.mask }
     requires place { column.now.x ≡ edges.now.x }
     requires x { edges.now.x < side_bound }
     requires y { edges.now.y < side_bound }
@@ -31,19 +32,21 @@ fn lanes_left(column: &Column, edges: &EdgeWalk<'_>) -> u8
     ensures { (j : ℕ) → j < 8 → has result j ≡ ((nat_le column.now.clip.left (column.now.x + j) && nat_lt (column.now.x + j) column.now.clip.right)
         && passes_edges column.now.mask edges.now.triangle (centre (column.now.x + j) edges.now.y)) }
 {
-    column.within & cover(edges, column.steps, column.mask)
+    column.within & cover(edges, column.steps, mask)
 }
 
 /// A span under a brush without tests; the answer is how many pixels pass.
-#[inline]
+#[inline(always)]
 pub(crate) fn open_row<A: Allocator>(
     block: &mut TileBlock<A>,
     column: &Column,
+    mask: u8,
     row: u32,
     edges: &EdgeWalk<'_>,
     plane: &Plane,
     brush: &Brush,
 ) -> u32
+    requires same { mask ≡ column.now.mask }
     requires column { IsColumn column.now plane.now.triangle block.old.rect }
     requires row { IsRow column.now block.old.rect row }
     requires edges { edges.now ≡ record { triangle = plane.now.triangle; x = column.now.x; y = block.old.rect.top + row } }
@@ -51,7 +54,7 @@ pub(crate) fn open_row<A: Allocator>(
     requires kind { tests_of brush.now.state ≡ Open }
     ensures { RowDrew (record { brush = brush.now; plane = plane.now; mask = column.now.mask; clip = column.now.clip }) block.old block.new column.now.x (block.old.rect.top + row) result }
 {
-    let cover = lanes_left(column, edges);
+    let cover = lanes_left(column, mask, edges);
     if cover == 0 {
         return 0;
     }
@@ -65,6 +68,7 @@ pub(crate) fn open_row<A: Allocator>(
 pub(crate) fn depth_row<A: Allocator, W: Walks>(
     block: &mut TileBlock<A>,
     column: &Column,
+    mask: u8,
     row: u32,
     edges: &EdgeWalk<'_>,
     walk: &W,
@@ -72,6 +76,7 @@ pub(crate) fn depth_row<A: Allocator, W: Walks>(
     write: bool,
     brush: &Brush,
 ) -> u32
+    requires same { mask ≡ column.now.mask }
     requires column { IsColumn column.now (W.place walk.now).plane.triangle block.old.rect }
     requires row { IsRow column.now block.old.rect row }
     requires edges { edges.now ≡ record { triangle = (W.place walk.now).plane.triangle; x = column.now.x; y = block.old.rect.top + row } }
@@ -82,7 +87,7 @@ pub(crate) fn depth_row<A: Allocator, W: Walks>(
     requires kind { tests_of brush.now.state ≡ Depth func write }
     ensures { RowDrew (record { brush = brush.now; plane = (W.place walk.now).plane; mask = column.now.mask; clip = column.now.clip }) block.old block.new column.now.x (block.old.rect.top + row) result }
 {
-    let cover = lanes_left(column, edges);
+    let cover = lanes_left(column, mask, edges);
     if cover == 0 {
         return 0;
     }
@@ -92,16 +97,18 @@ pub(crate) fn depth_row<A: Allocator, W: Walks>(
 }
 
 /// A span under a brush with a stencil test; the answer is how many pixels pass.
-#[inline]
+#[inline(always)]
 pub(crate) fn stencil_row<A: Allocator, W: Walks>(
     block: &mut TileBlock<A>,
     column: &Column,
+    mask: u8,
     row: u32,
     edges: &EdgeWalk<'_>,
     walk: &W,
     test: &StencilTest,
     brush: &Brush,
 ) -> u32
+    requires same { mask ≡ column.now.mask }
     requires column { IsColumn column.now (W.place walk.now).plane.triangle block.old.rect }
     requires row { IsRow column.now block.old.rect row }
     requires edges { edges.now ≡ record { triangle = (W.place walk.now).plane.triangle; x = column.now.x; y = block.old.rect.top + row } }
@@ -113,7 +120,7 @@ pub(crate) fn stencil_row<A: Allocator, W: Walks>(
     requires test { test.now ≡ record { setting = brush.now.state; face = if brush.now.front then brush.now.state.front else brush.now.state.back; reference = brush.now.reference } }
     ensures { RowDrew (record { brush = brush.now; plane = (W.place walk.now).plane; mask = column.now.mask; clip = column.now.clip }) block.old block.new column.now.x (block.old.rect.top + row) result }
 {
-    let cover = lanes_left(column, edges);
+    let cover = lanes_left(column, mask, edges);
     if cover == 0 {
         return 0;
     }

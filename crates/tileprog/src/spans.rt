@@ -164,7 +164,7 @@ fn deep_mask<A: Allocator>(
 }
 
 /// Stores what the operations of a stencil test leave of the span's covered values, unless each is kept.
-#[inline]
+#[inline(always)]
 fn change_stencils<A: Allocator>(
     block: &mut TileBlock<A>,
     span: u32,
@@ -188,7 +188,7 @@ fn change_stencils<A: Allocator>(
 }
 
 /// Tests stencil and depth at the span's covered pixels, and stores what the tests leave.
-#[inline]
+#[inline(always)]
 fn test_stencils<A: Allocator>(
     block: &mut TileBlock<A>,
     span: u32,
@@ -217,7 +217,7 @@ fn test_stencils<A: Allocator>(
 }
 
 /// Draws the span's covered pixels under a brush without tests.
-#[inline]
+#[inline(always)]
 pub(crate) fn blend_open<A: Allocator>(
     block: &mut TileBlock<A>,
     span: u32,
@@ -258,7 +258,7 @@ pub(crate) fn blend_depths<A: Allocator>(
 }
 
 /// Draws the span's covered pixels under a brush with a stencil test; the answer has a bit for each that passes.
-#[inline]
+#[inline(always)]
 pub(crate) fn blend_stencils<A: Allocator>(
     block: &mut TileBlock<A>,
     span: u32,

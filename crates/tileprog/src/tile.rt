@@ -75,12 +75,4 @@ impl<A: Allocator> DoneTile<A> {
     {
         self.block
     }
-
-    /// The block that the program left, and the counts of the 64 issues.
-    pub(crate) fn into_parts(self) -> (TileBlock<A>, [u32; 64])
-        ensures block { result.0 ≡ self.block }
-        ensures counts { result.1 ≡ self.counts }
-    {
-        (self.block, self.counts)
-    }
 }

@@ -112,6 +112,6 @@ pub(crate) fn run_triangle<A: Allocator>(
     let whole = is_whole(rect, clip, mask);
     let after = bounds_after(entry, least, greatest, whole, stored);
     let passed = draw_under(block, triangle, mask, entry, clip);
-    keep_after(block, after);
+    keep_after(block, after, passed);
     passed
 }

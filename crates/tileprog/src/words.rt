@@ -97,6 +97,21 @@ fn run_word<A: Allocator + Copy>(
     }
 }
 
+/// Reads a part of the record of each triangle of a tile's program, so that all records are on their way from memory side by side
+/// before the first is drawn. The number is an aid and not a result: it says nothing of the tile, and is kept only so that the
+/// reads are done.
+pub(crate) fn prefetch<A: Allocator + Copy>(compiled: &Compiled<A>, tile: u32) -> u64
+    requires { tile < tile_count compiled.now.size }
+{
+    let mut reads = 0;
+    for number in compiled.words(tile) {
+        if let Some(Word::Tri(triangle, _)) = decode(number) {
+            reads ^= compiled.prefetch(triangle);
+        }
+    }
+    reads
+}
+
 /// Runs the program of a tile on its block; the answer has the count of each issue.
 pub(crate) fn run_words<A: Allocator + Copy>(
     compiled: &Compiled<A>,

@@ -4,61 +4,77 @@ use Rattle.meaning.specs.OneMore.{settings_with}
 use Rattle.cmdlist.specs.Seen.{state_value, command_value}
 use Rattle.binner.specs.Meaning.{entry_of}
 use Rattle.binner.specs.Opened.{IsOpened}
-use Rattle.binner.specs.Compiling.{Draws}
+use Rattle.binner.specs.Compiling.{Performs, told}
+use Rattle.std.specs.Prelude.{IfSome}
+use Rattle.binner.specs.Setups.{AreSetups, all_setups, drawn_by}
+use Rattle.binner.proofs.Slices.{set_up_for}
 use Rattle.binner.proofs.Accepted.{done}
 use Rattle.binner.proofs.Whole.{so_far, can_add, CanAdd, one_more, all_compiled}
 use Rattle.binner.proofs.compiling.add_commands.Goals as goal
 
-pub loop-command-init : goal.loop-command-init
-loop-command-init g c = so_far c.args.commands.now (state_value c.new-state.result) 0 0 c.nothing_begun-of_query.result c.args.compiling.now c.new-state.ensures c.nothing_begun-of_query.ensures c.requires.fresh
+pub loop-place-init : goal.loop-place-init
+loop-place-init g c = record {
+  so_far = so_far (told c.args.results.now) c.args.commands.now (state_value c.new-state.result) 0 0 c.nothing_begun-of_query.result c.args.compiling.now c.new-state.ensures c.nothing_begun-of_query.ensures c.requires.fresh;
+  ahead = c.requires.ahead;
+}
 
-pub add_command-requires-clause-drawable : goal.add_command-requires-clause-drawable
-add_command-requires-clause-drawable g c =
-    let l = c.loop-command in
-    (subst (λ k. CanAdd (state_value l.state) l.begun (command_value k) l.compiling) (sym c.command-item.is)
-    (can_add c.args.commands.now l.command-index c.command-item.result (state_value l.state) l.bits l.begun l.of_query c.args.compiling.now l.compiling c.requires.accepted (search rules) l.invariant)).drawable
+pub add_performed-requires-clause-drawable : goal.add_performed-requires-clause-drawable
+add_performed-requires-clause-drawable g c =
+    let l = c.loop-place in
+    (subst (λ k. CanAdd (state_value l.state) l.begun (command_value k) l.compiling) (sym c.index-commands-place.is)
+    (can_add (told c.args.results.now) c.args.commands.now l.place c.index-commands-place.result (state_value l.state) l.bits l.begun l.of_query c.args.compiling.now l.compiling c.requires.accepted (search rules) l.invariant.so_far)).drawable
 
-pub add_command-requires-clause-states : goal.add_command-requires-clause-states
-add_command-requires-clause-states g c =
-    let l = c.loop-command in
-    (can_add c.args.commands.now l.command-index c.command-item.result (state_value l.state) l.bits l.begun l.of_query c.args.compiling.now l.compiling c.requires.accepted (search rules) l.invariant).states
+pub add_performed-requires-clause-states : goal.add_performed-requires-clause-states
+add_performed-requires-clause-states g c =
+    let l = c.loop-place in
+    (can_add (told c.args.results.now) c.args.commands.now l.place c.index-commands-place.result (state_value l.state) l.bits l.begun l.of_query c.args.compiling.now l.compiling c.requires.accepted (search rules) l.invariant.so_far).states
 
-pub add_command-requires-clause-triangles : goal.add_command-requires-clause-triangles
-add_command-requires-clause-triangles g c =
-    let l = c.loop-command in
-    (subst (λ k. CanAdd (state_value l.state) l.begun (command_value k) l.compiling) (sym c.command-item.is)
-    (can_add c.args.commands.now l.command-index c.command-item.result (state_value l.state) l.bits l.begun l.of_query c.args.compiling.now l.compiling c.requires.accepted (search rules) l.invariant)).triangles
+pub add_performed-requires-clause-triangles : goal.add_performed-requires-clause-triangles
+add_performed-requires-clause-triangles g c =
+    let l = c.loop-place in
+    (subst (λ k. CanAdd (state_value l.state) l.begun (command_value k) l.compiling) (sym c.index-commands-place.is)
+    (can_add (told c.args.results.now) c.args.commands.now l.place c.index-commands-place.result (state_value l.state) l.bits l.begun l.of_query c.args.compiling.now l.compiling c.requires.accepted (search rules) l.invariant.so_far)).triangles
 
-pub add_command-requires-clause-clears : goal.add_command-requires-clause-clears
-add_command-requires-clause-clears g c =
-    let l = c.loop-command in
-    (can_add c.args.commands.now l.command-index c.command-item.result (state_value l.state) l.bits l.begun l.of_query c.args.compiling.now l.compiling c.requires.accepted (search rules) l.invariant).clears
+pub add_performed-requires-clause-clears : goal.add_performed-requires-clause-clears
+add_performed-requires-clause-clears g c =
+    let l = c.loop-place in
+    (can_add (told c.args.results.now) c.args.commands.now l.place c.index-commands-place.result (state_value l.state) l.bits l.begun l.of_query c.args.compiling.now l.compiling c.requires.accepted (search rules) l.invariant.so_far).clears
+
+pub add_performed-requires-clause-made : goal.add_performed-requires-clause-made
+add_performed-requires-clause-made g c =
+    let l = c.loop-place in
+    let s = state_value l.state in
+    subst (λ k. IfSome c.take_ahead-parts.result (λ p. AreSetups s l.compiling.lists.size (drawn_by s (command_value k)) (all_setups p.items))) (sym c.index-commands-place.is)
+    (set_up_for c.args.commands.now c.args.compiling.now.lists.size l.place c.index-commands-place.result s l.compiling.lists.size c.take_ahead-parts.result (search rules) l.invariant.so_far.state l.invariant.so_far.size c.take_ahead-parts.ensures.taken)
 
 pub note-requires : goal.note-requires
 note-requires g c =
-    let l = c.loop-command in
-    (subst (λ k. CanAdd (state_value l.state) l.begun (command_value k) l.compiling) (sym c.command-item.is)
-    (can_add c.args.commands.now l.command-index c.command-item.result (state_value l.state) l.bits l.begun l.of_query c.args.compiling.now l.compiling c.requires.accepted (search rules) l.invariant)).note
+    let l = c.loop-place in
+    (subst (λ k. CanAdd (state_value l.state) l.begun (command_value k) l.compiling) (sym c.index-commands-place.is)
+    (can_add (told c.args.results.now) c.args.commands.now l.place c.index-commands-place.result (state_value l.state) l.bits l.begun l.of_query c.args.compiling.now l.compiling c.requires.accepted (search rules) l.invariant.so_far)).note
 
-pub loop-command-preserved : goal.loop-command-preserved
-loop-command-preserved g c =
-    let l = c.loop-command in
+pub loop-place-preserved : goal.loop-place-preserved
+loop-place-preserved g c =
+    let l = c.loop-place in
     let cs = c.args.commands.now in
-    let i = l.command-index in
-    let d = c.command-item.result in
-    let is = c.command-item.is in
+    let i = l.place in
+    let d = c.index-commands-place.result in
+    let is = c.index-commands-place.is in
     let s = state_value l.state in
-    one_more cs i d s (state_value c.change.new.self) l.bits c.note.new.bits l.begun c.note.new.begun l.of_query c.note.new.of_query c.keeps_entry-kept.result c.args.compiling.now l.compiling c.add_command.new.compiling c.forget_unless.new.compiling (search rules)
-    (can_add cs i d s l.bits l.begun l.of_query c.args.compiling.now l.compiling c.requires.accepted (search rules) l.invariant)
-    l.invariant c.add_command.ensures.bins
-    (subst (λ k. Draws s l.bits (command_value k) l.compiling c.add_command.new.compiling) is c.in_ok-add_command.ensures.drawn)
-    c.forget_unless.ensures.rest
-    c.forget_unless.ensures.current
-    (λ h. subst (λ k. (s : Settings) (b : ℕ) → entry_of (settings_with (command_value k) s) b ≡ entry_of s b) is (c.keeps_entry-kept.ensures h))
-    (subst (λ k. IsOpened c.note.new.bits c.note.new.begun c.note.new.of_query (done cs i ++ command_value k ∷ [])) is (c.note.ensures (done cs i) l.invariant.opened))
-    (subst (λ k. state_value c.change.new.self ≡ settings_with (command_value k) s) is c.change.ensures)
+    record {
+      so_far = one_more (told c.args.results.now) cs i d s (state_value c.change.new.self) l.bits c.note.new.bits l.begun c.note.new.begun l.of_query c.note.new.of_query c.keeps_entry-kept.result c.args.compiling.now l.compiling c.add_performed.new.compiling c.forget_unless.new.compiling (search rules)
+          (can_add (told c.args.results.now) cs i d s l.bits l.begun l.of_query c.args.compiling.now l.compiling c.requires.accepted (search rules) l.invariant.so_far)
+          l.invariant.so_far c.add_performed.ensures.bins
+          (subst (λ k. Performs (told c.args.results.now) s l.bits (command_value k) l.compiling c.add_performed.new.compiling) is c.in_ok-add_performed.ensures.drawn)
+          c.forget_unless.ensures.rest
+          c.forget_unless.ensures.current
+          (λ h. subst (λ k. (s : Settings) (b : ℕ) → entry_of (settings_with (command_value k) s) b ≡ entry_of s b) is (c.keeps_entry-kept.ensures h))
+          (subst (λ k. IsOpened c.note.new.bits c.note.new.begun c.note.new.of_query (done cs i ++ command_value k ∷ [])) is (c.note.ensures (done cs i) l.invariant.so_far.opened))
+          (subst (λ k. state_value c.change.new.self ≡ settings_with (command_value k) s) is c.change.ensures);
+      ahead = c.take_ahead-parts.ensures.rest;
+    }
 
 pub returns-clause-compiled : goal.returns-clause-compiled
 returns-clause-compiled g c =
-    let l = c.loop-command in
-    all_compiled c.args.commands.now l.command-index (state_value l.state) l.bits l.begun l.of_query c.args.compiling.now l.compiling (search rules) l.invariant
+    let l = c.loop-place in
+    all_compiled (told c.args.results.now) c.args.commands.now l.place (state_value l.state) l.bits l.begun l.of_query c.args.compiling.now l.compiling (search rules) l.invariant.so_far

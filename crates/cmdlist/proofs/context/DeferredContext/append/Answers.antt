@@ -13,7 +13,7 @@ note_query-requires g c =
 pub invariant_of-self-2 : goal.invariant_of-self-2
 invariant_of-self-2 g c =
     let only = subst (λ l. OnlyLength l (command_value c.args.command) c.args.triangles) (sym c.self.view_is) c.requires.only in
-    recorded c.self.inside _ (command_value c.args.command) c.args.triangles c.self.invariant only (search rules) (pushed _ _ _ (rw c.unwrap.ensures at c.push.ensures.items ∙ ap (λ xs. xs ++ c.args.command ∷ []) c.try_reserve.ensures.items)) (search rules) refl (search rules) (search rules)
+    recorded c.self.inside _ (command_value c.args.command) c.args.triangles c.self.invariant only (search rules) (pushed _ _ _ (rw c.unwrap.ensures at c.push.ensures.items ∙ ap (λ xs. xs ++ c.args.command ∷ []) c.try_reserve.ensures.items)) (search rules) refl (search rules) (search rules) (search rules) (search rules)
 
 pub invariant_of-self : goal.invariant_of-self
 invariant_of-self g c = search rules

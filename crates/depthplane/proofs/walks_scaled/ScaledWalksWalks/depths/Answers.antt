@@ -53,12 +53,11 @@ returns c =
     let row = i.row in
     let whole = c.whole_parts-depths.ensures in
     let divisor = subst IsDivisor i.area_is i.divisor in
-    let P : Places → Type 0 = λ p. (j : ℕ) → j < 8 → IsNearStart p j → IsTrue (covers p.plane.triangle (centre (p.x + j) p.y))
-    → mended_by (height p.plane (centre (p.x + j) p.y)) (size_of p.plane) (slice_index c.whole_parts-depths.result j) ≡ depth_of p.plane (p.x + j) p.y in
+    let P : Places → Type 0 = λ p. (j : ℕ) → j < 8 → IsNearStart p j → IsTrue (covers p.plane.triangle (centre (p.x + j) p.y)) → slice_index c.mend.result j ≡ depth_of p.plane (p.x + j) p.y in
     let here : P (place_of w) = λ j h n t.
     let few = excess_few w.error (w.x + j) w.y i.error (omega (arith, column, h)) (omega (arith, row)) in
     let small = i.fits j h in
-    ap (mended_by (height w.plane.now (centre (w.x + j) w.y)) (size_of w.plane.now)) (whole j h)
+    c.mend.ensures j h
+    ∙ ap (mended_by (height w.plane.now (centre (w.x + j) w.y)) (size_of w.plane.now)) (whole j h)
     ∙ depth_mended w.plane.now (centre (w.x + j) w.y) (excess_at w.error (w.x + j) w.y) (slice_index w.lanes j) i.depths t divisor few small (i.heights j h) in
-    let there = subst P c.self.view_is here in
-    λ j h n t. c.mend.ensures j h ∙ there j h n t
+    subst P c.self.view_is here

@@ -15,7 +15,7 @@ returns g c =
     let first : Ran [] true a m = search rules in
     record {
       answer = search rules;
-      ok = list_ran_behind list c.args.restore a m (held_of out c.begin_anew.new.pending) first
+      ok = list_ran_behind list c.args.restore a m (held_of out c.begin_anew.new.pending) c.commands.ensures.accepted first
           (subst (λ (o : Outputs). HasRun list o out) (ap outputs_of c.self.view_is)
           (subst (λ (l : List Command). HasRun l c.self.inside.output out) c.commands.ensures.commands c.in_ok-run_alone.ensures.ok))
           (restored c.args.restore a.pending m.pending c.begin_anew.new.pending first.run.pending

@@ -1,9 +1,12 @@
-use Rattle.std.proofs.Common.{rules, sym, ap, ◌∙◌}
+use Rattle.std.proofs.Common.{rules, sym, ap, subst, ◌∙◌, List, map}
 use Rattle.gfxspec.specs.declared.geometry.Size.{Size}
 use Rattle.gfxspec.specs.Tiles.{tile_count}
 use Rattle.binmem.specs.Lists.{no_words}
 use Rattle.cmdlist.specs.Seen.{command_value}
-use Rattle.immediate.specs.Outputs.{Outputs}
+use Rattle.gfxspec.specs.Commands.{Command}
+use Rattle.binner.specs.Compiled.{MeansList}
+use Rattle.immediate.specs.Outputs.{Outputs, performed_over}
+use Rattle.immediate.proofs.Telling.{performed_told}
 use Rattle.immediate.proofs.Idle.{idle_commands}
 use Rattle.immediate.proofs.Runs.{fresh_output}
 use Rattle.immediate.proofs.output.Output.compiled.Goals as goal
@@ -21,5 +24,9 @@ returns-in-Ok-clause-compiled g c =
     record {
       size = c.in-Ok.ensures.size ∙ c.size.ensures.value ∙ ap (λ (o : Outputs). o.surface.size) (c.self.view_is ∙ c.take_bins.ensures.same);
       issues = c.in-Ok.ensures.issues;
-      means = c.in-Ok.ensures.means;
+      means =
+          subst (λ (list : List Command). MeansList list c.in-Ok.compiled)
+          (performed_told c.told_by-told.result c.self.inside.results (map command_value c.args.commands.now) c.requires c.told_by-told.ensures
+          ∙ ap (λ (o : Outputs). performed_over o (map command_value c.args.commands.now)) (c.self.view_is ∙ c.take_bins.ensures.same))
+          c.in-Ok.ensures.means;
     }

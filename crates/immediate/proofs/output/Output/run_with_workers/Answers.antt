@@ -10,7 +10,7 @@ pub invariant_of-self : goal.invariant_of-self
 invariant_of-self g c =
     let list = map command_value c.args.commands.now in
     let i = c.self.inside in
-    output_refused list c.args.self.now c.in-Some.compiled i.target c.draw_with_workers-drawn.new.target i.results i.results [] (c.self.view_is ∙ c.compiled.ensures.same)
+    output_refused list c.args.self.now c.in-Some.compiled i.target c.draw_with_workers-drawn.new.target i.results i.results [] (c.self.view_is ∙ c.compiled_in_threads.ensures.same)
     (subst (IsRunBy list c.args.self.now) c.in-Some.is c.in_ok-compiled.ensures.compiled)
     c.into_bins.result (search rules) c.self.invariant.whole c.self.invariant.many c.into_bins.ensures
 
@@ -18,7 +18,7 @@ pub invariant_of-self-2 : goal.invariant_of-self-2
 invariant_of-self-2 g c =
     let list = map command_value c.args.commands.now in
     let i = c.self.inside in
-    output_behind list c.args.self.now c.in-Some.compiled i.target c.draw_with_workers-drawn.new.target i.results c.store_counts.new.results c.in_ok-counts.counts.items (c.self.view_is ∙ c.compiled.ensures.same)
+    output_behind list c.args.self.now c.in-Some.compiled i.target c.draw_with_workers-drawn.new.target i.results c.store_counts.new.results c.in_ok-counts.counts.items (c.self.view_is ∙ c.compiled_in_threads.ensures.same)
     (subst (IsRunBy list c.args.self.now) c.in-Some.is c.in_ok-compiled.ensures.compiled)
     c.into_bins.result (search rules) (ap length c.store_counts.ensures ∙ length_counts (λ k. get_or c.as_slice.result.now k 0) 0 (issues list) i.results ∙ c.self.invariant.many) c.into_bins.ensures
 
@@ -26,7 +26,7 @@ pub returns-clause-ok : goal.returns-clause-ok
 returns-clause-ok g c =
     let list = map command_value c.args.commands.now in
     let i = c.self.inside in
-    run_stored list c.args.self.now c.in-Some.compiled i.target c.draw_with_workers-drawn.new.target i.results c.store_counts.new.results c.in_ok-counts.counts.items (c.self.view_is ∙ c.compiled.ensures.same)
+    run_stored list c.args.self.now c.in-Some.compiled i.target c.draw_with_workers-drawn.new.target i.results c.store_counts.new.results c.in_ok-counts.counts.items (c.self.view_is ∙ c.compiled_in_threads.ensures.same)
     (subst (IsRunBy list c.args.self.now) c.in-Some.is c.in_ok-compiled.ensures.compiled)
     c.draw_with_workers-drawn.ensures.sound c.self.invariant.many (search rules)
     (c.store_counts.ensures ∙ ap (λ (xs : List ℕ). with_counts 0 (λ k. get_or xs k 0) (issues list) i.results) c.as_slice.ensures.value)

@@ -1,0 +1,83 @@
+use Rattle.std.proofs.Common.{ap, rules, arith, ◌+◌, ◌≤◌}
+use Rattle.gfxspec.specs.declared.geometry.PixelRect.{PixelRect}
+use Rattle.depthplane.specs.Places.{Places}
+use Rattle.tileprog.specs.Strokes.{Stroke}
+use Rattle.tileprog.proofs.Columning.{row_more, all_rows}
+use Rattle.tileprog.proofs.columns.depth_spans.Goals as goal
+use Rattle.std.proofs.lemmas.Grind.{common_steps}
+
+pub loop-row-preserved : goal.loop-row-preserved
+loop-row-preserved g c =
+    let k = c.args.column.now in
+    let s : Stroke = record { brush = c.args.brush; plane = (g.W.Walks.place c.args.walk).plane; mask = k.mask; clip = k.clip } in
+    let old = c.args.block.now in
+    let mid = c.loop-row.block in
+    let row = c.loop-row.row in
+    let y = old.rect.top + row in
+    let inv = c.loop-row.invariant in
+    let below : k.clip.top ≤ y = search rules in
+    record {
+      edges = search rules;
+      walk = search rules;
+      so_far = row_more s (g.W.Walks.place c.loop-row.walk).plane old mid c.depth_row-more.new.block k.x y (old.rect.top + (row + 1)) (mid.rect.top + row) c.loop-row.passed c.depth_row-more.result c.requires.column.within below inv.so_far c.depth_row-more.ensures
+          (ap (λ (p : Places). p.plane) inv.walk) (ap (λ (r : PixelRect). r.top + row) inv.so_far.drew.rect) (omega arith);
+      few = let more = c.depth_row-more.ensures.few in let was = inv.few in omega arith;
+    }
+
+pub returns : goal.returns
+returns g c =
+    let k = c.args.column.now in
+    let s : Stroke = record { brush = c.args.brush; plane = (g.W.Walks.place c.args.walk).plane; mask = k.mask; clip = k.clip } in
+    let old = c.args.block.now in
+    all_rows s old c.loop-row.block k.x (old.rect.top + c.loop-row.row) c.loop-row.passed (search rules) c.loop-row.invariant.so_far (search rules)
+
+pub overflow_step-row : goal.overflow_step-row
+overflow_step-row g c = search rules
+
+pub overflow_sub-row-end : goal.overflow_sub-row-end
+overflow_sub-row-end g c = search rules
+
+pub loop-row-init : goal.loop-row-init
+loop-row-init g c = grind (arith, common_steps)
+
+pub depth_row-more-requires-clause-column : goal.depth_row-more-requires-clause-column
+depth_row-more-requires-clause-column g c = search rules
+
+pub depth_row-more-requires-clause-row : goal.depth_row-more-requires-clause-row
+depth_row-more-requires-clause-row g c = search rules
+
+pub depth_row-more-requires-clause-edges : goal.depth_row-more-requires-clause-edges
+depth_row-more-requires-clause-edges g c = search rules
+
+pub depth_row-more-requires-clause-walk : goal.depth_row-more-requires-clause-walk
+depth_row-more-requires-clause-walk g c = search rules
+
+pub depth_row-more-requires-clause-left : goal.depth_row-more-requires-clause-left
+depth_row-more-requires-clause-left g c = search rules
+
+pub depth_row-more-requires-clause-top : goal.depth_row-more-requires-clause-top
+depth_row-more-requires-clause-top g c = search rules
+
+pub depth_row-more-requires-clause-named : goal.depth_row-more-requires-clause-named
+depth_row-more-requires-clause-named g c = search rules
+
+pub depth_row-more-requires-clause-kind : goal.depth_row-more-requires-clause-kind
+depth_row-more-requires-clause-kind g c = search rules
+
+pub overflow_add-passed : goal.overflow_add-passed
+overflow_add-passed g c = search rules
+
+pub down-requires-clause-x : goal.down-requires-clause-x
+down-requires-clause-x g c = search rules
+
+pub down-requires-clause-y : goal.down-requires-clause-y
+down-requires-clause-y g c = search rules
+
+pub next-requires : goal.next-requires
+next-requires g c = search rules
+
+pub loop-row-smaller : goal.loop-row-smaller
+loop-row-smaller g c = search rules
+
+pub depth_row-more-requires-clause-same : goal.depth_row-more-requires-clause-same
+depth_row-more-requires-clause-same g c = search rules

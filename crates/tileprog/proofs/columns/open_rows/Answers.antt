@@ -1,0 +1,33 @@
+use Rattle.std.proofs.Common.{ap, refl, rules, arith, ◌+◌, ◌≤◌}
+use Rattle.gfxspec.specs.declared.geometry.PixelRect.{PixelRect}
+use Rattle.tileprog.specs.Strokes.{Stroke}
+use Rattle.tileprog.proofs.Columning.{row_more, all_rows}
+use Rattle.tileprog.proofs.columns.open_rows.Goals as goal
+use Rattle.std.proofs.lemmas.Grind.{common_steps}
+
+pub loop-row-preserved : goal.loop-row-preserved
+loop-row-preserved g c =
+    let k = c.args.column.now in
+    let s : Stroke = record { brush = c.args.brush; plane = c.args.plane.now; mask = k.mask; clip = k.clip } in
+    let old = c.args.block.now in
+    let mid = c.loop-row.block in
+    let row = c.loop-row.row in
+    let y = old.rect.top + row in
+    let inv = c.loop-row.invariant in
+    let below : k.clip.top ≤ y = search rules in
+    record {
+      edges = search rules;
+      so_far = row_more s c.args.plane.now old mid c.open_row-more.new.block k.x y (old.rect.top + (row + 1)) (mid.rect.top + row) c.loop-row.passed c.open_row-more.result c.requires.column.within below inv.so_far c.open_row-more.ensures
+          refl (ap (λ (r : PixelRect). r.top + row) inv.so_far.drew.rect) (omega arith);
+      few = let more = c.open_row-more.ensures.few in let was = inv.few in omega arith;
+    }
+
+pub returns : goal.returns
+returns g c =
+    let k = c.args.column.now in
+    let s : Stroke = record { brush = c.args.brush; plane = c.args.plane.now; mask = k.mask; clip = k.clip } in
+    let old = c.args.block.now in
+    all_rows s old c.loop-row.block k.x (old.rect.top + c.loop-row.row) c.loop-row.passed (search rules) c.loop-row.invariant.so_far (search rules)
+
+pub loop-row-init : goal.loop-row-init
+loop-row-init g c = grind (arith, common_steps)
