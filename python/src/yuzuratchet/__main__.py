@@ -1,0 +1,7 @@
+"""``python -m yuzuratchet``: the command."""
+
+import sys
+
+from .cli import main
+
+sys.exit(main())

@@ -1,0 +1,76 @@
+"""Images: the program's TGA files and PNGs as arrays of height, width and four channels.
+
+A channel is red, green, blue or alpha, 0 to 255. Alpha is what was drawn; a target begins with 0,
+so that what nobody drew on is invisible in most viewers. An image that is saved to be looked at is
+opaque, unless its alpha is asked for.
+"""
+
+from __future__ import annotations
+
+import io
+from pathlib import Path
+
+import numpy as np
+import numpy.typing as npt
+from PIL import Image, UnidentifiedImageError
+
+from .errors import ImageError
+
+Pixels = npt.NDArray[np.uint8]
+
+EMPTY = (
+    "it is empty, as the program leaves it where a line of the script is refused or has a fault; "
+    "'yuzuratchet check SCRIPT' tells which"
+)
+
+
+def decode(data: bytes, name: str = "the image") -> Pixels:
+    """The pixels of a TGA, a PNG or another file that Pillow reads.
+
+    Raises :class:`~yuzuratchet.errors.ImageError`.
+    """
+    if not data:
+        raise ImageError(f"{name}: {EMPTY}")
+    try:
+        with Image.open(io.BytesIO(data)) as image:
+            return np.asarray(image.convert("RGBA"))
+    except UnidentifiedImageError as error:
+        raise ImageError(f"{name} is no image that can be read") from error
+    except (OSError, SyntaxError, ValueError) as error:
+        raise ImageError(f"{name} is no image that can be read: {error}") from error
+
+
+def load(path: str | Path) -> Pixels:
+    """The pixels of an image's file; raises OSError and :class:`~yuzuratchet.errors.ImageError`."""
+    return decode(Path(path).read_bytes(), str(path))
+
+
+def encode(pixels: Pixels) -> bytes:
+    """A PNG of the pixels."""
+    out = io.BytesIO()
+    Image.fromarray(pixels).save(out, "PNG", optimize=True)
+    return out.getvalue()
+
+
+def opaque(pixels: Pixels) -> Pixels:
+    """The pixels with an alpha of 255."""
+    copy = pixels.copy()
+    copy[..., 3] = 255
+    return copy
+
+
+def scaled(pixels: Pixels, scale: float) -> Pixels:
+    """The pixels so many times as large each way: squares, or means (weighted by alpha)."""
+    height, width = pixels.shape[:2]
+    size = max(1, round(width * scale)), max(1, round(height * scale))
+    how = Image.Resampling.NEAREST if scale >= 1 else Image.Resampling.BOX
+    return np.asarray(Image.fromarray(pixels).resize(size, how))
+
+
+def save(pixels: Pixels, path: str | Path, *, keep_alpha: bool = False, scale: float = 1) -> None:
+    """Saves the pixels, opaque unless alpha is kept; the suffix says the kind of file."""
+    shown = pixels if keep_alpha else opaque(pixels)
+    try:
+        Image.fromarray(scaled(shown, scale) if scale != 1 else shown).save(path)
+    except (ValueError, KeyError) as error:
+        raise ImageError(f"{path} can't be written: {error}") from error

@@ -1,0 +1,132 @@
+"""Finds the program ``tiledraw``, and runs it on a script."""
+
+from __future__ import annotations
+
+import os
+import re
+import shutil
+import subprocess
+import tempfile
+from dataclasses import dataclass
+from pathlib import Path
+from typing import Final
+
+from .errors import ArgumentError, ProgramFailed, ProgramMissing
+from .limits import WORKERS
+
+NAME: Final = "tiledraw"
+VARIABLE: Final = "YUZURATCHET_PROGRAM"
+BUILT: Final = Path("crates", NAME, "out", NAME)
+
+REFUSED: Final = re.compile(r"^refused ([0-9]+) ([0-9]+)\n\Z", re.M)
+
+HOW_TO_BUILD: Final = f"""\
+The program {NAME} is proved and built in a clone of the repository, once, in 20 to 55 minutes:
+    rt all check --jobs 4
+    cd crates/{NAME} && rt run -- "$PWD/../gallery/data/fan.txt" /tmp/fan.tga
+It is then {BUILT}, one file; install it with
+    install -m755 {BUILT} /usr/local/bin/
+or name it by --program, or in the environment by {VARIABLE}."""
+
+
+def repository() -> Path | None:
+    """The clone of the repository that this package lies in, if it isn't installed elsewhere."""
+    top = Path(__file__).resolve().parents[3]
+    return top if (top / "crates" / NAME).is_dir() else None
+
+
+def find_program(program: str | Path | None = None) -> Path:
+    """The program: the one that is named here, or else by the environment, or else the one that was
+    built in this clone of the repository, or else the one on the path.
+
+    Raises :class:`~yuzuratchet.errors.ProgramMissing`, whose text says how to build it.
+    """
+    for named, by in (
+        (program, "it was named"),
+        (os.environ.get(VARIABLE), f"{VARIABLE} names it"),
+    ):
+        if named:
+            return _usable(Path(named), by)
+    top = repository()
+    if top and os.access(top / BUILT, os.X_OK):
+        return top / BUILT
+    found = shutil.which(NAME)
+    if found:
+        return Path(found)
+    raise ProgramMissing(f"no built program {NAME} is found.\n{HOW_TO_BUILD}")
+
+
+def _usable(path: Path, by: str) -> Path:
+    found = path if path.is_file() else Path(shutil.which(str(path)) or path)
+    if not found.is_file():
+        raise ProgramMissing(f"there is no program {path} ({by}).\n{HOW_TO_BUILD}")
+    if not os.access(found, os.X_OK):
+        raise ProgramMissing(f"{path} can't be executed ({by}).\n{HOW_TO_BUILD}")
+    return found.resolve()
+
+
+@dataclass(frozen=True)
+class Ran:
+    """What the program gave for a script: exit status (0 or 1), answer lines, the image's file."""
+
+    status: int
+    answers: str
+    image: bytes
+
+    @property
+    def refused(self) -> tuple[int, int] | None:
+        """Line and number of the ``refused`` line, if there is one."""
+        found = REFUSED.search(self.answers)
+        return (int(found[1]), int(found[2])) if found else None
+
+
+def run_program(
+    script: bytes,
+    *,
+    workers: int | None = None,
+    program: str | Path | None = None,
+    seconds: float | None = None,
+) -> Ran:
+    """Runs the program on the bytes of a script, in a folder of its own.
+
+    ``workers``, 0 to 15, is how many threads draw beside the program's own; ``seconds`` ends a run
+    that takes longer. Raises :class:`~yuzuratchet.errors.ProgramMissing` and
+    :class:`~yuzuratchet.errors.ProgramFailed`.
+    """
+    if workers is not None and not 0 <= workers <= WORKERS:
+        raise ArgumentError("workers", f"{workers} is not in 0 to {WORKERS}")
+    found = find_program(program)
+    with tempfile.TemporaryDirectory(prefix="yuzuratchet-") as room:
+        source, image = Path(room, "script.txt"), Path(room, "image.tga")
+        source.write_bytes(script)
+        words = [str(found), str(source), str(image)]
+        words += [] if workers is None else ["--workers", str(workers)]
+        ended = _ended(words, seconds)
+        ran = Ran(ended.returncode, ended.stdout, image.read_bytes() if image.exists() else b"")
+    if bool(ran.refused) != (ran.status == 1):
+        raise ProgramFailed(f"{found} ended with status {ran.status}, which its answers belie")
+    return ran
+
+
+def _ended(words: list[str], seconds: float | None) -> subprocess.CompletedProcess[str]:
+    try:
+        ran = subprocess.run(
+            words,
+            capture_output=True,
+            encoding="utf-8",
+            errors="replace",
+            timeout=seconds,
+            check=False,
+        )
+    except subprocess.TimeoutExpired as error:
+        raise ProgramFailed(f"{words[0]} did not end within {seconds:g} seconds") from error
+    except OSError as error:
+        raise ProgramMissing(
+            f"{words[0]} does not start: {error.strerror}\n{HOW_TO_BUILD}"
+        ) from error
+    if ran.returncode not in (0, 1):
+        how = f"status {ran.returncode}" if ran.returncode >= 0 else f"signal {-ran.returncode}"
+        raise ProgramFailed(
+            f"{words[0]} ended with {how}: {ran.stderr.strip() or 'it said nothing'}"
+        )
+    return ran

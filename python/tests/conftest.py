@@ -1,0 +1,79 @@
+"""What the tests share: the gallery, and a program to draw with.
+
+The built program is looked for as the package looks for it. Where there is none, tools/plain_device.py stands in, which
+gives the same answers slowly, so that every test runs on a fresh machine; the first lines of pytest say which it is.
+"""
+
+from __future__ import annotations
+
+import subprocess
+from pathlib import Path
+
+import plain_device
+import pytest
+
+import yuzuratchet.program
+from yuzuratchet.errors import ProgramMissing
+from yuzuratchet.program import find_program
+from yuzuratchet.suite import Expected, parse_expected
+
+TOP = Path(__file__).resolve().parents[2]
+GALLERY = TOP / "crates" / "gallery"
+DATA = GALLERY / "data"
+STAND_IN = TOP / "tools" / "plain_device.py"
+
+
+def built_program() -> Path | None:
+    """The built program, or None."""
+    try:
+        return find_program()
+    except ProgramMissing:
+        return None
+
+
+def pytest_report_header() -> str:
+    built = built_program()
+    if built:
+        return f"the program: {built}"
+    return f"the program isn't built: {STAND_IN.relative_to(TOP)} stands in, and what needs speed is skipped"
+
+
+@pytest.fixture(scope="session")
+def program() -> Path:
+    """The built program, or what stands in for it."""
+    return built_program() or STAND_IN
+
+
+@pytest.fixture(autouse=True)
+def stand_in_without_a_process(monkeypatch: pytest.MonkeyPatch) -> None:
+    """Lets what stands in for the program run in this process, since starting Python takes longer than most scenes."""
+    run = yuzuratchet.program._ended
+
+    def ended(words: list[str], seconds: float | None) -> subprocess.CompletedProcess[str]:
+        if words[0] != str(STAND_IN):
+            return run(words, seconds)
+        answers, image = plain_device.evaluate(Path(words[1]).read_bytes())
+        Path(words[2]).write_bytes(image)
+        return subprocess.CompletedProcess(words, int("refused" in answers), answers, "")
+
+    monkeypatch.setattr(yuzuratchet.program, "_ended", ended)
+
+
+@pytest.fixture(scope="session")
+def fast_program() -> Path:
+    """The built program; a test that wants it is skipped where there is none."""
+    built = built_program()
+    if built is None:
+        pytest.skip("the program isn't built")
+    return built
+
+
+@pytest.fixture(scope="session")
+def expected() -> dict[str, Expected]:
+    """What the plain evaluation gives for each script of the gallery, as it is stored there."""
+    return parse_expected((GALLERY / "stdout").read_text(encoding="ascii"), "stdout")
+
+
+def gallery_names() -> list[str]:
+    """The names of the gallery's scripts."""
+    return (DATA / "index").read_text(encoding="ascii").split()

@@ -1,0 +1,197 @@
+"""Running the program: where it is found, what it gives, what is told where it fails."""
+
+from __future__ import annotations
+
+import re
+import stat
+from pathlib import Path
+
+import numpy as np
+import pytest
+from conftest import DATA, STAND_IN, TOP
+
+import yuzuratchet
+from yuzuratchet import PixelAnswer, QueryAnswer, Refusal, Scene, ScriptRefused, run
+from yuzuratchet.errors import ArgumentError, ImageError, ProgramFailed, ProgramMissing
+from yuzuratchet.program import VARIABLE, find_program, run_program
+from yuzuratchet.results import parse_answer
+from yuzuratchet.shapes import draw_triangles, rectangle
+
+TWO_TRIANGLES = (DATA / "rows" / "counted-triangles.txt").read_text(encoding="ascii")
+
+
+def shell_script(path: Path, text: str) -> Path:
+    path.write_text(f"#!/bin/sh\n{text}\n", encoding="ascii")
+    path.chmod(path.stat().st_mode | stat.S_IXUSR)
+    return path
+
+
+def test_answers_and_image_are_values(program: Path) -> None:
+    result = run(
+        "target 2 1\ni clearc 1 2 3 4\ni begin 0\ni end 0\ni query 0\ni pixel 1 0\n",
+        program=program,
+    )
+    assert result.answers == (QueryAnswer(0, 0), PixelAnswer(1, 0, (1, 2, 3, 4), 16_777_215, 0))
+    assert result.refused is None
+    assert result.image.shape == (1, 2, 4) and result.image.dtype == np.uint8
+    assert result.image.tolist() == [[[1, 2, 3, 4], [1, 2, 3, 4]]]
+    # the header and two pixels, blue first, as the image's format says
+    assert result.tga.hex() == "000002000000000000000000020001002028" + "0302010403020104"
+
+
+def test_the_worked_triangles(program: Path) -> None:
+    result = run(TWO_TRIANGLES, program=program)
+    counts = [it.count for it in result.answers if isinstance(it, QueryAnswer)]
+    assert counts == [6, 10]
+
+
+def test_workers_change_nothing(program: Path) -> None:
+    alone, together = (run(TWO_TRIANGLES, program=program, workers=workers) for workers in (0, 3))
+    assert (alone.text, alone.tga) == (together.text, together.tga)
+
+
+def test_a_scene_in_bytes(program: Path) -> None:
+    assert run(b"target 1 1\n", program=program).answers == ()
+
+
+def test_a_refusal_is_raised_or_given(program: Path) -> None:
+    text = "target 1 1\ni pixel 0 0\ni draw 3 0\n"
+    with pytest.raises(ScriptRefused, match="line 3 was refused with 7") as raised:
+        run(text, program=program)
+    assert (raised.value.line, raised.value.number, len(raised.value.answers)) == (3, 7, 1)
+    result = run(text, program=program, check=False)
+    assert result.refused == Refusal(3, 7) and result.refused.meaning.startswith("`draw`")
+    assert len(result.answers) == 1 and result.tga == b""
+    with pytest.raises(ImageError, match="line 3 was refused with 7"):
+        result.image  # noqa: B018
+
+
+def test_save(program: Path, tmp_path: Path) -> None:
+    from yuzuratchet.images import load
+
+    result = run("target 2 2\ni clearc 1 2 3 4\n", program=program)
+    result.save(tmp_path / "opaque.png")
+    result.save(tmp_path / "kept.png", keep_alpha=True)
+    result.save(tmp_path / "large.png", scale=3)
+    assert load(tmp_path / "opaque.png")[0, 0].tolist() == [1, 2, 3, 255]
+    assert load(tmp_path / "kept.png")[0, 0].tolist() == [1, 2, 3, 4]
+    assert load(tmp_path / "large.png").shape == (6, 6, 4)
+
+
+def test_depth_and_stencil_in_bands(program: Path, monkeypatch: pytest.MonkeyPatch) -> None:
+    """Whatever the rows that are asked at once, each pixel has the depth that was drawn there."""
+    monkeypatch.setattr("yuzuratchet.results.PIXELS_AT_ONCE", 7)
+    scene = Scene(3, 5)
+    scene.immediate.pixel(0, 0)
+    scene.immediate.clear_depth_stencil(10, 3)
+    draw_triangles(scene.immediate, rectangle(1, 2, 3, 4, depth=7))
+    scene.immediate.pixel(0, 0)
+    depth, stencil = yuzuratchet.depth_and_stencil(scene, program=program)
+    assert depth.tolist() == [[10] * 3] * 2 + [[10, 7, 7]] * 2 + [[10] * 3]
+    assert stencil.tolist() == [[3] * 3] * 5
+
+
+def test_depth_and_stencil_of_a_refused_scene(program: Path) -> None:
+    scene = Scene(2, 2, strict=False)
+    scene.immediate.begin(0)
+    with pytest.raises(ScriptRefused) as raised:
+        yuzuratchet.depth_and_stencil(scene, program=program)
+    assert (raised.value.line, raised.value.number) == (3, 9)
+
+
+def test_the_program_is_found(monkeypatch: pytest.MonkeyPatch, tmp_path: Path) -> None:
+    named = shell_script(tmp_path / "named", "exit 0")
+    on_path = shell_script(tmp_path / "tiledraw", "exit 0")
+    monkeypatch.delenv(VARIABLE, raising=False)
+    monkeypatch.setattr("yuzuratchet.program.repository", lambda: None)
+    monkeypatch.setenv("PATH", str(tmp_path))
+    assert find_program() == on_path
+    assert find_program(named) == named
+    assert find_program("named") == named  # (by the path too)
+    monkeypatch.setenv(VARIABLE, str(named))
+    assert find_program() == named
+    assert find_program(on_path) == on_path
+
+
+def test_the_program_of_this_clone_comes_before_the_path(
+    monkeypatch: pytest.MonkeyPatch, tmp_path: Path
+) -> None:
+    built = tmp_path / "crates" / "tiledraw" / "out" / "tiledraw"
+    built.parent.mkdir(parents=True)
+    shell_script(built, "exit 0")
+    monkeypatch.delenv(VARIABLE, raising=False)
+    monkeypatch.setattr("yuzuratchet.program.repository", lambda: tmp_path)
+    monkeypatch.setenv("PATH", str(shell_script(tmp_path / "tiledraw", "exit 0").parent))
+    assert find_program() == built
+
+
+def test_a_missing_program_tells_how_to_build_it(
+    monkeypatch: pytest.MonkeyPatch, tmp_path: Path
+) -> None:
+    monkeypatch.delenv(VARIABLE, raising=False)
+    monkeypatch.setattr("yuzuratchet.program.repository", lambda: None)
+    monkeypatch.setenv("PATH", str(tmp_path))
+    with pytest.raises(ProgramMissing, match="rt all check"):
+        run("target 1 1\n")
+    with pytest.raises(ProgramMissing, match="there is no program /no/where"):
+        find_program("/no/where")
+    (tmp_path / "text").write_text("no program")
+    with pytest.raises(ProgramMissing, match="can't be executed"):
+        find_program(tmp_path / "text")
+    monkeypatch.setenv(VARIABLE, "/no/where")
+    with pytest.raises(ProgramMissing, match=VARIABLE):
+        find_program()
+
+
+def test_a_program_that_fails(tmp_path: Path) -> None:
+    with pytest.raises(ProgramFailed, match="status 3: no such thing"):
+        run_program(b"", program=shell_script(tmp_path / "a", "echo no such thing >&2; exit 3"))
+    with pytest.raises(ProgramFailed, match="signal 9"):
+        run_program(b"", program=shell_script(tmp_path / "b", "kill -9 $$"))
+    with pytest.raises(ProgramFailed, match="within 0.2 seconds"):
+        run_program(b"", program=shell_script(tmp_path / "c", "exec sleep 5"), seconds=0.2)
+    (tmp_path / "d").write_text("#!/no/such/interpreter\n")
+    (tmp_path / "d").chmod(0o755)
+    with pytest.raises(ProgramMissing, match="does not start"):
+        run_program(b"", program=tmp_path / "d")
+
+
+@pytest.mark.parametrize("workers", [-1, 16])
+def test_how_many_workers(workers: int) -> None:
+    with pytest.raises(ArgumentError, match="^workers: "):
+        run("target 1 1\n", workers=workers, program=STAND_IN)
+
+
+@pytest.mark.parametrize("line", ["query 1", "pixel 1 2 3", "answer 1 2", "query x 1", ""])
+def test_no_answer_lines(line: str) -> None:
+    with pytest.raises(ProgramFailed, match="no answer line"):
+        parse_answer(line)
+
+
+def test_another_program(tmp_path: Path) -> None:
+    """What is no such program at all is told, whatever it prints."""
+    for text in ("echo hello", "printf 'refused 1 x\\n'", "printf '\\377\\n'"):
+        with pytest.raises(ProgramFailed, match="no answer line"):
+            run("target 1 1\n", program=shell_script(tmp_path / "other", text))
+    silent = shell_script(tmp_path / "silent", "exit 0")
+    with pytest.raises(ImageError):
+        run("target 1 1\n", program=silent).image  # noqa: B018
+    scene = Scene(1, 1)
+    scene.immediate.pixel(0, 0)
+    with pytest.raises(ProgramFailed, match="0 answers to 1 questions"):
+        run(scene, program=silent)
+    with pytest.raises(ProgramFailed, match="status 1, which its answers belie"):
+        run(scene, program=shell_script(tmp_path / "failing", "exit 1"))
+
+
+def test_the_scripts_of_the_page_give_what_it_says(program: Path) -> None:
+    page = (TOP / "docs" / "SCRIPT.md").read_text(encoding="utf-8")
+    blocks = re.findall(r"^```\n(.*?)^```$", page, re.S | re.M)
+    scripts = [at for at, block in enumerate(blocks) if block.startswith("target ")]
+    told = 0
+    for at in scripts:
+        result = run(blocks[at], program=program)
+        if at + 1 < len(blocks) and blocks[at + 1].startswith(("query ", "pixel ")):
+            assert result.text == blocks[at + 1]
+            told += 1
+    assert len(scripts) >= 4 and told >= 2

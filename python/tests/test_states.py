@@ -1,0 +1,74 @@
+"""States with Direct3D's names, numbers and defaults."""
+
+from __future__ import annotations
+
+import pytest
+
+from yuzuratchet import (
+    BlendState,
+    ColorWriteEnable,
+    ComparisonFunc,
+    CullMode,
+    DepthStencilState,
+    LogicOp,
+    PrimitiveTopology,
+    RasterizerState,
+    StencilFace,
+    StencilOp,
+)
+from yuzuratchet.errors import ArgumentError
+
+
+def test_direct3d_numbers() -> None:
+    assert [it.value for it in PrimitiveTopology] == [4, 5]
+    assert [(it.name, it.value) for it in CullMode] == [("NONE", 1), ("FRONT", 2), ("BACK", 3)]
+    comparisons = "NEVER LESS EQUAL LESS_EQUAL GREATER NOT_EQUAL GREATER_EQUAL ALWAYS".split()
+    assert [(it.name, it.value) for it in ComparisonFunc] == list(zip(comparisons, range(1, 9)))
+    operations = "KEEP ZERO REPLACE INCR_SAT DECR_SAT INVERT INCR DECR".split()
+    assert [(it.name, it.value) for it in StencilOp] == list(zip(operations, range(1, 9)))
+    logic = (
+        "CLEAR SET COPY COPY_INVERTED NOOP INVERT AND NAND OR NOR XOR EQUIV "
+        "AND_REVERSE AND_INVERTED OR_REVERSE OR_INVERTED"
+    ).split()
+    assert [(it.name, it.value) for it in LogicOp] == list(zip(logic, range(16)))
+    assert (ColorWriteEnable.RED, ColorWriteEnable.ALPHA, ColorWriteEnable.ALL) == (1, 8, 15)
+
+
+def test_defaults_have_the_spelling_of_the_defaults() -> None:
+    assert RasterizerState().numbers() == (3, 0, 0)
+    assert DepthStencilState().numbers() == (1, 1, 2, 0, 255, 255, 1, 1, 1, 8, 1, 1, 1, 8)
+    assert BlendState().numbers() == (0, 4, 15)
+
+
+def test_numbers_there_and_back() -> None:
+    raster = RasterizerState(CullMode.NONE, True, True)
+    face = StencilFace(StencilOp.ZERO, StencilOp.INCR, StencilOp.DECR, ComparisonFunc.EQUAL)
+    tests = DepthStencilState(
+        False, False, ComparisonFunc.GREATER, True, 15, 240, face, StencilFace()
+    )
+    blend = BlendState(True, LogicOp.XOR, ColorWriteEnable.RED | ColorWriteEnable.BLUE)
+    assert RasterizerState.from_numbers(raster.numbers()) == raster
+    assert DepthStencilState.from_numbers((*tests.numbers(), 77)) == tests
+    assert BlendState.from_numbers(blend.numbers()) == blend
+    assert (raster.numbers(), blend.numbers()) == ((1, 1, 1), (1, 10, 5))
+    assert tests.numbers() == (0, 0, 5, 1, 15, 240, 2, 7, 8, 3, 1, 1, 1, 8)
+
+
+@pytest.mark.parametrize(
+    ("make", "argument"),
+    [
+        (lambda: RasterizerState(cull_mode=4), "cull_mode"),
+        (lambda: RasterizerState(scissor_enable=2), "scissor_enable"),
+        (lambda: StencilFace(stencil_pass_op=0), "stencil_pass_op"),
+        (lambda: StencilFace(stencil_func=9), "stencil_func"),
+        (lambda: DepthStencilState(depth_func="LESS"), "depth_func"),
+        (lambda: DepthStencilState(stencil_read_mask=256), "stencil_read_mask"),
+        (lambda: DepthStencilState(stencil_write_mask=-1), "stencil_write_mask"),
+        (lambda: BlendState(logic_op=16), "logic_op"),
+        (lambda: BlendState(write_mask=16), "write_mask"),
+    ],
+)
+def test_no_states(make, argument: str) -> None:  # type: ignore[no-untyped-def]
+    with pytest.raises(ArgumentError) as raised:
+        make()
+    assert raised.value.argument == argument

@@ -1,0 +1,131 @@
+"""The tools: each has a help, and a message in place of a traceback; the examples are those of the gallery."""
+
+from __future__ import annotations
+
+import os
+import subprocess
+import sys
+from pathlib import Path
+
+import make_examples
+import plain_device
+import pytest
+from conftest import DATA, TOP, gallery_names
+
+from yuzuratchet.program import VARIABLE
+from yuzuratchet.suite import Expected
+
+TOOLS = sorted(
+    path
+    for folder in ("tools", "bench")
+    for path in (TOP / folder).glob("*.py")
+    if os.access(path, os.X_OK)
+)
+MODULES = {"package_path", "random_scenes", "mutated_scripts"}
+
+
+def run_tool(name: str, *words: str, **environment: str) -> subprocess.CompletedProcess[str]:
+    """Runs a tool with this Python, and neither a program nor the package on a path of its own."""
+    kept = {key: value for key, value in os.environ.items() if key not in (VARIABLE, "PYTHONPATH")}
+    command = [sys.executable, "-B", str(TOP / name), *words]
+    return subprocess.run(
+        command,
+        env={**kept, **environment},
+        capture_output=True,
+        text=True,
+        timeout=100,
+        check=False,
+    )
+
+
+@pytest.mark.parametrize("tool", TOOLS, ids=lambda it: it.stem)
+def test_help(tool: Path) -> None:
+    ran = run_tool(str(tool), "--help")
+    assert (ran.returncode, ran.stderr) == (0, "") and ran.stdout.startswith("usage: ")
+
+
+def test_each_file_is_a_tool_or_a_module() -> None:
+    others = {path.stem for path in (TOP / "tools").glob("*.py")} - {path.stem for path in TOOLS}
+    assert others == MODULES
+
+
+@pytest.mark.parametrize(
+    "words",
+    [
+        ("tools/compare.py", "--workers", "16"),
+        ("tools/compare.py", "-5"),
+        ("tools/compare.py", "0"),
+        ("tools/compare.py", "x"),
+        ("tools/compare.py", "1", "--without", "nothing"),
+        ("tools/compare.py", "1", "--program", "/no/such/program"),
+        ("tools/compare_checked.py", "0"),
+        ("tools/compare_checked.py", "1", "--program", "/no/such/program"),
+        ("tools/compare_explained.py", "-1"),
+        ("tools/compare_explained.py", "1", "--program", "/no/such/program"),
+        ("tools/make_examples.py", "nothing"),
+        ("tools/make_examples.py", "fan", "--folder", "/no/such/folder"),
+        ("tools/plain_device.py", "/no/such/script", "/tmp/x.tga"),
+        ("tools/plain_device.py", "x"),
+        ("tools/gallery_answers.py", "x"),
+        ("tools/kernel_sums.py", "x"),
+        ("tools/bin_sums.py", "x"),
+        ("tools/gate_times.py", "--no-such-option"),
+        ("tools/gate_times.py", "/no/such/command"),
+        ("tools/first_picture.py", "/no/such/script"),
+        ("tools/draw_pictures.py", "--program", "/no/such/program"),
+        ("tools/draw_pictures.py", "nothing"),
+        ("bench/scenes.py", "nothing"),
+        ("bench/scenes.py", "clear", "0"),
+        ("bench/run.py", "nothing"),
+        ("bench/run.py", "clear", "--runs", "0"),
+        ("bench/run.py", "clear", "--workers", "16"),
+        ("bench/run.py", "clear", "--program", "/no/such/program"),
+    ],
+    ids=" ".join,
+)
+def test_wrong_words_are_told(words: tuple[str, ...]) -> None:
+    ran = run_tool(*words)
+    assert ran.returncode not in (0, -1) and ran.stderr and "Traceback" not in ran.stderr
+
+
+def test_the_plain_evaluation_stands_in_for_the_program(tmp_path: Path) -> None:
+    script, image = tmp_path / "x.txt", tmp_path / "x.tga"
+    for text, answers, status in (
+        ("target 1 1\ni pixel 0 0\n", "pixel 0 0 0 0 0 0 16777215 0\n", 0),
+        ("target 1 1\ni\n", "refused 2 104\n", 1),
+    ):
+        script.write_text(text)
+        ran = run_tool("tools/plain_device.py", str(script), str(image), "--workers", "3")
+        assert (ran.returncode, ran.stdout, ran.stderr) == (status, answers, "")
+        assert len(image.read_bytes()) == (0 if status else 22)
+
+
+def test_random_scenes_agree(program: Path) -> None:
+    ran = run_tool("tools/compare.py", "6", "3", "--program", str(program))
+    assert ran.stdout.startswith("6 scenes agree"), ran.stderr
+
+
+def test_the_examples_of_the_gallery_are_as_they_are_made(tmp_path: Path) -> None:
+    ran = run_tool("tools/make_examples.py", "--folder", str(tmp_path))
+    made = {path.stem for path in tmp_path.iterdir()}
+    assert ran.returncode == 0 and made == set(make_examples.EXAMPLES)
+    other = [it for it in tmp_path.iterdir() if it.read_bytes() != (DATA / it.name).read_bytes()]
+    assert other == []
+
+
+@pytest.mark.parametrize(
+    "name", [name for name in gallery_names() if name.startswith(("rows/", "refused/"))]
+)
+def test_the_plain_evaluation_gives_what_is_stored(
+    name: str, expected: dict[str, Expected]
+) -> None:
+    import hashlib
+
+    answers, image = plain_device.evaluate((DATA / name).read_bytes())
+    assert Expected(answers, hashlib.sha256(image).hexdigest()) == expected[name]
+
+
+def test_benchmarks_are_scripts() -> None:
+    ran = run_tool("bench/scenes.py", "ten-tiles", "2")
+    lines = ran.stdout.splitlines()
+    assert lines[0] == "target 2048 2048" and lines.count("i exec d0 0 1") == 2000

@@ -1,0 +1,79 @@
+"""The table of words and the messages are those of docs/SCRIPT.md."""
+
+from __future__ import annotations
+
+import re
+from dataclasses import asdict
+
+import pytest
+from conftest import TOP
+
+from yuzuratchet.errors import ArgumentError
+from yuzuratchet.limits import DEFERRED_CONTEXTS
+from yuzuratchet.messages import FAULTS, REFUSALS, message_of
+from yuzuratchet.words import ACTORS, DEFERRED, TARGET, WORDS
+
+PAGE = (TOP / "docs" / "SCRIPT.md").read_text(encoding="utf-8")
+
+
+def rows(section: str) -> list[list[str]]:
+    """The rows of the first table of a section, without its head."""
+    text = re.split(r"^##+ ", PAGE.split(f"\n## {section}\n", 1)[1], flags=re.M)[0]
+    lines = [line for line in text.splitlines() if line.startswith("|")]
+    return [[cell.strip() for cell in line.strip("|").split("|")] for line in lines[2:]]
+
+
+def test_the_page_has_the_words_and_their_actors() -> None:
+    page = {}
+    for names, immediate, deferred, _ in rows("Words"):
+        for name in re.findall(r"`(\w+)`", names):
+            page[name] = (immediate == "✓", deferred == "✓")
+    assert page.pop("target") == (False, False)
+    assert page == {name: (word.immediate, word.deferred) for name, word in WORDS.items()}
+
+
+@pytest.mark.parametrize("name", [*WORDS, "target"])
+def test_the_page_has_the_ranges(name: str) -> None:
+    word = WORDS.get(name, TARGET)
+    row = next(row for row in rows("Words") if f"`{name}`" in row[0])
+    for argument in word.arguments:
+        bounds = argument.range.replace("d0 to d7", "`d0` to `d7`")
+        assert bounds in row[3], (argument, row[3])
+
+
+@pytest.mark.parametrize(
+    ("section", "messages"), [("Faults of a script", FAULTS), ("Refusals", REFUSALS)]
+)
+def test_the_page_has_the_messages(section: str, messages: dict) -> None:
+    page = {int(number): {"when": when, "advice": advice} for number, when, advice in rows(section)}
+    assert page == {number: asdict(message) for number, message in messages.items()}
+
+
+def test_a_number_without_a_meaning() -> None:
+    assert "no meaning" in message_of(55).when
+
+
+def test_actors() -> None:
+    assert len(DEFERRED) == DEFERRED_CONTEXTS == 8
+    assert ACTORS == ("i", "d0", "d1", "d2", "d3", "d4", "d5", "d6", "d7")
+
+
+@pytest.mark.parametrize(
+    ("word", "values", "argument"),
+    [
+        ("draw", (3,), "draw"),
+        ("draw", (-1, 0), "count"),
+        ("draw", (3, 4_294_967_296), "start"),
+        ("vb", (1, 2, 3), "vb"),
+        ("vb", (0, 0, 0, 1, 2, 3, 4) + (0, 0, 0, 1, 256, 3, 4), "green"),
+        ("ib", (65_536,), "index"),
+        ("predicate", (1,), "predicate"),
+        ("predicate", (1, 2), "value"),
+        ("ds", (1, 1, 9) + (0,) * 12, "depth_func"),
+        ("exec", (8, 0, 0), "context"),
+    ],
+)
+def test_what_no_script_can_spell(word: str, values: tuple[int, ...], argument: str) -> None:
+    with pytest.raises(ArgumentError) as raised:
+        WORDS[word].check(values)
+    assert raised.value.argument == argument
