@@ -9,142 +9,225 @@ number). The numbers are drawn with fixed seeds, so the scripts are the same eac
 
 import argparse
 import math
+import pathlib
 import random
 import sys
+from dataclasses import replace
 
-DEEPEST = 16_777_215
+sys.path.insert(0, str(pathlib.Path(__file__).resolve().parent.parent / "tools"))
+
+import package_path  # noqa: E402, F401
+from yuzuratchet import BlendState, ComparisonFunc, CullMode, DepthStencilState, LogicOp, PrimitiveTopology, RasterizerState, Scene, StencilFace  # noqa: E402
+from yuzuratchet.arguments import whole_number  # noqa: E402
+from yuzuratchet.limits import DEEPEST, FARTHEST_PIXEL, STRIP_CUT  # noqa: E402
+from yuzuratchet.recipes import mark_shadow_volumes  # noqa: E402
+
 SIDE = 2048
-
-
-def vertex(x, y, z, rgba):
-    return f"{round(65_536 * x)} {round(65_536 * y)} {round(z)} {' '.join(map(str, rgba))}"
+LIST, STRIP = PrimitiveTopology.TRIANGLELIST, PrimitiveTopology.TRIANGLESTRIP
 
 
 def colour(chance):
-    return [chance.randrange(256) for _ in range(4)]
+    return tuple(chance.randrange(256) for _ in range(4))
 
 
-def triangle(chance, side, smallest, largest, rgba=None):
+def triangle(chance, side, smallest, largest):
     """A triangle whose corners lie within a square of the given size."""
     size = chance.uniform(smallest, largest)
     left, top = chance.uniform(0, side - size), chance.uniform(0, side - size)
-    rgba = rgba or colour(chance)
+    rgba = colour(chance)
     places = [(left, top), (left + size, top + chance.uniform(0, size / 4)), (left + chance.uniform(0, size / 4), top + size)]
-    return " ".join(vertex(x, y, chance.randrange(DEEPEST), rgba) for x, y in places)
+    return [(x, y, chance.randrange(DEEPEST), rgba) for x, y in places]
 
 
-def draws(chance, actor, count, smallest, largest):
+def triangles(chance, count, side, smallest, largest):
+    return [vertex for _ in range(count) for vertex in triangle(chance, side, smallest, largest)]
+
+
+def draw(context, vertices):
+    context.ia_set_vertices(vertices)
+    context.draw(len(vertices))
+
+
+def draw_triangles(context, chance, count, smallest, largest):
     """Draws of so many triangles, each of at most 65,535 vertices."""
-    lines, left = [f"{actor} topology 4"], count
-    while left:
-        now = min(left, 21_845)
-        lines.append(f"{actor} vb " + " ".join(triangle(chance, SIDE, smallest, largest) for _ in range(now)))
-        lines.append(f"{actor} draw {3 * now} 0")
-        left -= now
-    return lines
+    context.ia_set_topology(LIST)
+    while count:
+        now = min(count, 21_845)
+        draw(context, triangles(chance, now, SIDE, smallest, largest))
+        count -= now
 
 
-def large_triangles():
+def frame_of(command_list, restore=True):
+    """A frame that clears the depths and executes a list."""
+
+    def add(context):
+        context.clear_depth_stencil(DEEPEST, 0)
+        context.execute(command_list, restore)
+
+    return add
+
+
+def large_triangles(scene):
     """300 triangles in one list: some 112 million covered pixels under LESS."""
-    return [*draws(random.Random(1), "d0", 300, 700, 1100), "d0 finish 0"], ["i cleards 16777215 0", "i exec d0 0 1"]
+    context = scene.deferred[0]
+    draw_triangles(context, random.Random(1), 300, 700, 1100)
+    return frame_of(context.finish_command_list())
 
 
-def large_xor():
+def large_xor(scene):
     """The same 300 triangles under XOR, with the depth test off."""
-    lines = ["d0 ds 0 1 2 0 255 255 1 1 1 8 1 1 1 8 0", "d0 blend 1 10 15", *draws(random.Random(1), "d0", 300, 700, 1100)]
-    return [*lines, "d0 finish 0"], ["i exec d0 0 1"]
+    context = scene.deferred[0]
+    context.om_set_depth_stencil(DepthStencilState(depth_enable=False))
+    context.om_set_blend(BlendState(logic_op_enable=True, logic_op=LogicOp.XOR))
+    draw_triangles(context, random.Random(1), 300, 700, 1100)
+    command_list = context.finish_command_list()
+    return lambda immediate: immediate.execute(command_list, True)
 
 
-def small_triangles():
+def small_triangles(scene):
     """60,000 triangles of 10 to 50 pixels in one list."""
-    return [*draws(random.Random(2), "d0", 60_000, 4.5, 10), "d0 finish 0"], ["i cleards 16777215 0", "i exec d0 0 1"]
+    context = scene.deferred[0]
+    draw_triangles(context, random.Random(2), 60_000, 4.5, 10)
+    return frame_of(context.finish_command_list())
 
 
-def executed_lists():
+def executed_lists(scene):
     """64 lists of 100 small triangles with states of their own, each executed 16 times."""
-    chance, lines = random.Random(3), []
+    chance, lists = random.Random(3), []
     for number in range(64):
-        actor = f"d{number % 8}"
-        lines.append(f"{actor} raster 1 {number % 2} 0")
-        lines.append(f"{actor} vb " + " ".join(triangle(chance, SIDE, 4.5, 10) for _ in range(100)))
-        lines += [f"{actor} topology 4", f"{actor} draw 300 0", f"{actor} finish 0"]
-    return lines, [f"i exec d{number % 8} {number // 8} 1" for number in range(64)] * 16
+        context = scene.deferred[number % 8]
+        context.rs_set_state(RasterizerState(cull_mode=CullMode.NONE, front_counter_clockwise=number % 2))
+        context.ia_set_vertices(triangles(chance, 100, SIDE, 4.5, 10))
+        context.ia_set_topology(LIST)
+        context.draw(300)
+        lists.append(context.finish_command_list())
+
+    def add(immediate):
+        for command_list in lists * 16:
+            immediate.execute(command_list, True)
+
+    return add
 
 
-def clears():
+def clears(scene):
     """100 times both clears and 20 small triangles, in one list."""
-    chance, lines = random.Random(6), ["d0 topology 4"]
+    chance, context = random.Random(6), scene.deferred[0]
+    context.ia_set_topology(LIST)
     for _ in range(100):
-        lines += ["d0 clearc 1 2 3 4", "d0 cleards 16777215 0"]
-        lines.append("d0 vb " + " ".join(triangle(chance, SIDE, 4.5, 10) for _ in range(20)))
-        lines.append("d0 draw 60 0")
-    return [*lines, "d0 finish 0"], ["i exec d0 0 1"]
+        context.clear_color((1, 2, 3, 4))
+        context.clear_depth_stencil(DEEPEST, 0)
+        draw(context, triangles(chance, 20, SIDE, 4.5, 10))
+    command_list = context.finish_command_list()
+    return lambda immediate: immediate.execute(command_list, True)
 
 
-def shadow_volumes():
+def volume(chance):
+    """Two parallel squares, one near and one far, that face away from each other."""
+    x, y, size = chance.uniform(200, 1800), chance.uniform(200, 1800), chance.uniform(150, 450)
+    turn = chance.uniform(0, 2 * math.pi)
+    near, far = chance.randrange(DEEPEST // 2), chance.randrange(DEEPEST // 2, DEEPEST)
+    ring = [(x + size * math.cos(turn + k * math.pi / 2), y + size * math.sin(turn + k * math.pi / 2)) for k in range(4)]
+    kept = [(min(max(u, 0), SIDE), min(max(v, 0), SIDE)) for u, v in ring]
+    top, low = ([(*place, depth, (0, 0, 0, 0)) for place in kept] for depth in (near, far))
+    return [top[0], top[1], top[2], top[0], top[2], top[3], low[0], low[2], low[1], low[0], low[3], low[2]]
+
+
+def shadow_volumes(scene):
     """4,000 small and 180 large triangles, then 120 large volumes by depth-fail operations on both faces, then a full
     quad where the stencil isn't 0: some 63 million covered pixels."""
-    chance = random.Random(7)
-    lines = draws(chance, "d0", 4_000, 4.5, 40) + draws(chance, "d0", 180, 150, 500)
-    # both faces, depth not written, the stencil counted where the depth test fails: back faces up, front faces down
-    lines += ["d0 raster 1 0 0", "d0 blend 0 4 0", "d0 ds 1 0 2 1 255 255 1 8 1 8 1 7 1 8 0"]
+    chance, context = random.Random(7), scene.deferred[0]
+    draw_triangles(context, chance, 4_000, 4.5, 40)
+    draw_triangles(context, chance, 180, 150, 500)
+    mark_shadow_volumes(context)
     for _ in range(120):
-        x, y, size = chance.uniform(200, 1800), chance.uniform(200, 1800), chance.uniform(150, 450)
-        turn = chance.uniform(0, 2 * math.pi)
-        near, far = chance.randrange(DEEPEST // 2), chance.randrange(DEEPEST // 2, DEEPEST)
-        ring = [(x + size * math.cos(turn + k * math.pi / 2), y + size * math.sin(turn + k * math.pi / 2)) for k in range(4)]
-        top = [vertex(min(max(u, 0), SIDE), min(max(v, 0), SIDE), near, (0, 0, 0, 0)) for u, v in ring]
-        low = [vertex(min(max(u, 0), SIDE), min(max(v, 0), SIDE), far, (0, 0, 0, 0)) for u, v in ring]
-        faces = [(top[0], top[1], top[2]), (top[0], top[2], top[3]), (low[0], low[2], low[1]), (low[0], low[3], low[2])]
-        lines += ["d0 vb " + " ".join(" ".join(face) for face in faces), f"d0 draw {3 * len(faces)} 0"]
-    shade = (20, 20, 40, 255)
-    quad = [vertex(*it, shade) for it in ((0, 0, 0), (SIDE, 0, 0), (0, SIDE, 0), (SIDE, SIDE, 0))]
-    lines += ["d0 blend 0 4 15", "d0 ds 0 0 8 1 255 255 1 1 1 6 1 1 1 6 0", f"d0 vb {' '.join(quad)}", "d0 topology 5", "d0 draw 4 0", "d0 finish 0"]
-    return lines, ["i clearc 200 200 200 255", "i cleards 16777215 0", "i exec d0 0 1"]
+        draw(context, volume(chance))
+    marked = StencilFace(stencil_func=ComparisonFunc.NOT_EQUAL)
+    tests = DepthStencilState(depth_enable=False, depth_write=False, depth_func=ComparisonFunc.ALWAYS)
+    context.om_set_blend(BlendState())
+    context.om_set_depth_stencil(replace(tests, stencil_enable=True, front_face=marked, back_face=marked))
+    context.ia_set_vertices([(x, y, 0, (20, 20, 40, 255)) for x, y in ((0, 0), (SIDE, 0), (0, SIDE), (SIDE, SIDE))])
+    context.ia_set_topology(STRIP)
+    context.draw(4)
+    command_list = context.finish_command_list()
+
+    def add(immediate):
+        immediate.clear_color((200, 200, 200, 255))
+        frame_of(command_list)(immediate)
+
+    return add
 
 
-def idle_pixels():
+def idle_pixels(scene):
     """65,536 questions for a pixel on an idle target."""
-    return [], ["i pixel 2047 2047"] * 65_536
+
+    def add(immediate):
+        for _ in range(65_536):
+            immediate.pixel(2047, 2047)
+
+    return add
 
 
-def indexed_strip():
+def indexed_strip(scene):
     """An indexed strip of 65,536 indices, in a zigzag over the target."""
-    chance, vertices, numbers = random.Random(4), [], []
+    chance, vertices, numbers, context = random.Random(4), [], [], scene.deferred[0]
     for column in range(256):
         for row in range(256):
-            vertices.append(vertex(8 * column, 8 * row, chance.randrange(DEEPEST), (column, row, 128, 255)))
+            vertices.append((8 * column, 8 * row, chance.randrange(DEEPEST), (column, row, 128, 255)))
     for column in range(128):
         for row in range(256):
             numbers += [512 * column + row, 512 * column + 256 + row]
-    cut = " ".join("65535" if at == 65_535 else str(at) for at in numbers[:65_536])
-    lines = ["d0 raster 1 0 0", f"d0 vb {' '.join(vertices)}", f"d0 ib {cut}", "d0 topology 5", "d0 drawi 65536 0 0", "d0 finish 0"]
-    return lines, ["i cleards 16777215 0", "i exec d0 0 1"]
+    context.rs_set_state(RasterizerState(cull_mode=CullMode.NONE))
+    context.ia_set_vertices(vertices)
+    context.ia_set_indices(STRIP_CUT if at == 65_535 else it for at, it in enumerate(numbers[:65_536]))
+    context.ia_set_topology(STRIP)
+    context.draw_indexed(65_536)
+    return frame_of(context.finish_command_list())
 
 
-def clear():
-    """A clear of the greatest target."""
-    return [], ["i clearc 1 2 3 4", "i flush"]
+def clear(scene):
+    """A clear of the target."""
+
+    def add(immediate):
+        immediate.clear_color((1, 2, 3, 4))
+        immediate.flush()
+
+    return add
 
 
-def ten_tiles():
+def ten_tiles(scene):
     """An execution that touches ten of 4,096 tiles, a thousand times."""
-    chance = random.Random(8)
-    lines = [f"d0 vb {' '.join(triangle(chance, 320, 30, 100) for _ in range(2))}", "d0 topology 4", "d0 draw 6 0", "d0 finish 0"]
-    return lines, ["i exec d0 0 1"] * 1000
+    context = scene.deferred[0]
+    context.ia_set_vertices(triangles(random.Random(8), 2, 320, 30, 100))
+    context.ia_set_topology(LIST)
+    context.draw(6)
+    command_list = context.finish_command_list()
+
+    def add(immediate):
+        for _ in range(1000):
+            immediate.execute(command_list, True)
+
+    return add
 
 
-def largest_target():
-    """The greatest target under one triangle that covers each of its pixels: its third place is the farthest there is."""
-    corners = "0 0 0 1 2 3 4 268435456 0 0 1 2 3 4 0 268435456 0 1 2 3 4"
-    return [f"d0 vb {corners}", "d0 topology 4", "d0 draw 3 0", "d0 finish 0"], ["i cleards 16777215 0", "i exec d0 0 1"]
+def largest_target(scene):
+    """The target under one triangle that covers each of its pixels: its third place is the farthest there is."""
+    context = scene.deferred[0]
+    context.ia_set_vertices([(x, y, 0, (1, 2, 3, 4)) for x, y in ((0, 0), (FARTHEST_PIXEL, 0), (0, FARTHEST_PIXEL))])
+    context.ia_set_topology(LIST)
+    context.draw(3)
+    return frame_of(context.finish_command_list())
 
 
-def long_script():
+def long_script(scene):
     """60 MB of vertices: the time to read and check a script."""
-    chance = random.Random(5)
-    line = "i vb " + " ".join(triangle(chance, SIDE, 4.5, 10) for _ in range(21_845))
-    return [], [line] * (60_000_000 // len(line) + 1)
+
+    def add(immediate):
+        immediate.ia_set_vertices(triangles(random.Random(5), 21_845, SIDE, 4.5, 10))
+        line = scene.lines[-1]
+        for _ in range(60_000_000 // len(str(line))):
+            scene.add_line(line)
+
+    return add
 
 
 SCENES = {
@@ -154,20 +237,23 @@ SCENES = {
 }
 
 
-def script(scene, frames):
-    once, frame = SCENES[scene]()
-    return [f"target {SIDE} {SIDE}" if scene != "long-script" else "target 1 1", *once, *frame * frames]
+def script(name, frames):
+    """The script of a scene with so many frames."""
+    scene = Scene(*(1, 1) if name == "long-script" else (SIDE, SIDE))
+    add_frame = SCENES[name](scene)
+    for _ in range(frames):
+        add_frame(scene.immediate)
+    return scene.script()
 
 
 def main():
     about = "Scenes:\n" + "\n".join(f"  {name}: {' '.join(make.__doc__.split())}" for name, make in SCENES.items())
     parser = argparse.ArgumentParser(description=__doc__, epilog=about, formatter_class=argparse.RawDescriptionHelpFormatter)
     parser.add_argument("scene", metavar="SCENE", choices=SCENES)
-    parser.add_argument("frames", metavar="FRAMES", nargs="?", type=int, default=1)
+    parser.add_argument("frames", metavar="FRAMES", nargs="?", type=whole_number(1), default=1)
     given = parser.parse_args()
-    for line in script(given.scene, given.frames):
-        print(line)
+    sys.stdout.write(script(given.scene, given.frames))
 
 
 if __name__ == "__main__":
-    sys.exit(main())
+    main()

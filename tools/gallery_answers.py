@@ -17,7 +17,7 @@ DATA = pathlib.Path(__file__).resolve().parent.parent / "crates" / "gallery" / "
 def main():
     argparse.ArgumentParser(description=__doc__, formatter_class=argparse.RawDescriptionHelpFormatter).parse_args()
     for name in (DATA / "index").read_text(encoding="ascii").splitlines():
-        answers, image = plain_device.evaluate((DATA / name).read_text(encoding="ascii"))
+        answers, image = plain_device.evaluate((DATA / name).read_bytes())
         print(f"{name}\n{answers}image {hashlib.sha256(image).hexdigest()}")
 
 

@@ -1,11 +1,13 @@
 #!/usr/bin/env python3
 """Runs the gate, looks every half second at its processes, and prints what each crate and each edit took of the processors:
 
-    tools/gate_times.py [rt ci]
+    tools/gate_times.py [COMMAND ..]
 
+Without a command it runs `rt ci`; another one, such as `rt all check --jobs 4`, is looked at in the same way.
 The first table has for each crate the processor seconds of its proof, of its tests, of the seed of its edits (the proof that they begin with, and
 a look at it behind them) and of its edits; what compiling and linking took is in no row. Behind it stand the edits that took longest. What
 the command itself prints goes to standard error."""
+import argparse
 import collections
 import os
 import subprocess
@@ -43,7 +45,8 @@ def check_of(process):
     # a crate's only edit is tried from nothing, others over what their seed kept
     over = os.path.basename(words[words.index("--incremental") + 1]) if "--incremental" in words else "0"
     kind = "seed" if is_edit and over == "seed" else "edits" if is_edit else "tests" if "--test" in words else "proof"
-    return words[words.index("--crate-name") + 1], kind, int(over) if kind == "edits" else None
+    # (`rt must-fail` tries a crate's edits in turn over one folder, whose name has no number)
+    return words[words.index("--crate-name") + 1], kind, int(over) if kind == "edits" and over.isdigit() else None
 
 
 def sample(checks):
@@ -65,19 +68,11 @@ def edits_of(crate, checks):
         if (name, kind) == (crate, "edits"):
             spent[number] += seconds
     names = [it for it in sorted(os.listdir(f"{CRATES}/{crate}/must-fail")) if it.endswith(".edit")]
-    return [(seconds, f"{crate}/{names[number]}") for number, seconds in spent.items()]
+    return [(seconds, f"{crate}/{'its edits in turn' if number is None else names[number]}") for number, seconds in spent.items()]
 
 
-def main():
-    command = sys.argv[1:] or ["rt", "ci"]
-    if command[0] in ("-h", "--help"):
-        print(__doc__)
-        return 0
-    checks, started = collections.OrderedDict(), time.time()
-    running = subprocess.Popen(command, stdout=sys.stderr)
-    while running.poll() is None:
-        sample(checks)
-        time.sleep(0.5)
+def print_tables(checks):
+    """Prints what each crate took, and the edits that took longest."""
     spent = collections.defaultdict(collections.Counter)
     for name, kind, _, seconds in checks.values():
         spent[name][kind] += seconds
@@ -87,6 +82,21 @@ def main():
     print("| all, in minutes |", " | ".join(str(round(sum(it[kind] for it in spent.values()) / 60)) for kind in kinds), "|")
     for seconds, edit in sorted((it for name in spent if spent[name]["edits"] for it in edits_of(name, checks)), reverse=True)[:40]:
         print(f"{seconds:6.1f} {edit}")
+
+
+def main():
+    parser = argparse.ArgumentParser(description=__doc__, formatter_class=argparse.RawDescriptionHelpFormatter)
+    parser.add_argument("command", metavar="COMMAND", nargs=argparse.REMAINDER, help="the command and its words (rt ci)")
+    command = parser.parse_args().command or ["rt", "ci"]
+    checks, started = collections.OrderedDict(), time.time()
+    try:
+        running = subprocess.Popen(command, stdout=sys.stderr)
+    except OSError as error:
+        parser.exit(2, f"gate_times.py: {command[0]} doesn't start: {error.strerror}\n")
+    while running.poll() is None:
+        sample(checks)
+        time.sleep(0.5)
+    print_tables(checks)
     times = os.times()
     print(f"{(time.time() - started) / 60:.0f} minutes, {(times.children_user + times.children_system) / 60:.0f} processor minutes")
     return running.returncode

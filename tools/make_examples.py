@@ -1,9 +1,8 @@
 #!/usr/bin/env python3
 """Writes the example scripts that are too long to write by hand, into crates/gallery/data/.
 
-Each function gives the lines of one script. Places are in pixels and are rounded to 1/65,536 pixel, which is what
-scripts hold; depths are whole numbers from 0 to 16,777,215. A face is towards the viewer where its corners go
-clockwise on the target, whose y goes down.
+Each function gives one scene. Places are in pixels, depths are stored whole numbers from 0 to 16,777,215. A face is
+towards the viewer where its corners go clockwise on the target, whose y goes down.
 """
 
 import argparse
@@ -12,12 +11,16 @@ import math
 import pathlib
 import random
 
-DEEPEST = 16_777_215
-FOLDER = pathlib.Path(__file__).resolve().parent.parent / "crates" / "gallery" / "data"
+import package_path
+from yuzuratchet import BlendState, ComparisonFunc, CullMode, DepthStencilState, LogicOp, PrimitiveTopology, RasterizerState, Scene, StencilFace, StencilOp
+from yuzuratchet.limits import DEEPEST
+from yuzuratchet.recipes import light_outside_shadows, mark_shadow_volumes
+from yuzuratchet.shapes import clockwise, draw_triangles, rectangle
 
-
-def fixed(pixels):
-    return round(65_536 * pixels)
+FOLDER = package_path.TOP / "crates" / "gallery" / "data"
+LIST, STRIP = PrimitiveTopology.TRIANGLELIST, PrimitiveTopology.TRIANGLESTRIP
+BOTH_FACES = RasterizerState(cull_mode=CullMode.NONE)
+BACKGROUND = (24, 24, 40, 255)
 
 
 def colour(hue, saturation=0.6, value=0.95):
@@ -28,47 +31,34 @@ def shade(base, light):
     return tuple(round(part * max(0.0, min(1.0, light))) for part in base[:3]) + (255,)
 
 
-def vertex(x, y, z, rgba):
-    return f"{fixed(x)} {fixed(y)} {z} {' '.join(map(str, rgba))}"
+def opened(width, height, background=BACKGROUND):
+    """A scene whose target has a colour."""
+    scene = Scene(width, height)
+    scene.immediate.clear_color(background)
+    return scene
 
 
-def buffer(vertices, actor="i"):
-    return f"{actor} vb " + " ".join(vertex(*it) for it in vertices)
-
-
-def indices(numbers, actor="i"):
-    return f"{actor} ib " + " ".join(map(str, numbers))
-
-
-def begin(width, height, background=(24, 24, 40, 255)):
-    return [f"target {width} {height}", f"i clearc {' '.join(map(str, background))}"]
-
-
-def clockwise(a, b, c):
-    """The three corners, turned so that they go clockwise on the target."""
-    area = (b[0] - a[0]) * (c[1] - a[1]) - (c[0] - a[0]) * (b[1] - a[1])
-    return [a, b, c] if area > 0 else [a, c, b]
+def list_scene(width, height, vertices, *pixels):
+    """A scene of one list of triangles, which asks for some pixels."""
+    scene = opened(width, height)
+    draw_triangles(scene.immediate, vertices)
+    for x, y in pixels:
+        scene.immediate.pixel(x, y)
+    return scene
 
 
 def fan():
     """Twenty-four triangles that meet in one vertex: each centre of a pixel belongs to one of them."""
-    middle, spokes = (96.25, 96.5), 24
-    rim = [
-        (96.25 + 88 * math.cos(math.tau * at / spokes), 96.5 + 88 * math.sin(math.tau * at / spokes))
-        for at in range(spokes)
-    ]
-    corners = []
+    middle, spokes, vertices = (96.25, 96.5), 24, []
+    rim = [(96.25 + 88 * math.cos(math.tau * at / spokes), 96.5 + 88 * math.sin(math.tau * at / spokes)) for at in range(spokes)]
     for at in range(spokes):
-        rgba = colour(at / spokes)
-        for x, y in (middle, rim[at], rim[(at + 1) % spokes]):
-            corners.append((x, y, 0, rgba))
-    return begin(192, 192) + [buffer(corners), "i topology 4", f"i draw {len(corners)} 0", "i pixel 96 96"]
+        vertices += [(x, y, 0, colour(at / spokes)) for x, y in (middle, rim[at], rim[(at + 1) % spokes])]
+    return list_scene(192, 192, vertices, (96, 96))
 
 
 def shared_edges():
     """A sheet of squares whose corners are moved at random: no gap and no centre twice, at any slope."""
-    chance, cells, size = random.Random(7), 12, 16
-    place = {}
+    chance, cells, size, place, vertices = random.Random(7), 12, 16, {}, []
     for row in range(cells + 1):
         for column in range(cells + 1):
             inner = 0 < row < cells and 0 < column < cells
@@ -76,95 +66,89 @@ def shared_edges():
                 column * size + (chance.uniform(-6, 6) if inner else 0),
                 row * size + (chance.uniform(-6, 6) if inner else 0),
             )
-    corners = []
     for row in range(cells):
         for column in range(cells):
             a, b = place[column, row], place[column + 1, row]
             c, d = place[column, row + 1], place[column + 1, row + 1]
             for number, triangle in enumerate((clockwise(a, b, c), clockwise(b, d, c))):
                 rgba = colour((column + row) / 24, 0.35 + 0.3 * number, 0.95 - 0.02 * row)
-                corners += [(x, y, 0, rgba) for x, y in triangle]
-    return begin(192, 192) + [buffer(corners), "i topology 4", f"i draw {len(corners)} 0", "i pixel 100 100"]
+                vertices += [(x, y, 0, rgba) for x, y in triangle]
+    return list_scene(192, 192, vertices, (100, 100))
 
 
 def pile():
     """Sloped triangles through each other: the nearest is seen at each pixel, whatever the order."""
-    chance, corners = random.Random(3), []
+    chance, vertices = random.Random(3), []
     for at in range(28):
         x, y = chance.uniform(20, 172), chance.uniform(20, 172)
         turn, size = chance.uniform(0, math.tau), chance.uniform(30, 90)
-        three = [
-            (x + size * math.cos(turn + math.tau * k / 3), y + size * math.sin(turn + math.tau * k / 3)) for k in range(3)
-        ]
-        rgba = colour(at / 28)
-        corners += [(px, py, chance.randrange(DEEPEST + 1), rgba) for px, py in clockwise(*three)]
-    return begin(192, 192) + [
-        buffer(corners), "i topology 4", f"i draw {len(corners)} 0", "i pixel 96 96", "i pixel 60 120",
-    ]
+        three = [(x + size * math.cos(turn + math.tau * k / 3), y + size * math.sin(turn + math.tau * k / 3)) for k in range(3)]
+        vertices += [(px, py, chance.randrange(DEEPEST + 1), colour(at / 28)) for px, py in clockwise(*three)]
+    return list_scene(192, 192, vertices, (96, 96), (60, 120))
 
 
 def slivers():
     """Needles far thinner than a pixel, from one corner: they are broken lines of the centres that they cover."""
-    corners = []
+    vertices = []
     for at in range(60):
         angle = math.pi / 2 * (at + 0.5) / 60
         x, y = 270 * math.cos(angle), 270 * math.sin(angle)
         wide = 0.2 + at / 30
-        rgba = colour(at / 60)
         three = clockwise((-0.5, -0.5), (x - wide * math.sin(angle), y + wide * math.cos(angle)), (x, y))
-        corners += [(px, py, 65_536 * at, rgba) for px, py in three]
-    return begin(192, 192) + [buffer(corners), "i topology 4", f"i draw {len(corners)} 0", "i pixel 100 100"]
+        vertices += [(px, py, 65_536 * at, colour(at / 60)) for px, py in three]
+    return list_scene(192, 192, vertices, (100, 100))
 
 
 def far():
     """Triangles with corners up to 4,096 pixels away, of which the target sees a part, or nothing."""
-    corners = []
+    vertices = []
     for at in range(16):
         angle = math.tau * at / 16
         x, y = 64 + 40 * math.cos(angle), 64 + 40 * math.sin(angle)
         ahead = (64 + 4000 * math.cos(angle - 0.05), 64 + 4000 * math.sin(angle - 0.05))
         behind = (64 + 4000 * math.cos(angle + 0.05), 64 + 4000 * math.sin(angle + 0.05))
-        rgba = colour(at / 16)
-        corners += [(px, py, 0, rgba) for px, py in clockwise((x, y), ahead, behind)]
-    corners += [(4096, 4096, 0, (255, 255, 255, 255)), (2048, 4096, 0, (255, 255, 255, 255)), (4096, 2048, 0, (255, 255, 255, 255))]
-    corners += [(-4096, -4096, DEEPEST - 1, colour(0.6, 0.5, 0.3)), (4096, -3950, DEEPEST - 1, colour(0.6, 0.5, 0.3)), (-3950, 4096, DEEPEST - 1, colour(0.6, 0.5, 0.3))]
-    return begin(128, 128) + [buffer(corners), "i topology 4", f"i draw {len(corners)} 0", "i pixel 127 64"]
+        vertices += [(px, py, 0, colour(at / 16)) for px, py in clockwise((x, y), ahead, behind)]
+    vertices += [(x, y, 0, (255, 255, 255, 255)) for x, y in ((4096, 4096), (2048, 4096), (4096, 2048))]
+    vertices += [(x, y, DEEPEST - 1, colour(0.6, 0.5, 0.3)) for x, y in ((-4096, -4096), (4096, -3950), (-3950, 4096))]
+    return list_scene(128, 128, vertices, (127, 64))
 
 
 def large():
-    """A target of the greatest size, with a spiral of triangles."""
-    corners = []
+    """A target of 2,048 by 2,048, with a spiral of triangles."""
+    vertices = []
     for at in range(220):
         angle, away = at * 0.31, 60 + at * 4
         x, y = 1024 + away * math.cos(angle), 1024 + away * math.sin(angle)
         size = 20 + at / 3
         three = [(x + size * math.cos(angle + math.tau * k / 3), y + size * math.sin(angle + math.tau * k / 3)) for k in range(3)]
-        corners += [(px, py, 10_000 * at, colour(at / 220)) for px, py in clockwise(*three)]
-    return begin(2048, 2048) + [buffer(corners), "i topology 4", f"i draw {len(corners)} 0", "i pixel 1024 964", "i pixel 2047 2047"]
+        vertices += [(px, py, 10_000 * at, colour(at / 220)) for px, py in clockwise(*three)]
+    return list_scene(2048, 2048, vertices, (1024, 964), (2047, 2047))
 
 
 def ribbon():
     """A spiral as one strip: every other triangle is turned, and all face the viewer."""
-    corners = []
+    scene, vertices = opened(192, 192), []
     for at in range(120):
         angle, away = at * 0.17, 12 + at * 0.62
-        rgba = colour(at / 120)
         for side in (away, away + 9):
-            corners.append((96 + side * math.cos(angle), 96 + side * math.sin(angle), 0, rgba))
-    return begin(192, 192) + [
-        "i raster 1 0 0", buffer(corners), "i topology 5", f"i draw {len(corners)} 0", "i pixel 96 84",
-    ]
+            vertices.append((96 + side * math.cos(angle), 96 + side * math.sin(angle), 0, colour(at / 120)))
+    context = scene.immediate
+    context.rs_set_state(BOTH_FACES)
+    context.ia_set_vertices(vertices)
+    context.ia_set_topology(STRIP)
+    context.draw(len(vertices))
+    context.pixel(96, 84)
+    return scene
 
 
 def ball_mesh(rows, columns, top, bottom):
     """Corners and index triples of a part of a ball of radius 1, seen from outside."""
-    points = []
+    points, triples = [], []
     for row in range(rows + 1):
         down = top + (bottom - top) * row / rows
         for column in range(columns):
             around = math.tau * column / columns
             points.append((math.sin(down) * math.cos(around), -math.cos(down), math.sin(down) * math.sin(around)))
-    triples = []
     for row in range(rows):
         for column in range(columns):
             a, b = row * columns + column, row * columns + (column + 1) % columns
@@ -178,34 +162,44 @@ def tilted(point, angle):
     return x, y * math.cos(angle) - z * math.sin(angle), y * math.sin(angle) + z * math.cos(angle)
 
 
+def draw_mesh(context, vertices, triples):
+    context.ia_set_vertices(vertices)
+    context.ia_set_indices(sum(triples, ()))
+    context.ia_set_topology(LIST)
+    context.draw_indexed(3 * len(triples))
+
+
 def mesh():
     """A ball of 480 triangles, drawn by indices: the half behind is culled."""
     points, triples = ball_mesh(12, 20, 0.0, math.pi)
-    corners = []
+    scene, vertices = opened(192, 192), []
     for point in points:
         x, y, z = tilted(point, 0.5)
         light = 0.25 + 0.75 * max(0.0, -0.4 * x - 0.6 * y - 0.7 * z)
-        corners.append((96 + 84 * x, 96 + 84 * y, round((z + 1) * 8_000_000), shade((255, 180, 90), light)))
-    return begin(192, 192) + [
-        buffer(corners), indices(sum(triples, ())), "i topology 4", f"i drawi {3 * len(triples)} 0 0", "i pixel 96 96",
-    ]
+        vertices.append((96 + 84 * x, 96 + 84 * y, round((z + 1) * 8_000_000), shade((255, 180, 90), light)))
+    draw_mesh(scene.immediate, vertices, triples)
+    scene.immediate.pixel(96, 96)
+    return scene
 
 
 def bowl():
     """Both faces of an open bowl: the list of its inside and the list of its outside, by the cull mode alone."""
     points, triples = ball_mesh(8, 24, math.pi / 2, math.pi - 0.05)
-    lines = begin(192, 192)
-    for actor, cull, base in (("d0", 2, (110, 170, 255)), ("d1", 3, (255, 150, 110))):
-        corners = []
+    scene, lists = opened(192, 192), []
+    for context, cull, base in zip(scene.deferred, (CullMode.FRONT, CullMode.BACK), ((110, 170, 255), (255, 150, 110))):
+        vertices = []
         for point in points:
             x, y, z = tilted(point, 0.6)
             light = 0.35 + 0.65 * abs(0.3 * x + 0.5 * y + 0.8 * z)
-            corners.append((96 + 84 * x, 60 + 84 * y, round((z + 1) * 8_000_000), shade(base, light)))
-        lines += [
-            f"{actor} raster {cull} 0 0", buffer(corners, actor), indices(sum(triples, ()), actor),
-            f"{actor} topology 4", f"{actor} drawi {3 * len(triples)} 0 0", f"{actor} finish 0",
-        ]
-    return lines + ["i exec d0 0 0", "i exec d1 0 0", "i pixel 96 40", "i pixel 96 120"]
+            vertices.append((96 + 84 * x, 60 + 84 * y, round((z + 1) * 8_000_000), shade(base, light)))
+        context.rs_set_state(RasterizerState(cull_mode=cull))
+        draw_mesh(context, vertices, triples)
+        lists.append(context.finish_command_list())
+    for command_list in lists:
+        scene.immediate.execute(command_list)
+    scene.immediate.pixel(96, 40)
+    scene.immediate.pixel(96, 120)
+    return scene
 
 
 # ---- the output merger
@@ -289,27 +283,48 @@ def volume_faces(box):
 def shadow_volumes():
     """Boxes and their shadows by the stencil: behind a volume's back faces up, behind its front faces down, on both faces at
     once where the depth test fails; then the light where the stencil is 0."""
-    dark, bright = [], []
+    scene, dark, bright, volume = opened(192, 192), [], [], []
+    context = scene.immediate
     for corners, rgba in room_faces():
         dark += [(*it, shade(rgba, 0.4)) for it in triangles_of(corners, True)]
         bright += [(*it, shade(rgba, 1.0)) for it in triangles_of(corners, True)]
-    volume = [(*it, (0, 0, 0, 0)) for box in boxes() for corners, is_front in volume_faces(box) for it in triangles_of(corners, is_front)]
-    return begin(192, 192) + [
-        "i topology 4", buffer(dark), f"i draw {len(dark)} 0",
-        "i raster 1 0 0", "i blend 0 4 0", "i ds 1 0 2 1 255 255 1 8 1 8 1 7 1 8 0", buffer(volume), f"i draw {len(volume)} 0",
-        "i raster 3 0 0", "i blend 0 4 15", "i ds 1 0 3 1 255 255 1 1 1 3 1 1 1 3 0", buffer(bright), "i begin 0", f"i draw {len(bright)} 0", "i end 0",
-        "i query 0", "i pixel 96 120", "i pixel 60 60",
-    ]
+    for box in boxes():
+        for corners, is_front in volume_faces(box):
+            volume += [(*it, (0, 0, 0, 0)) for it in triangles_of(corners, is_front)]
+    context.ia_set_topology(LIST)
+    context.ia_set_vertices(dark)
+    context.draw(len(dark))
+    mark_shadow_volumes(context)
+    context.ia_set_vertices(volume)
+    context.draw(len(volume))
+    light_outside_shadows(context)
+    context.ia_set_vertices(bright)
+    with context.counted(0):
+        context.draw(len(bright))
+    context.get_data(0)
+    context.pixel(96, 120)
+    context.pixel(60, 60)
+    return scene
 
 
 def disc(x, y, size, z, rgba, is_front, parts=24):
     """A disc of triangles round its middle."""
     rim = [(x + size * math.cos(math.tau * k / parts), y + size * math.sin(math.tau * k / parts)) for k in range(parts)]
-    corners = []
+    vertices = []
     for k in range(parts):
         three = clockwise((x, y), rim[k], rim[(k + 1) % parts])
-        corners += [(px, py, z, rgba) for px, py in (three if is_front else [three[0], three[2], three[1]])]
-    return corners
+        vertices += [(px, py, z, rgba) for px, py in (three if is_front else [three[0], three[2], three[1]])]
+    return vertices
+
+
+def without_depth(front, back):
+    """A state that looks at the stencil alone, by the two faces."""
+    func = ComparisonFunc.ALWAYS
+    return DepthStencilState(depth_enable=False, depth_write=False, depth_func=func, stencil_enable=True, front_face=front, back_face=back)
+
+
+# the counts that two-faced-count can leave, and the colour of each
+COUNT_COLOURS = [colour(level / 7, 0.7, 0.35 + 0.1 * level) for level in range(7)]
 
 
 def two_faced_count():
@@ -318,115 +333,293 @@ def two_faced_count():
     chance, counted = random.Random(11), []
     for at in range(14):
         counted += disc(chance.uniform(30, 162), chance.uniform(30, 162), chance.uniform(20, 55), 0, (0, 0, 0, 0), at % 3 != 2)
-    lines = begin(192, 192) + [
-        "i cleards 16777215 2", "i raster 1 0 0", "i blend 0 4 0", "i ds 0 0 8 1 255 255 1 1 4 8 1 1 5 8 0",
-        buffer(counted), "i topology 4", f"i draw {len(counted)} 0", "i topology 5",
-    ]
+    scene = opened(192, 192)
+    context = scene.immediate
+    context.clear_depth_stencil(DEEPEST, 2)
+    context.rs_set_state(BOTH_FACES)
+    context.om_set_blend(BlendState(write_mask=0))
+    up, down = StencilFace(stencil_pass_op=StencilOp.INCR_SAT), StencilFace(stencil_pass_op=StencilOp.DECR_SAT)
+    context.om_set_depth_stencil(without_depth(up, down))
+    draw_triangles(context, counted)
+    context.ia_set_topology(STRIP)
+    for level, rgba in enumerate(COUNT_COLOURS):
+        context.om_set_blend(BlendState())
+        equal = StencilFace(stencil_func=ComparisonFunc.EQUAL)
+        context.om_set_depth_stencil(without_depth(equal, equal), level)
+        context.ia_set_vertices([(x, y, 0, rgba) for x, y in ((0, 0), (192, 0), (0, 192), (192, 192))])
+        with context.counted(level):
+            context.draw(4)
     for level in range(7):
-        quad = [(x, y, 0, colour(level / 7, 0.7, 0.35 + 0.1 * level)) for x, y in ((0, 0), (192, 0), (0, 192), (192, 192))]
-        lines += [
-            "i blend 0 4 15", f"i ds 0 0 8 1 255 255 1 1 1 3 1 1 1 3 {level}", buffer(quad), f"i begin {level}", "i draw 4 0", f"i end {level}",
-        ]
-    return lines + [f"i query {level}" for level in range(7)] + ["i pixel 96 96"]
+        context.get_data(level)
+    context.pixel(96, 96)
+    return scene
+
+
+def ramp():
+    """Columns of four pixels, from one colour to another."""
+    vertices = []
+    for column in range(48):
+        rgba = (5 * column, 255 - 5 * column, 96 + 3 * column, 255)
+        for three in (((0, 0), (4, 0), (0, 192)), ((4, 0), (4, 192), (0, 192))):
+            vertices += [(4 * column + x, y, 0, rgba) for x, y in three]
+    return vertices
 
 
 def logic_operations():
     """The sixteen logic operations, each of a disc onto a ramp, with the green channel masked in the lower half of each."""
-    lines, ramp = begin(192, 192, (0, 0, 0, 255)), []
-    for column in range(48):
-        rgba = (5 * column, 255 - 5 * column, 96 + 3 * column, 255)
-        for a, b, c in (((0, 0), (4, 0), (0, 192)), ((4, 0), (4, 192), (0, 192))):
-            ramp += [(4 * column + x, y, 0, rgba) for x, y in (a, b, c)]
-    lines += ["i ds 0 0 8 0 255 255 1 1 1 8 1 1 1 8 0", "i raster 1 0 1", "i topology 4", "i scissor 0 0 192 192", buffer(ramp), f"i draw {len(ramp)} 0"]
-    for operation in range(16):
+    scene = opened(192, 192, (0, 0, 0, 255))
+    context = scene.immediate
+    context.om_set_depth_stencil(DepthStencilState(depth_enable=False, depth_write=False, depth_func=ComparisonFunc.ALWAYS))
+    context.rs_set_state(RasterizerState(cull_mode=CullMode.NONE, scissor_enable=True))
+    context.ia_set_topology(LIST)
+    context.rs_set_scissor(0, 0, 192, 192)
+    context.ia_set_vertices(ramp())
+    context.draw(len(ramp()))
+    for operation in LogicOp:
         left, top = 48 * (operation % 4), 48 * (operation // 4)
-        round_ = disc(left + 24, top + 24, 20, 0, (90, 165, 60, 255), True)
+        vertices = disc(left + 24, top + 24, 20, 0, (90, 165, 60, 255), True)
         for mask, upper in ((15, top), (13, top + 24)):
-            lines += [
-                f"i blend 1 {operation} {mask}", f"i scissor {left} {upper} {left + 48} {upper + 24}", buffer(round_),
-                f"i begin {operation}", f"i draw {len(round_)} 0", f"i end {operation}",
-            ]
-    return lines + [f"i query {operation}" for operation in (0, 10, 15)] + ["i pixel 24 24", "i pixel 120 130"]
+            context.om_set_blend(BlendState(logic_op_enable=True, logic_op=operation, write_mask=mask))
+            context.rs_set_scissor(left, upper, left + 48, upper + 24)
+            context.ia_set_vertices(vertices)
+            with context.counted(operation):
+                context.draw(len(vertices))
+    for operation in (LogicOp.CLEAR, LogicOp.XOR, LogicOp.OR_INVERTED):
+        context.get_data(operation)
+    context.pixel(24, 24)
+    context.pixel(120, 130)
+    return scene
+
+
+def petal_lists(context, number):
+    """The two lists of a context: under states of its own, and the second by the state that the first kept."""
+    angle = math.tau * number / 8
+    petal = disc(96 + 52 * math.cos(angle), 96 + 52 * math.sin(angle), 38, DEEPEST // 9 * (number + 1), colour(number / 8), True)
+    heart = disc(96, 96, 40 - 4 * number, DEEPEST // 2, colour((number + 4) / 8, 0.4), True)
+    operation = LogicOp.AND if number % 4 == 1 else LogicOp.XOR
+    context.rs_set_state(RasterizerState(scissor_enable=True))
+    context.rs_set_scissor(8 * number, 0, 192, 192 - 6 * number)
+    context.ia_set_topology(LIST)
+    context.om_set_blend(BlendState(logic_op_enable=number % 2, logic_op=operation, write_mask=15 if number < 6 else 11))
+    lists = []
+    for query, vertices, restore in ((number, petal, True), (8, heart, False)):
+        context.ia_set_vertices(vertices)
+        with context.counted(query):
+            context.draw(len(vertices))
+        lists.append(context.finish_command_list(restore))
+    return lists
 
 
 def eight_contexts():
     """Eight deferred contexts, each with two lists under states of its own; the second keeps the state of the first."""
-    lines = begin(192, 192)
-    for context in range(8):
-        actor, angle = f"d{context}", math.tau * context / 8
-        x, y = 96 + 52 * math.cos(angle), 96 + 52 * math.sin(angle)
-        petal = disc(x, y, 38, DEEPEST // 9 * (context + 1), colour(context / 8), True)
-        heart = disc(96, 96, 40 - 4 * context, DEEPEST // 2, colour((context + 4) / 8, 0.4), True)
-        lines += [
-            f"{actor} raster 3 0 1", f"{actor} scissor {8 * context} 0 192 {192 - 6 * context}", f"{actor} topology 4",
-            f"{actor} blend {context % 2} {6 if context % 4 == 1 else 10} {15 if context < 6 else 11}",
-            buffer(petal, actor), f"{actor} begin {context}", f"{actor} draw {len(petal)} 0", f"{actor} end {context}", f"{actor} finish 1",
-            buffer(heart, actor), f"{actor} begin 8", f"{actor} draw {len(heart)} 0", f"{actor} end 8", f"{actor} finish 0",
-        ]
-    lines += [f"i exec d{context} 0 0" for context in range(8)]
-    lines += [f"i exec d{context} 1 1" for context in (6, 3, 0)]
-    return lines + [f"i query {context}" for context in range(9)] + ["i pixel 96 96", "i pixel 150 96"]
+    scene = opened(192, 192)
+    context = scene.immediate
+    petals, hearts = zip(*(petal_lists(it, number) for number, it in enumerate(scene.deferred)))
+    for command_list in petals:
+        context.execute(command_list)
+    for number in (6, 3, 0):
+        context.execute(hearts[number], restore=True)
+    for query in range(9):
+        context.get_data(query)
+    context.pixel(96, 96)
+    context.pixel(150, 96)
+    return scene
+
+
+def rays(x, y, size, rgba, parts=12):
+    """A star of thin triangles round a middle."""
+    vertices = []
+    for k in range(parts):
+        at, half = math.tau * k / parts, math.tau / (5 * parts)
+        tip = (x + size * math.cos(at), y + size * math.sin(at))
+        base = [(x + 7 * math.cos(at + turn), y + 7 * math.sin(at + turn)) for turn in (-half * 3, half * 3)]
+        vertices += [(px, py, 0, rgba) for px, py in clockwise(tip, *base)]
+    return vertices
+
+
+def cross(x, y, rgba):
+    """Two thin bars through a middle."""
+    vertices = []
+    for turn in (-1, 1):
+        a, b = (x - 6, y - 6 * turn), (x + 6, y + 6 * turn)
+        for three in (((a[0] - 1, a[1]), (a[0] + 1, a[1]), b), (b, (b[0] - 2, b[1]), a)):
+            vertices += [(px, py, 0, rgba) for px, py in clockwise(*three)]
+    return vertices
+
+
+def add_light(context, query, x, y):
+    """The light of a lamp, which is left out where its query counted nothing, and a dark cross that is left out elsewhere."""
+    light = rays(x, y, 22, (255, 214, 96, 255)) + disc(x, y, 7, 0, (255, 240, 190, 255), True)
+    for value, vertices in ((False, light), (True, cross(x, y, (24, 20, 30, 255)))):
+        context.set_predication((query, value))
+        context.ia_set_vertices(vertices)
+        context.draw(len(vertices))
+
+
+def lamps():
+    """Eight lamps behind doors, three of which are shut. A query counts what is seen of each lamp. The light of a lamp is drawn
+    under a predicate that leaves it out where nothing was counted, and a dark cross under the one that leaves it out elsewhere; both
+    are recorded before anything is counted."""
+    scene, doors, stand_ins = Scene(192, 96), [], []
+    context, recorded = scene.immediate, scene.deferred[0]
+    recorded.ia_set_topology(LIST)
+    recorded.om_set_depth_stencil(DepthStencilState(depth_enable=False, depth_write=False, depth_func=ComparisonFunc.ALWAYS))
+    for at, opening in enumerate((0, 2, 8, 20, 28, 0, 14, 0)):
+        left, top = 48 * (at % 4), 48 * (at // 4)
+        x, y = left + 24, top + 24
+        doors += rectangle(left + 2, top + 2, left + 46, top + 46, depth=2000, colour=(58, 52, 74, 255))
+        doors += rectangle(left + 6, top + 6, x - opening / 2, top + 42, depth=500, colour=(122, 88, 58, 255))
+        doors += rectangle(x + opening / 2, top + 6, left + 42, top + 42, depth=500, colour=(104, 74, 48, 255))
+        stand_ins.append(rectangle(x - 7, y - 7, x + 7, y + 7, depth=1000, colour=(0, 0, 0, 0)))
+        add_light(recorded, at, x, y)
+    lights = recorded.finish_command_list()
+    context.clear_color((30, 30, 46, 255))
+    context.ia_set_topology(LIST)
+    context.ia_set_vertices(doors)
+    context.draw(len(doors))
+    context.om_set_blend(BlendState(write_mask=0))
+    context.om_set_depth_stencil(DepthStencilState(depth_write=False))
+    for at, vertices in enumerate(stand_ins):
+        context.ia_set_vertices(vertices)
+        with context.counted(at):
+            context.draw(6)
+    context.execute(lights, restore=True)
+    for at in range(8):
+        context.get_data(at)
+    context.pixel(24, 24)
+    context.pixel(72, 24)
+    return scene
+
+
+def wandering(chance, count):
+    """Vertices each of which lies near the one before, on a target of 48 by 48."""
+    vertices = []
+    x = y = 24
+    for _ in range(count):
+        x = min(max(x + chance.randrange(-4, 5) / 2, -2), 50)
+        y = min(max(y + chance.randrange(-4, 5) / 2, -2), 50)
+        vertices.append((x, y, chance.randrange(10), tuple(chance.randrange(10) for _ in range(3)) + (9,)))
+    return vertices
+
+
+def counted_list(context, topology, draw, triangles):
+    """A list of so many triangles, counted, in draws of at most 5,000; the next one keeps its state."""
+    context.ia_set_topology(topology)
+    with context.counted(0):
+        for start in range(0, triangles, 5_000):
+            now = min(5_000, triangles - start)
+            draw(3 * now if topology == LIST else now + 2)
+    return context.finish_command_list(restore=True)
+
+
+def large_lists():
+    """Lists of 100, of 5,000 and of 65,536 triangles of both topologies, without indices and by indices, and one of 5,000 of which
+    all are culled. Each triangle is drawn over the earlier ones, so that their order shows."""
+    chance, scene, lists = random.Random(29), Scene(48, 48), []
+    context, culled = scene.deferred[:2]
+    context.ia_set_vertices(wandering(chance, 15_000))
+    context.ia_set_indices(chance.randrange(max(0, at - 3), min(15_000, at + 4)) for at in range(15_000))
+    context.rs_set_state(BOTH_FACES)
+    context.om_set_depth_stencil(DepthStencilState(depth_func=ComparisonFunc.ALWAYS))
+    for topology in (LIST, STRIP):
+        for draw in (context.draw, context.draw_indexed):
+            lists += [counted_list(context, topology, draw, triangles) for triangles in (100, 5_000, 65_536)]
+    culled.ia_set_vertices([(x, y, 0, (1, 2, 3, 4)) for x, y in ((8, 8), (8, 40), (40, 8))])
+    culled.ia_set_indices([0, 1, 2] * 5_000)
+    culled.ia_set_topology(LIST)
+    with culled.counted(1):
+        culled.draw_indexed(15_000)
+    asked = [(command_list, 0, ((24, 24), (31, 32))) for command_list in lists]
+    for command_list, query, pixels in [*asked, (culled.finish_command_list(), 1, ((12, 12),))]:
+        scene.immediate.execute(command_list, restore=True)
+        scene.immediate.get_data(query)
+        for x, y in pixels:
+            scene.immediate.pixel(x, y)
+    return scene
+
+
+# ---- widths and random scenes
 
 
 def width(columns):
     """Both halves of a target of so many columns and 33 rows, each counted, with sloped depths."""
     corners = [(0, 0, 0, (10, 20, 30, 40)), (columns, 0, 4_000_000, (50, 60, 70, 80)),
                (0, 33, 8_000_000, (1, 2, 3, 4)), (columns, 33, DEEPEST, (5, 6, 7, 8))]
-    lines = [f"target {columns} 33", "i topology 4", "i raster 1 0 0"]
+    scene = Scene(columns, 33)
+    context = scene.immediate
+    context.ia_set_topology(LIST)
+    context.rs_set_state(BOTH_FACES)
     for query, half in enumerate([(0, 1, 2), (1, 3, 2)]):
-        lines += [buffer([corners[at] for at in half]), "i begin 2", f"i begin {query}", "i draw 3 0", f"i end {query}", "i end 2"]
-    return lines + ["i query 0", "i query 1", f"i pixel {columns - 1} 0", f"i pixel {columns // 2} 16", f"i pixel {columns - 1} 32"]
+        context.ia_set_vertices([corners[at] for at in half])
+        with context.counted(2), context.counted(query):
+            context.draw(3)
+    context.get_data(0)
+    context.get_data(1)
+    for x, y in ((columns - 1, 0), (columns // 2, 16), (columns - 1, 32)):
+        context.pixel(x, y)
+    return scene
 
 
 def random_face(chance):
-    return f"{chance.randrange(1, 9)} {chance.randrange(1, 9)} {chance.randrange(1, 9)} {chance.randrange(1, 9)}"
+    return [chance.randrange(1, 9) for _ in range(4)]
 
 
-def random_states(chance, actor, sides):
+def add_random_states(chance, scene, actor):
     """Lines that set all states, of each kind at random."""
-    left, top = chance.randrange(sides[0]), chance.randrange(sides[1])
-    right, bottom = chance.randrange(left, sides[0] + 9), chance.randrange(top, sides[1] + 9)
-    stencil = f"{chance.randrange(2)} {chance.randrange(256)} {chance.randrange(256)} {random_face(chance)} {random_face(chance)}"
-    return [
-        f"{actor} raster {chance.choice([1, 1, 2, 3])} {chance.randrange(2)} {chance.choice([0, 0, 1])}",
-        f"{actor} scissor {left} {top} {right} {bottom}",
-        f"{actor} ds {chance.choice([0, 1, 1])} {chance.randrange(2)} {chance.randrange(1, 9)} {stencil} {chance.randrange(256)}",
-        f"{actor} blend {chance.randrange(2)} {chance.randrange(16)} {chance.choice([15, 15, chance.randrange(16)])}",
-    ]
+    left, top = chance.randrange(scene.width), chance.randrange(scene.height)
+    right, bottom = chance.randrange(left, scene.width + 9), chance.randrange(top, scene.height + 9)
+    stencil = [chance.randrange(2), chance.randrange(256), chance.randrange(256), *random_face(chance), *random_face(chance)]
+    scene.add(actor, "raster", chance.choice([1, 1, 2, 3]), chance.randrange(2), chance.choice([0, 0, 1]))
+    scene.add(actor, "scissor", left, top, right, bottom)
+    scene.add(actor, "ds", chance.choice([0, 1, 1]), chance.randrange(2), chance.randrange(1, 9), *stencil, chance.randrange(256))
+    scene.add(actor, "blend", chance.randrange(2), chance.randrange(16), chance.choice([15, 15, chance.randrange(16)]))
+
+
+def random_triangles(chance, scene):
+    """Ten triangles, each anywhere on the target and of one of three sizes."""
+    reach, vertices = chance.choice([4, 20, 90]), []
+    for _ in range(10):
+        x, y = chance.randrange(scene.width), chance.randrange(scene.height)
+        for _ in range(3):
+            place = x + chance.choice([0, 0.5, chance.uniform(-reach, reach)]), y + chance.choice([0, 0.5, chance.uniform(-reach, reach)])
+            vertices.append((*place, chance.randrange(DEEPEST + 1), tuple(chance.randrange(256) for _ in range(4))))
+    return vertices
 
 
 def random_scene(seed):
     """200 triangles, ten to a list or to a part of what is pending, each part under states and a query of its own."""
     chance = random.Random(seed)
-    sides = chance.randrange(20, 71), chance.randrange(20, 71)
-    lines = [f"target {sides[0]} {sides[1]}", "i clearc 9 8 7 6", "i cleards 12000000 100"]
+    scene = Scene(chance.randrange(20, 71), chance.randrange(20, 71))
+    scene.immediate.clear_color((9, 8, 7, 6))
+    scene.immediate.clear_depth_stencil(12_000_000, 100)
     for part in range(20):
-        actor = chance.choice(["i", "d0"])
-        reach = chance.choice([4, 20, 90])
-        corners = []
-        for _ in range(10):
-            x, y = chance.randrange(sides[0]), chance.randrange(sides[1])
-            corners += [(x + chance.choice([0, 0.5, chance.uniform(-reach, reach)]), y + chance.choice([0, 0.5, chance.uniform(-reach, reach)]),
-                         chance.randrange(DEEPEST + 1), tuple(chance.randrange(256) for _ in range(4))) for _ in range(3)]
-        lines += random_states(chance, actor, sides)
-        lines += [f"{actor} topology 4", buffer(corners, actor), f"{actor} begin {part}", f"{actor} draw 30 0", f"{actor} end {part}"]
-        if actor == "d0":
-            number = sum(line.startswith("d0 finish") for line in lines)
-            lines += [f"d0 finish {chance.randrange(2)}", f"i exec d0 {number} {chance.randrange(2)}"]
-    return lines + [f"i query {part}" for part in range(20)]
+        context = chance.choice([scene.immediate, scene.deferred[0]])
+        vertices = random_triangles(chance, scene)
+        add_random_states(chance, scene, context.actor)
+        context.ia_set_topology(LIST)
+        context.ia_set_vertices(vertices)
+        with context.counted(part):
+            context.draw(30)
+        if context is not scene.immediate:
+            command_list = context.finish_command_list(chance.randrange(2))
+            scene.immediate.execute(command_list, chance.randrange(2))
+    for part in range(20):
+        scene.immediate.get_data(part)
+    return scene
 
 
 def asked_scene(seed):
     """A random scene, and behind it each pixel of the target."""
-    lines = random_scene(seed)
-    width, height = map(int, lines[0].split()[1:])
-    return lines + [f"i pixel {x} {y}" for y in range(height) for x in range(width)]
+    scene = random_scene(seed)
+    scene.immediate.pixels(0, 0, scene.width, scene.height)
+    return scene
 
 
 EXAMPLES = {
     "fan": fan, "shared-edges": shared_edges, "pile": pile, "slivers": slivers, "far": far, "large": large,
     "ribbon": ribbon, "mesh": mesh, "bowl": bowl, "shadow-volumes": shadow_volumes, "two-faced-count": two_faced_count,
-    "logic-operations": logic_operations, "eight-contexts": eight_contexts,
+    "logic-operations": logic_operations, "eight-contexts": eight_contexts, "lamps": lamps,
+    "large-lists": large_lists,
     **{f"width-{columns}": lambda columns=columns: width(columns) for columns in range(1, 34)},
     **{f"scene-{seed}": lambda seed=seed: random_scene(seed) for seed in range(10)},
     **{f"scene-{seed}": lambda seed=seed: asked_scene(seed) for seed in range(10, 13)},
@@ -435,14 +628,18 @@ EXAMPLES = {
 
 def main():
     parser = argparse.ArgumentParser(description=__doc__, formatter_class=argparse.RawDescriptionHelpFormatter)
-    parser.add_argument("names", metavar="NAME", nargs="*", help=f"of {', '.join(it for it in EXAMPLES if '-' not in it or not it[-1].isdigit())}, width-1 to width-33, scene-0 to scene-12; without one, all")
+    named = ", ".join(it for it in EXAMPLES if not it[-1].isdigit())
+    parser.add_argument("names", metavar="NAME", nargs="*", help=f"of {named}, width-1 to width-33, scene-0 to scene-12; without one, all")
     parser.add_argument("--folder", type=pathlib.Path, default=FOLDER, help="where the scripts are written")
     given = parser.parse_args()
     unknown = [it for it in given.names if it not in EXAMPLES]
     if unknown:
         parser.error(f"no example {' '.join(unknown)}")
     for name in given.names or EXAMPLES:
-        (given.folder / f"{name}.txt").write_text("\n".join(EXAMPLES[name]()) + "\n", encoding="ascii")
+        try:
+            EXAMPLES[name]().save(given.folder / f"{name}.txt")
+        except OSError as error:
+            parser.exit(1, f"make_examples.py: {error.filename}: {error.strerror}\n")
         print(given.folder / f"{name}.txt")
 
 

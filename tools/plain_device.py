@@ -3,34 +3,22 @@
 
     tools/plain_device.py SCRIPT OUT.tga
 
-It answers what the program answers for a script without faults: the answer lines, with the `refused` line where a call
+It answers what the program answers: the answer lines, with the `refused` line where the script has a fault or a call
 is refused, and the image, which is empty then. It shares nothing with the program: cover is told by the sign of each
 edge against the opposite vertex, depth by one exact division a pixel, state by copies of settings, an issue's count by
-adding one at each pixel where both tests pass. It is slow.
+adding one at each pixel where both tests pass. Lines are read, and refusals decided, by the package in python/. It is
+slow. `--workers N` is taken and changes nothing, so that it can stand in for the program.
 """
 
 import argparse
 import sys
-from dataclasses import dataclass, field, replace
 
-DEEPEST = 16_777_215
-FARTHEST = 268_435_456
-SIDE = 2048
-FULL = 65_536
-CUT = 65_535
-
-
-class Refused(Exception):
-    """A refusal, with its number."""
-
-    def __init__(self, number):
-        super().__init__(number)
-        self.number = number
-
-
-def refuse_if(is_refused, number):
-    if is_refused:
-        raise Refused(number)
+import package_path  # noqa: F401
+from yuzuratchet.assembly import triangles
+from yuzuratchet.errors import CallRefused, ScriptFault
+from yuzuratchet.limits import DEEPEST
+from yuzuratchet.reader import parse
+from yuzuratchet.session import Session
 
 
 # ---- the rasterizer
@@ -54,23 +42,49 @@ def is_top_or_left(a, b, c):
     return (c[0] - a[0]) * (b[1] - a[1]) > (c[1] - a[1]) * (b[0] - a[0])
 
 
-def edges_at(corners, p):
-    """The value of each edge at p and at the opposite corner, with whether the edge is top or left."""
-    for i in range(3):
-        a, b, c = corners[(i + 1) % 3], corners[(i + 2) % 3], corners[i]
-        yield side(a, b, p), side(a, b, c), is_top_or_left(a, b, c)
+class Triangle:
+    """A triangle of vertices (x, y, z, red, green, blue, alpha), the leading one first, on the snapped grid."""
+
+    def __init__(self, vertices):
+        self.corners = [(snapped(v[0]), snapped(v[1])) for v in vertices]
+        self.depths = [v[2] for v in vertices]
+        self.rgba = tuple(vertices[0][3:7])
+        self.area = side(*self.corners)
+        self.edges = []
+        for i in range(3):
+            a, b, c = self.corners[(i + 1) % 3], self.corners[(i + 2) % 3], self.corners[i]
+            self.edges.append((a, b, 1 if side(a, b, c) > 0 else -1, is_top_or_left(a, b, c)))
+
+    def is_front(self, rasterizer):
+        return (self.area > 0) != rasterizer.front_counter_clockwise
+
+    def is_culled(self, rasterizer):
+        return self.area == 0 or rasterizer.cull_mode == (2 if self.is_front(rasterizer) else 3)
+
+    def weights(self, x, y):
+        """How far the centre of a pixel lies from each edge, towards the opposite vertex; None where it isn't covered."""
+        centre, weights = (256 * x + 128, 256 * y + 128), []
+        for a, b, inner, keeps in self.edges:
+            weight = inner * side(a, b, centre)
+            if weight < 0 or (weight == 0 and not keeps):
+                return None
+            weights.append(weight)
+        return weights
+
+    def depth(self, weights):
+        return sum(w * z for w, z in zip(weights, self.depths)) // sum(weights)
+
+    def pixels(self, width, height):
+        """The columns and rows of a target that the triangle can reach."""
+        xs, ys = zip(*self.corners)
+        columns = range(max(0, min(xs) // 256 - 1), min(width, max(xs) // 256 + 2))
+        return columns, range(max(0, min(ys) // 256 - 1), min(height, max(ys) // 256 + 2))
 
 
-def covers(corners, p):
-    return all(
-        inner != 0 and ((value > 0) == (inner > 0) if value != 0 else keeps)
-        for value, inner, keeps in edges_at(corners, p)
-    )
-
-
-def depth_at(corners, depths, p):
-    weights = [abs(value) for value, _, _ in edges_at(corners, p)]
-    return sum(w * z for w, z in zip(weights, depths)) // sum(weights)
+def is_cut(state, x, y):
+    """Whether the scissor rectangle acts and leaves the pixel out."""
+    left, top, right, bottom = state.scissor
+    return state.rasterizer.scissor_enable and not (left <= x < right and top <= y < bottom)
 
 
 # ---- the output merger
@@ -95,288 +109,137 @@ def logic(operation, s, d):
     return sum(int(LOGIC[operation][2 * (s >> bit & 1) + (d >> bit & 1)]) << bit for bit in range(8))
 
 
-@dataclass
-class State:
-    """The seven kinds of state; the depth-stencil state has its reference as its last number."""
+def tested(state, front, depth, old_depth, old_stencil):
+    """Whether the stencil test passes, and whether the depth test does."""
+    tests, reference = state.depth_stencil, state.stencil_ref
+    face, read = tests.front_face if front else tests.back_face, tests.stencil_read_mask
+    stencil_passes = not tests.stencil_enable or COMPARE[face.stencil_func](reference & read, old_stencil & read)
+    return stencil_passes, not tests.depth_enable or COMPARE[tests.depth_func](depth, old_depth)
 
-    vertices: list = field(default_factory=list)
-    indices: list = field(default_factory=list)
-    topology: int = 0
-    raster: tuple = (3, 0, 0)
-    scissor: tuple = (0, 0, 0, 0)
-    depth_stencil: tuple = (1, 1, 2, 0, 255, 255, 1, 1, 1, 8, 1, 1, 1, 8, 0)
-    blend: tuple = (0, 4, 15)
+
+def new_stencil(state, front, stencil_passes, depth_passes, old):
+    tests = state.depth_stencil
+    if not tests.stencil_enable:
+        return old
+    face, write = tests.front_face if front else tests.back_face, tests.stencil_write_mask
+    operation = face.stencil_fail_op
+    if stencil_passes:
+        operation = face.stencil_pass_op if depth_passes else face.stencil_depth_fail_op
+    return STENCIL[operation](old, state.stencil_ref) & write | old & ~write & 255
+
+
+def new_color(blend, rgba, old):
+    mixed = [logic(blend.logic_op, s, d) if blend.logic_op_enable else s for s, d in zip(rgba, old)]
+    return tuple(new if blend.write_mask >> channel & 1 else kept for channel, (new, kept) in enumerate(zip(mixed, old)))
 
 
 class Target:
     """What is drawn on: a colour, a depth and a stencil value for each pixel."""
 
     def __init__(self, width, height):
-        refuse_if(not (0 < width <= SIDE and 0 < height <= SIDE), 2)
         self.width, self.height = width, height
         self.color = [(0, 0, 0, 0)] * (width * height)
         self.depth = [DEEPEST] * (width * height)
         self.stencil = [0] * (width * height)
 
-    def fold(self, items, issues):
-        """Folds items onto the pixels, and gives the count of each issue."""
-        counts = [0] * issues
-        for kind, *rest in items:
-            if kind == "clearc":
-                self.color = [rest[0]] * len(self.color)
-            elif kind == "cleards":
-                self.depth, self.stencil = [rest[0][0]] * len(self.depth), [rest[0][1]] * len(self.stencil)
-            else:
-                vertices, state, opened = rest
-                passed = self.triangle(vertices, state)
-                for issue in opened:
-                    counts[issue] += passed
-        return counts
+    def clear(self, line):
+        if line.word == "clearc":
+            self.color = [line.arguments] * len(self.color)
+        else:
+            self.depth, self.stencil = ([value] * len(self.color) for value in line.arguments)
 
-    def triangle(self, vertices, state):
+    def draw(self, triangle, state):
         """Draws a triangle, and gives how many pixels passed both tests."""
-        corners = [(snapped(v[0]), snapped(v[1])) for v in vertices]
-        area = side(*corners)
-        cull, counter_clockwise, cuts = state.raster
-        front = (area > 0) != bool(counter_clockwise)
-        if area == 0 or (cull == 2 and front) or (cull == 3 and not front):
+        if triangle.is_culled(state.rasterizer):
             return 0
-        depths, rgba = [v[2] for v in vertices], tuple(vertices[0][3:7])
-        left = max(0, min(x for x, _ in corners) // 256 - 1)
-        right = min(self.width, max(x for x, _ in corners) // 256 + 2)
-        top = max(0, min(y for _, y in corners) // 256 - 1)
-        bottom = min(self.height, max(y for _, y in corners) // 256 + 2)
-        passed = 0
-        for y in range(top, bottom):
-            for x in range(left, right):
-                if cuts and not (state.scissor[0] <= x < state.scissor[2] and state.scissor[1] <= y < state.scissor[3]):
-                    continue
-                centre = (256 * x + 128, 256 * y + 128)
-                if covers(corners, centre):
-                    passed += self.pixel(y * self.width + x, depth_at(corners, depths, centre), rgba, front, state)
+        passed, front = 0, triangle.is_front(state.rasterizer)
+        columns, rows = triangle.pixels(self.width, self.height)
+        for y in rows:
+            for x in columns:
+                weights = None if is_cut(state, x, y) else triangle.weights(x, y)
+                if weights is not None:
+                    passed += self.merge(y * self.width + x, triangle.depth(weights), triangle.rgba, front, state)
         return passed
 
-    def pixel(self, at, depth, rgba, front, state):
+    def merge(self, at, depth, rgba, front, state):
         """Tests and writes one pixel, and tells whether both tests passed."""
-        depth_on, depth_write, depth_func, stencil_on, read, write = state.depth_stencil[:6]
-        fail, depth_fail, both_pass, func = state.depth_stencil[6:10] if front else state.depth_stencil[10:14]
-        reference, old = state.depth_stencil[14], self.stencil[at]
-        stencil_passes = not stencil_on or COMPARE[func](reference & read, old & read)
-        depth_passes = not depth_on or COMPARE[depth_func](depth, self.depth[at])
-        passes = stencil_passes and depth_passes
-        if stencil_on:
-            operation = fail if not stencil_passes else both_pass if depth_passes else depth_fail
-            self.stencil[at] = STENCIL[operation](old, reference) & write | old & ~write & 255
-        if passes:
-            if depth_on and depth_write:
-                self.depth[at] = depth
-            enabled, operation, mask = state.blend
-            mixed = [logic(operation, s, d) if enabled else s for s, d in zip(rgba, self.color[at])]
-            self.color[at] = tuple(new if mask >> channel & 1 else old for channel, (new, old) in enumerate(zip(mixed, self.color[at])))
-        return passes
+        stencil_passes, depth_passes = tested(state, front, depth, self.depth[at], self.stencil[at])
+        self.stencil[at] = new_stencil(state, front, stencil_passes, depth_passes, self.stencil[at])
+        if not (stencil_passes and depth_passes):
+            return False
+        if state.depth_stencil.depth_enable and state.depth_stencil.depth_write:
+            self.depth[at] = depth
+        self.color[at] = new_color(state.blend, rgba, self.color[at])
+        return True
 
-    def answer(self, x, y):
+    def pixel(self, x, y):
         at = y * self.width + x
-        return " ".join(map(str, ["pixel", x, y, *self.color[at], self.depth[at], self.stencil[at]]))
+        return self.color[at], self.depth[at], self.stencil[at]
 
     def image(self):
         header = bytes([0, 0, 2, *[0] * 9]) + self.width.to_bytes(2, "little") + self.height.to_bytes(2, "little")
         return header + bytes([32, 0x28]) + b"".join(bytes((b, g, r, a)) for r, g, b, a in self.color)
 
 
-# ---- recording
-
-
-def triples(places, topology, cuts):
-    """The triangles of the places of a draw, leading vertex first."""
-    if topology == 4:
-        return [places[i : i + 3] for i in range(0, len(places) - 2, 3)]
-    runs, run = [], []
-    for place in places:
-        if cuts and place == CUT:
-            runs.append(run)
-            run = []
-        else:
-            run.append(place)
-    found = []
-    for run in [*runs, run]:
-        for i in range(len(run) - 2):
-            found.append([run[i], run[i + 1], run[i + 2]] if i % 2 == 0 else [run[i], run[i + 2], run[i + 1]])
-    return found
-
-
-class Recorder:
-    """The state of one context, and the items and issues of its list."""
-
-    def __init__(self):
-        self.begin_with(State(), 0)
-
-    def begin_with(self, state, commands):
-        self.state, self.commands = state, commands
-        self.items, self.triangles, self.issues, self.opened = [], 0, [], {}
-
-    def begin_anew(self, restore):
-        """As behind a finish: the kept state is one command."""
-        self.begin_with(self.state if restore else State(), 1 if restore else 0)
-
-    def add(self, triangles=0):
-        refuse_if(self.commands + 1 > FULL or self.triangles + triangles > FULL, 13)
-        self.commands, self.triangles = self.commands + 1, self.triangles + triangles
-
-    def set(self, **kinds):
-        self.add()
-        self.state = replace(self.state, **kinds)
-
-    def take(self, word, numbers):
-        getattr(self, f"take_{word}")(numbers)
-
-    def take_vb(self, numbers):
-        vertices = [numbers[i : i + 7] for i in range(0, len(numbers), 7)]
-        refuse_if(len(vertices) > FULL, 4)
-        refuse_if(any(abs(v[0]) > FARTHEST or abs(v[1]) > FARTHEST or v[2] > DEEPEST for v in vertices), 3)
-        self.set(vertices=vertices)
-
-    def take_ib(self, numbers):
-        refuse_if(len(numbers) > FULL, 4)
-        self.set(indices=numbers)
-
-    def take_topology(self, numbers):
-        self.set(topology=numbers[0])
-
-    def take_raster(self, numbers):
-        self.set(raster=tuple(numbers))
-
-    def take_scissor(self, numbers):
-        left, top, right, bottom = numbers
-        refuse_if(left > right or top > bottom or right > SIDE or bottom > SIDE, 8)
-        self.set(scissor=tuple(numbers))
-
-    def take_ds(self, numbers):
-        self.set(depth_stencil=tuple(numbers))
-
-    def take_blend(self, numbers):
-        self.set(blend=tuple(numbers))
-
-    def take_clearc(self, numbers):
-        self.add()
-        self.items.append(("clearc", tuple(numbers)))
-
-    def take_cleards(self, numbers):
-        refuse_if(numbers[0] > DEEPEST, 3)
-        self.add()
-        self.items.append(("cleards", tuple(numbers)))
-
-    def take_draw(self, numbers):
-        count, start = numbers
-        refuse_if(self.state.topology == 0, 7)
-        refuse_if(start + count > len(self.state.vertices), 5)
-        self.draw(triples(list(range(start, start + count)), self.state.topology, False), 0)
-
-    def take_drawi(self, numbers):
-        count, start, base = numbers
-        refuse_if(self.state.topology == 0, 7)
-        refuse_if(start + count > len(self.state.indices), 5)
-        places, strip = self.state.indices[start : start + count], self.state.topology == 5
-        refuse_if(any(not 0 <= at + base < len(self.state.vertices) for at in places if not (strip and at == CUT)), 6)
-        self.draw(triples(places, self.state.topology, True), base)
-
-    def draw(self, found, base):
-        self.add(len(found))
-        opened = list(self.opened.values())
-        for triple in found:
-            self.items.append(("triangle", [self.state.vertices[at + base] for at in triple], self.state, opened))
-
-    def take_begin(self, numbers):
-        query = numbers[0]
-        refuse_if(query > 63, 11)
-        refuse_if(query in self.opened, 9)
-        refuse_if(len(self.issues) >= 64, 14)
-        self.add()
-        self.opened[query] = len(self.issues)
-        self.issues.append(query)
-
-    def take_end(self, numbers):
-        query = numbers[0]
-        refuse_if(query > 63, 11)
-        refuse_if(query not in self.opened, 10)
-        self.add()
-        del self.opened[query]
-
-    def finish(self, restore):
-        refuse_if(bool(self.opened), 12)
-        done = (self.items, self.issues)
-        self.begin_anew(restore)
-        return done
-
-
 # ---- a session
 
 
-class Session:
-    """The contexts, the target, and the count of the last issue of each query that ran."""
+def triangles_of(item):
+    """The triangles of a draw."""
+    places = triangles(item.places, item.state.topology, item.line.word == "drawi")
+    return [Triangle([item.state.vertices[place + item.base] for place in triple]) for triple in places]
+
+
+class PlainSession(Session):
+    """The target, the count of the last issue of each query that ran, and the answer lines."""
 
     def __init__(self, width, height):
+        super().__init__(width, height)
         self.target, self.counts, self.answers = Target(width, height), {}, []
-        self.contexts = {name: Recorder() for name in ["i", *(f"d{n}" for n in range(8))]}
-        self.lists = {name: [] for name in self.contexts}
-        self.immediate = self.contexts["i"]
 
-    def run_items(self, items, issues):
-        for query, count in zip(issues, self.target.fold(items, len(issues))):
-            self.counts[query] = count
+    def is_withheld(self, item, counts):
+        """Whether the item's predicate withholds it, by the counts of the lists that ran before."""
+        predicate = item.state.predicate
+        return predicate is not None and (counts.get(predicate[0], 0) > 0) == predicate[1]
 
-    def run(self, restore=True):
-        refuse_if(bool(self.immediate.opened), 9)
-        self.run_items(self.immediate.items, self.immediate.issues)
-        self.immediate.begin_anew(restore)
+    def perform(self, number, commands, is_list):
+        before, counts = dict(self.counts), [0] * len(commands.issues)
+        for item in commands.items:
+            passed = 0 if self.is_withheld(item, before) else self.perform_item(item)
+            for issue in item.issues:
+                counts[issue] += passed
+        self.counts.update(zip(commands.issues, counts))
 
-    def query(self, query):
-        refuse_if(query > 63, 11)
-        refuse_if(bool(self.immediate.opened), 9)
-        refuse_if(query not in self.counts and query not in self.immediate.issues, 17)
-        self.run()
-        self.answers.append(f"query {query} {self.counts[query]}")
+    def perform_item(self, item):
+        """Draws or clears, and gives how many pixels passed both tests."""
+        if item.line.word.startswith("clear"):
+            self.target.clear(item.line)
+            return 0
+        return sum(self.target.draw(triangle, item.state) for triangle in triangles_of(item))
 
-    def pixel(self, x, y):
-        refuse_if(x >= self.target.width or y >= self.target.height, 15)
-        self.run()
-        self.answers.append(self.target.answer(x, y))
-
-    def execute(self, actor, number, restore):
-        self.run(restore=bool(restore))
-        self.run_items(*self.lists[actor][number])
-
-    def take(self, actor, word, arguments):
-        if word == "exec":
-            self.execute(arguments[0], int(arguments[1]), int(arguments[2]))
-            return
-        numbers = list(map(int, arguments))
-        if word == "finish":
-            self.lists[actor].append(self.contexts[actor].finish(numbers[0]))
-        elif word == "flush":
-            self.run()
-        elif word in ("query", "pixel"):
-            getattr(self, word)(*numbers)
+    def answer(self, number, line):
+        if line.word == "query":
+            values = [*line.arguments, self.counts[line.arguments[0]]]
         else:
-            self.contexts[actor].take(word, numbers)
+            color, depth, stencil = self.target.pixel(*line.arguments)
+            values = [*line.arguments, *color, depth, stencil]
+        self.answers.append(" ".join(map(str, [line.word, *values])))
 
 
 def evaluate(text):
     """The answer lines and the image of a script; the image is empty where a line is refused."""
-    lines = [line.split(" ") for line in text.split("\n")[:-1]]
-    number, answers = 1, []
+    answers, image = [], b""
     try:
-        session = Session(int(lines[0][1]), int(lines[0][2]))
+        width, height, lines = parse(text)
+    except ScriptFault as fault:
+        return f"refused {fault.line} {fault.number}\n", image
+    try:
+        session = PlainSession(width, height)
         answers = session.answers
-        for actor, word, *arguments in lines[1:]:
-            number += 1
-            session.take(actor, word, arguments)
-        number += 1
-        session.run()
+        session.take_all(lines)
         image = session.target.image()
-    except Refused as refusal:
-        answers.append(f"refused {number} {refusal.number}")
-        image = b""
+    except CallRefused as refusal:
+        answers.append(f"refused {refusal.line or 1} {refusal.number}")
     return "".join(f"{it}\n" for it in answers), image
 
 
@@ -384,13 +247,17 @@ def main():
     parser = argparse.ArgumentParser(description=__doc__, formatter_class=argparse.RawDescriptionHelpFormatter)
     parser.add_argument("script", metavar="SCRIPT")
     parser.add_argument("image", metavar="OUT.tga")
+    parser.add_argument("--workers", metavar="N", type=int, help="changes nothing")
     given = parser.parse_args()
-    with open(given.script, encoding="ascii") as script:
-        answers, image = evaluate(script.read())
-    with open(given.image, "wb") as out:
-        out.write(image)
+    try:
+        with open(given.script, "rb") as script, open(given.image, "wb") as out:
+            answers, image = evaluate(script.read())
+            out.write(image)
+    except OSError as error:
+        parser.exit(3, f"plain_device.py: {error.filename}: {error.strerror}\n")
     sys.stdout.write(answers)
+    return 1 if "refused" in answers else 0
 
 
 if __name__ == "__main__":
-    main()
+    sys.exit(main())

@@ -1,0 +1,195 @@
+"""Random scenes, on which the program, tools/plain_device.py and the package are held against each other.
+
+Targets are up to 70 by 70. Corners lie on centres, on edges of pixels, at ties of 1/512 pixel, anywhere near the target,
+and as far outside as corners may lie. Every second scene is made with lists, strips, indices, cull modes, scissors, both
+faces of the stencil, logic operations under masks, queries, predicates and restore flags, and some of its lines are refused.
+"""
+
+import package_path  # noqa: F401
+from yuzuratchet import Scene
+from yuzuratchet.limits import DEEPEST, FARTHEST, STRIP_CUT, SUBPIXELS
+
+QUERIES = range(4)
+
+
+def place(chance, side):
+    kind = chance.randrange(10)
+    if kind < 3:
+        return SUBPIXELS * chance.randrange(-1, side + 2) + SUBPIXELS // 2
+    if kind < 5:
+        return SUBPIXELS * chance.randrange(-1, side + 2)
+    if kind < 7:
+        return 256 * chance.randrange(-256, 256 * (side + 1)) + 128
+    if kind < 9:
+        return chance.randrange(-SUBPIXELS * 20, SUBPIXELS * (side + 20))
+    return chance.choice([-FARTHEST, FARTHEST, chance.randrange(-FARTHEST, FARTHEST + 1)])
+
+
+def vertices(chance, scene, count):
+    """The numbers of a `vb` line of so many vertices."""
+    numbers = []
+    for _ in range(count):
+        depth = chance.choice([0, DEEPEST, chance.randrange(DEEPEST + 1), chance.randrange(100)])
+        numbers += [place(chance, scene.width), place(chance, scene.height), depth]
+        numbers += [chance.randrange(256) for _ in range(4)]
+    return numbers
+
+
+def add_triangles(chance, scene):
+    """A hundred triangles under one state."""
+    scene.add("i", "raster", chance.choice([1, 3]), 0, 0)
+    scene.add("i", "vb", *vertices(chance, scene, 300))
+    scene.add("i", "topology", 4)
+    scene.add("i", "draw", 300, 0)
+
+
+def depth_stencil(chance):
+    """The fifteen numbers of `ds`: often with the stencil, seldom with the depth test off."""
+    masks = [chance.choice([255, 15, chance.randrange(256)]) for _ in range(2)]
+    faces = [chance.randrange(1, 9) for _ in range(8)]
+    tests = [int(chance.randrange(4) != 0), chance.randrange(2), chance.randrange(1, 9), chance.randrange(2)]
+    return [*tests, *masks, *faces, chance.randrange(256)]
+
+
+def add_setting(chance, scene, actor):
+    """A line that sets some state; few of them are refused."""
+    left, right = sorted(chance.randrange(scene.width + 1) for _ in range(2))
+    top, bottom = sorted(chance.randrange(scene.height + 1) for _ in range(2))
+    kind = chance.randrange(4)
+    if kind == 0:
+        scene.add(actor, "raster", chance.randrange(1, 4), chance.randrange(2), chance.randrange(2))
+    elif kind == 1:
+        if chance.randrange(60) == 0:
+            left, right = right, left
+        scene.add(actor, "scissor", left, top, right, bottom)
+    elif kind == 2:
+        scene.add(actor, "ds", *depth_stencil(chance))
+    else:
+        mask = chance.choice([15, 15, chance.randrange(16)])
+        scene.add(actor, "blend", chance.randrange(2), chance.randrange(16), mask)
+
+
+def add_drawing(chance, scene, actor):
+    """Lines that draw, mostly, or clear."""
+    count, topology, kind = chance.randrange(3, 12), chance.choice([4, 5]), chance.randrange(7)
+    scene.add(actor, "vb", *vertices(chance, scene, count))
+    scene.add(actor, "topology", topology)
+    if kind < 3:
+        scene.add(actor, "draw", count, 0)
+    elif kind < 5:
+        numbers = [chance.randrange(count) for _ in range(chance.randrange(3, 20))]
+        if topology == 5:
+            numbers = [STRIP_CUT if chance.randrange(6) == 0 else it for it in numbers]
+        scene.add(actor, "ib", *numbers)
+        scene.add(actor, "drawi", len(numbers), 0, 0)
+    elif kind == 5:
+        scene.add(actor, "cleards", chance.randrange(DEEPEST + 1), chance.randrange(256))
+    else:
+        scene.add(actor, "clearc", *(chance.randrange(256) for _ in range(4)))
+
+
+class Queries:
+    """The queries that a list has begun and has open, those of its predicates, and the predicate in force."""
+
+    def __init__(self):
+        self.begun, self.opened, self.named, self.force = set(), [], set(), None
+
+    def begin_anew(self, restore):
+        self.begun, self.force = set(), self.force if restore else None
+        self.named = set() if self.force is None else {self.force}
+
+
+class StatesScene:
+    """A scene of lists, states, queries, predicates and executions, in the making."""
+
+    def __init__(self, chance, scene):
+        self.chance, self.scene, self.ended = chance, scene, []
+        self.lists = {actor: Queries() for actor in ("i", "d0", "d1", "d7")}
+        self.finished = []
+
+    def close(self, actor):
+        """Ends the queries of a list before something runs, save now and then."""
+        if self.chance.randrange(80):
+            for query in self.lists[actor].opened:
+                self.end(actor, query)
+            self.lists[actor].opened = []
+
+    def end(self, actor, query):
+        self.scene.add(actor, "end", query)
+        if actor == "i":
+            self.ended.append(query)
+
+    def add_begin(self, actor):
+        queries, query = self.lists[actor], self.chance.choice(QUERIES)
+        if query not in queries.opened and query not in queries.named:
+            self.scene.add(actor, "begin", query)
+            queries.opened.append(query)
+            queries.begun.add(query)
+
+    def add_predicate(self, actor):
+        """A predicate by a query that the list has not begun, or none."""
+        queries = self.lists[actor]
+        free = [query for query in QUERIES if query not in queries.begun]
+        if not free or self.chance.randrange(4) == 0:
+            queries.force = None
+            self.scene.add(actor, "predicate")
+            return
+        queries.force = self.chance.choice(free)
+        queries.named.add(queries.force)
+        self.scene.add(actor, "predicate", queries.force, self.chance.randrange(2))
+
+    def add_finish(self, actor):
+        self.close(actor)
+        restore = self.chance.randrange(2)
+        self.finished.append((int(actor[1:]), self.scene.finished[actor]))
+        self.scene.add(actor, "finish", restore)
+        self.lists[actor].begin_anew(restore)
+
+    def add_run(self, kind):
+        """An execution, a flush or a question."""
+        restore = 1
+        if self.finished and kind < 2:
+            restore = self.chance.randrange(2)
+            self.scene.add("i", "exec", *self.chance.choice(self.finished), restore)
+        elif kind == 2:
+            self.scene.add("i", "flush")
+        elif kind == 3 and self.ended:
+            self.scene.add("i", "query", self.chance.choice(self.ended))
+        else:
+            return
+        self.lists["i"].begin_anew(restore)
+
+    def add_round(self):
+        chance, actor = self.chance, self.chance.choice(["i", "i", "d0", "d1", "d7"])
+        queries = self.lists[actor]
+        add_setting(chance, self.scene, actor)
+        if chance.randrange(3) == 0:
+            self.add_begin(actor)
+        if chance.randrange(4) == 0:
+            self.add_predicate(actor)
+        add_drawing(chance, self.scene, actor)
+        if queries.opened and chance.randrange(2):
+            self.end(actor, queries.opened.pop(chance.randrange(len(queries.opened))))
+        if actor != "i" and chance.randrange(2):
+            self.add_finish(actor)
+        kind = chance.randrange(8)
+        if kind < 4:
+            self.close("i")
+            self.add_run(kind)
+
+    def fill(self):
+        for _ in range(40):
+            self.add_round()
+        self.close("i")
+
+
+def random_scene(chance, number, asked=20):
+    """A scene of triangles where the number is even, of states where it is odd, with so many questions for pixels."""
+    scene = Scene(chance.randrange(1, 71), chance.randrange(1, 71), strict=False)
+    if number % 2:
+        StatesScene(chance, scene).fill()
+    else:
+        add_triangles(chance, scene)
+    for _ in range(asked):
+        scene.immediate.pixel(chance.randrange(scene.width), chance.randrange(scene.height))
+    return scene
