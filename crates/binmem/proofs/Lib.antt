@@ -1,2 +1,11 @@
+pub mod Quiet
+pub mod Halves
+pub mod Slots
+pub mod Memories
+pub mod Following
+pub mod Moves
+pub mod Steps
+pub mod Growing
+pub mod Coded
 pub mod ListLemmas
 pub mod Emptying

@@ -1,18 +1,8 @@
--- Lemmas on a Vec of Vecs, seen as a list of lists.
-use Rattle.std.proofs.Common.{◌≡◌, ℕ, ◌+◌, ◌<◌, ◌≤◌, List, [], ◌∷◌, ◌++◌, map, set, length, get_or, drop, replicate, zero, suc, refl, ap, sym, ◌∙◌, arith, vec_items, Vec}
-use Rattle.std.specs.Prelude.{sum, Bool, true, false, if◌then◌else◌}
+-- Lemmas on lists of lists.
+use Rattle.std.proofs.Common.{◌≡◌, ℕ, ◌+◌, ◌<◌, ◌≤◌, List, [], ◌∷◌, ◌++◌, map, set, length, get_or, drop, replicate, zero, suc, refl, ap, sym, ◌∙◌, arith}
+use Rattle.std.specs.Prelude.{sum, sum_by, Bool, true, false, if◌then◌else◌}
 use Rattle.std.proofs.lemmas.List.Sums.{sum-map, sum_by-set}
-use Rattle.std.proofs.lemmas.List.{map-set, get_or-map, length-map, length-append, length-set}
-
--- one Vec is replaced by one with other items
-pub map-set_items : {Z : Type 0} (xs : List (Vec ℕ Z)) (i : ℕ) (w : Vec ℕ Z) (ys : List ℕ) (all : List (List ℕ))
-    → vec_items w ≡ ys → map vec_items xs ≡ all → map vec_items (set xs i w) ≡ set all i ys
-map-set_items xs i w ys all same view = rw (map-set vec_items xs i w, view, same) refl
-
--- the items of one Vec
-pub get_or-map_items : {Z : Type 0} (xs : List (Vec ℕ Z)) (i : ℕ) (w : Vec ℕ Z) (all : List (List ℕ))
-    → i < length xs → map vec_items xs ≡ all → w ≡ get_or xs i w → vec_items w ≡ get_or all i []
-get_or-map_items xs i w all inside view is = rw (← view, get_or-map vec_items xs i w [] inside) (ap vec_items is)
+use Rattle.std.proofs.lemmas.List.{length-append, length-set}
 
 -- one turn of a loop that empties the lists from the front
 pub empty_more : {A : Type 0} (xs : List A) (i : ℕ) (e : A) → i < length xs
@@ -20,15 +10,6 @@ pub empty_more : {A : Type 0} (xs : List A) (i : ℕ) (e : A) → i < length xs
 empty_more [] i e inside = absurd (omega (arith, inside))
 empty_more (x ∷ xs) zero e inside = refl
 empty_more (x ∷ xs) (suc i) e inside = let more = empty_more xs i e (omega (arith, inside)) in grind (arith, more)
-
--- what stands at an index, put there again
-pub set_same : {A : Type 0} (xs : List A) (i : ℕ) (d : A) → set xs i (get_or xs i d) ≡ xs
-set_same [] i d = refl
-set_same (x ∷ xs) zero d = refl
-set_same (x ∷ xs) (suc i) d = ap (λ (r : List _). x ∷ r) (set_same xs i d)
-
-pub same_length : {Z : Type 0} (xs : List (Vec ℕ Z)) (all : List (List ℕ)) → map vec_items xs ≡ all → length xs ≡ length all
-same_length xs all view = sym (length-map xs vec_items) ∙ ap (λ (r : List (List ℕ)). length r) view
 
 -- ---- lists that are emptied tile by tile
 
@@ -56,3 +37,22 @@ count-push xs i w h =
 pub pushed : (xs ys : List (List ℕ)) (i w : ℕ) (b : Bool) → i < length xs → ys ≡ (if b then set xs i (get_or xs i [] ++ w ∷ []) else xs) → (length ys ≡ length xs) × (sum (map length ys) ≤ sum (map length xs) + 1)
 pushed xs ys i w true h e = (ap length e ∙ length-set xs i _, let k = ap (λ (l : List (List ℕ)). sum (map length l)) e ∙ count-push xs i w h in omega (arith, k))
 pushed xs ys i w false h e = (ap length e, let k = ap (λ (l : List (List ℕ)). sum (map length l)) e in omega (arith, k))
+
+-- empty lists have no words
+no_counts : (n : ℕ) → sum_by length (replicate {A = List ℕ} n []) ≡ 0
+no_counts zero = refl
+no_counts (suc n) = no_counts n
+
+pub count_none : (n : ℕ) → sum (map length (replicate {A = List ℕ} n [])) ≡ 0
+count_none n = sum-map length (replicate {A = List ℕ} n []) ∙ no_counts n
+
+-- an emptied list leaves no more words
+pub cut_fewer : (xs ys : List (List ℕ)) (i : ℕ) → i < length xs → ys ≡ set xs i [] → sum (map length ys) ≤ sum (map length xs)
+cut_fewer xs ys i inside e =
+    let now = ap (λ (l : List (List ℕ)). sum (map length l)) e ∙ sum-map length (set xs i []) in
+    let was = sum-map length xs in
+    let rest = sum_by-set length xs i [] [] inside in
+    fewer _ _ _ _ _ now was rest
+  where
+    fewer : (a b c d n : ℕ) → a ≡ b → c ≡ d → b + n ≡ d + 0 → a ≤ c
+    fewer a b c d n p q r = omega arith

@@ -1,7 +1,7 @@
-//! The worked lists of two tiles, and a second filling.
+//! Worked lists of two tiles, lists at the ends of chunks, all tiles in rounds, and growths that are refused.
 
 ghost use Rattle.std.specs.Prelude.{◌≡◌, ◌<◌, ◌≤◌, ◌+◌, ◌-◌, length, IfOk, OnOk};
-ghost use Rattle.binmem.specs.Lists.{word_count};
+ghost use Rattle.binmem.specs.Lists.{word_count, no_words};
 
 use crate::{Bins, SealedBins};
 use gfxspec::GfxError;
@@ -100,5 +100,133 @@ fn a_second_filling_takes_no_memory(rt: HostRuntime) -> Result<(), Fail> {
     assert!(rt; has_row(&sealed, 0, 1, 64));
     assert!(rt; has_row(&sealed, 1, 9, 10));
     assert!(rt; alloc.count() == growths);
+    Ok(())
+}
+
+/// A list of `count` words in one tile, all of them read again.
+fn one_list<A: Allocator + Copy>(alloc: A, count: u32) -> Result<bool, GfxError>
+    requires { count < 1000 }
+{
+    let mut bins = Bins::new(alloc, 1)?;
+    push_row(&mut bins, 0, 1, count + 1)?;
+    Ok(has_row(&bins.seal(), 0, 1, count + 1))
+}
+
+// A chunk has room for 62 words.
+#[test]
+fn words_across_chunks(rt: HostRuntime) -> Result<(), Fail> {
+    for count in [61, 62, 63, 124, 125] {
+        assert!(rt; one_list(rt.alloc(), count)?);
+    }
+    Ok(())
+}
+
+const TILES: u32 = 4096;
+
+const ROUNDS: u32 = 63;
+
+/// Pushes one word to each tile.
+fn push_round<A: Allocator + Copy>(bins: &mut Bins<A>, word: u32) -> Result<(), GfxError>
+    requires tiles { length bins.old ≡ 4096 }
+    requires room { word_count bins.old + 4096 < 4000000000 }
+    ensures tiles { length bins.new ≡ 4096 }
+    ensures words { OnOk result (word_count bins.new ≤ word_count bins.old + 4096) }
+{
+    for tile in 0..TILES {
+        if bins.push(tile, word).is_err() {
+            return Err(GfxError::OutOfMemory);
+        }
+    }
+    Ok(())
+}
+
+/// Pushes a word to each tile, tile after tile, and then the next.
+fn push_rounds<A: Allocator + Copy>(bins: &mut Bins<A>) -> Result<(), GfxError>
+    requires { bins.old ≡ no_words 4096 }
+    ensures { length bins.new ≡ 4096 }
+{
+    for word in 0..ROUNDS {
+        push_round(bins, word)?;
+    }
+    Ok(())
+}
+
+/// Whether each tile has the words of all rounds.
+fn has_rounds<A: Allocator + Copy>(bins: &SealedBins<A>) -> bool
+    requires { length bins.now ≡ 4096 }
+{
+    for tile in 0..TILES {
+        if !has_row(bins, tile, 0, ROUNDS) {
+            return false;
+        }
+    }
+    true
+}
+
+#[test]
+fn rounds_of_all_tiles(rt: HostRuntime) -> Result<(), Fail> {
+    let alloc = Refusing::new(rt.alloc(), 0);
+    let mut bins = Bins::new(&alloc, TILES)?;
+    push_rounds(&mut bins)?;
+    let sealed = bins.seal();
+    assert!(rt; has_rounds(&sealed));
+    let growths = alloc.count();
+    let mut again = sealed.reuse();
+    push_rounds(&mut again)?;
+    let sealed_again = again.seal();
+    assert!(rt; has_rounds(&sealed_again));
+    assert!(rt; alloc.count() == growths);
+    Ok(())
+}
+
+/// As many words for tile 1 as tile 0 had before it was emptied.
+fn one_after_another<A: Allocator + Copy>(alloc: A, count: u32) -> Result<bool, GfxError>
+    requires { count < 20000 }
+{
+    let mut bins = Bins::new(alloc, 2)?;
+    push_row(&mut bins, 0, 0, count)?;
+    bins.cut(0);
+    push_row(&mut bins, 1, 0, count)?;
+    let sealed = bins.seal();
+    Ok(has_row(&sealed, 0, 0, 0) && has_row(&sealed, 1, 0, count))
+}
+
+// Of two tiles, of which the second takes the chunks that the first gave back: as many growths as one tile takes.
+#[test]
+fn an_emptied_list_gives_room(rt: HostRuntime) -> Result<(), Fail> {
+    for count in [124, 15872] {
+        let one = Refusing::new(rt.alloc(), 0);
+        let mut bins = Bins::new(&one, 2)?;
+        push_row(&mut bins, 0, 0, count)?;
+        let growths = one.count();
+        let both = Refusing::new(rt.alloc(), growths.saturating_add(1));
+        assert!(rt; one_after_another(&both, count)?);
+        assert!(rt; !both.refused());
+    }
+    Ok(())
+}
+
+/// A list of 16,000 words, of which the first writing may be refused, and not the second.
+fn long_list<A: Allocator + Copy>(alloc: A) -> Result<bool, GfxError> {
+    let mut bins = match Bins::new(alloc, 1) {
+        Ok(bins) => bins,
+        Err(_) => Bins::new(alloc, 1)?,
+    };
+    let _refused = push_row(&mut bins, 0, 0, 16_000).is_err();
+    let mut again = bins.seal().reuse();
+    push_row(&mut again, 0, 0, 16_000)?;
+    Ok(has_row(&again.seal(), 0, 0, 16_000))
+}
+
+// Two slabs are wanted: 15,872 words fill one.
+#[test]
+fn each_growth_refused(rt: HostRuntime) -> Result<(), Fail> {
+    let ample = Refusing::new(rt.alloc(), 0);
+    assert!(rt; long_list(&ample)?);
+    let growths = ample.count();
+    assert!(rt; 3 <= growths);
+    for n in 1..growths.saturating_add(1) {
+        assert!(rt; long_list(&Refusing::new(rt.alloc(), n))?);
+    }
     Ok(())
 }

@@ -1,4 +1,4 @@
-use Rattle.std.proofs.Common.{◌≡◌, ◌∙◌, sym, subst, refl, rules, Some, arith}
+use Rattle.std.proofs.Common.{◌≡◌, ◌∙◌, sym, subst, refl, rules, Some}
 use Rattle.tileword.specs.Word.{decoded}
 use Rattle.binmem.specs.Lists.{words_of}
 use Rattle.binner.specs.Meaning.{ProgramFits}
@@ -8,7 +8,6 @@ use Rattle.tileprog.proofs.Targets.{tile_is}
 use Rattle.tileprog.proofs.words.run_words.Goals.{then-passed-ne0, else-passed-ne0}
 use Rattle.tileprog.proofs.Targets.{tile_is}
 use Rattle.tileprog.proofs.words.run_words.Goals as goal
-use Rattle.std.proofs.lemmas.Grind.{common_steps}
 
 pub loop-number-init : goal.loop-number-init
 loop-number-init g c =
@@ -82,7 +81,10 @@ pub unreachable-unreachable : goal.unreachable-unreachable
 unreachable-unreachable g c = search rules
 
 pub run_word-passed-requires-clause-tile : goal.run_word-passed-requires-clause-tile
-run_word-passed-requires-clause-tile g c = grind (arith, common_steps)
+run_word-passed-requires-clause-tile g c =
+    let m = c.args.compiled.now in
+    let opening = c.args.block.now in
+    subst IsTile (sym c.loop-number.invariant.rect) (tile_is m.size c.args.tile opening.rect c.size-size.ensures.sound.size c.requires.tile c.requires.rect)
 
 pub run_word-passed-requires-clause-fits : goal.run_word-passed-requires-clause-fits
 run_word-passed-requires-clause-fits g c = search rules
