@@ -32,7 +32,7 @@ pub record HasExecuted (restore : Bool) (old new : Held) (before after : Lists) 
   pub number : name.1 ≡ submission.number
   pub ran : Ran submission.list restore old new
 
--- nothing ran, and the queue was empty at a moment of the call
+-- nothing ran, and an empty queue fits what was taken
 pub record WasEmpty (old new : Held) (before after : Lists) : Type 0 where
   pub idle : IsIdle old new before after
   pub empty : HeldAtOnce 0 (Moment (drain_view before.taken 4 []))

@@ -95,8 +95,8 @@ impl<L: Drop, A: Allocator> Ports<L, A> {
     ghost use Rattle.port.specs.History.{of_port, submission, port_history, drain_history, AreAll, lengths_of, AllTaken, SomeLeft};
     ghost use Rattle.port.specs.Rule.{port_view, drain_view, Moment};
 
-    /// Hands a list over. It comes back with refusal 19 where the queue held 64 at one moment of the call, or where the
-    /// pass has sent 2^32 lists.
+    /// Hands a list over. It comes back with refusal 19 where the pass has sent 2^32 lists, or where the queue is full; that it
+    /// held 64 at a moment of the call is tested, and the contract says that such a queue fits what the pass sent.
     pub fn submit<R: Wait>(
         &self,
         rt: &R,
@@ -126,8 +126,8 @@ impl<L: Drop, A: Allocator> Ports<L, A> {
         }
     }
 
-    /// Takes the oldest submission out: the next of its port. `None` comes only where the queue was empty at one moment of
-    /// the call.
+    /// Takes the oldest submission out: the next of its port. `None` comes where the queue is empty; that it was so at a
+    /// moment of the call is tested, and the contract says that an empty queue fits what the pass took.
     pub fn next<R: Wait>(&self, rt: &R, pass: &mut DrainPass<L>) -> Option<Submission<L>>
         requires { pass.old.queue ≡ self.now.queue }
         ensures { MatchOption result

@@ -88,7 +88,7 @@ impl<'a, A: Allocator, R: Threads + Wait> Model for Received<'a, A, R> {
 }
 
 impl<'a, A: Allocator, R: Threads + Wait> Received<'a, A, R> {
-    /// Takes a list out and puts it onto its desk. False only where the queue was empty at one moment of the call.
+    /// Takes a list out and puts it onto its desk. False where the queue is empty.
     fn take_one(&mut self) -> Result<bool, AllocError>
         ensures frame { receipt_frame self.new ≡ receipt_frame self.old }
         ensures more { (rest : List (Submission (List Command))) × (self.new.taken ≡ self.old.taken ++ rest) }
