@@ -8,6 +8,9 @@ ghost use Rattle.std.specs.Prelude.{◌≡◌, ◌<◌, ◌≤◌, ◌^◌, IfOk
 ghost use Rattle.std.specs.Process.{exit_status};
 ghost use Rattle.commandline.specs.Report.{reported};
 
+mod descriptors;
+
+use crate::descriptors::hold_standard;
 use commandline::{Settings, SettingsFault, not_text, report, settings};
 use gfxspec::{FromRead, Sink, Source, ToWrite};
 use sessions::{Ended, SessionFault};
@@ -22,7 +25,10 @@ use workers::NoGate;
 
 fn main(rt: HostRuntime) -> ExitCode {
     match asked(&rt) {
-        Ok(settings) => told(&rt, &drawn(&rt, &settings)),
+        Ok(settings) => match hold_standard(&rt) {
+            Ok(_standing) => told(&rt, &drawn(&rt, &settings)),
+            Err(_) => unheld(&rt),
+        },
         Err(fault) => refused(&rt, &fault),
     }
 }
@@ -93,6 +99,14 @@ fn told<R: Eprint>(rt: &R, outcome: &Result<Ended, SessionFault>) -> ExitCode
         let _ = rt.eprintln(text);
     }
     ExitCode::from(status)
+}
+
+/// Says that descriptors 0 to 2 can't be held, and gives the exit status.
+fn unheld<R: Eprint>(rt: &R) -> ExitCode
+    ensures { exit_status result ≡ 3 }
+{
+    let _ = rt.eprintln("tiledraw: cannot hold standard input, output and error");
+    ExitCode::from(3)
 }
 
 /// Says why the words are not taken, and gives the exit status.
