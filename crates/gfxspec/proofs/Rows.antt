@@ -22,16 +22,16 @@ use Rattle.gfxspec.specs.Refusals.{first_row, list_rows, finish_rows, worker_row
 use Rattle.gfxspec.specs.Tiles.{tile_count, tile_of, tile_rect}
 use Rattle.gfxspec.proofs.Vectors.{at, grey, upper_left, count_of}
 
-limits : (COORDINATE_LIMIT ≡ pos 268435456) × (DEPTH_MAX ≡ 16777215) × (SIDE_LIMIT ≡ 2048) × (BUFFER_LIMIT ≡ 65536) × (LIST_LIMIT ≡ 65536) × (QUERY_LIMIT ≡ 64) × (ISSUE_LIMIT ≡ 64) × (TILE_SIDE ≡ 32) × (STRIP_CUT ≡ 65535)
+limits : (COORDINATE_LIMIT ≡ pos 268435456) × (DEPTH_MAX ≡ 16777215) × (SIDE_LIMIT ≡ 4096) × (BUFFER_LIMIT ≡ 65536) × (LIST_LIMIT ≡ 65536) × (QUERY_LIMIT ≡ 64) × (ISSUE_LIMIT ≡ 64) × (TILE_SIDE ≡ 32) × (STRIP_CUT ≡ 65535)
 limits = (refl, refl, refl, refl, refl, refl, refl, refl, refl)
 
 abbrev of_size : ℕ → ℕ → Size
 of_size width height = record { width = width; height = height }
 
-sizes : (is_size (of_size 1 1) ≡ true) × (is_size (of_size 2048 2048) ≡ true) × (is_size (of_size 2049 1) ≡ false) × (is_size (of_size 1 0) ≡ false)
+sizes : (is_size (of_size 1 1) ≡ true) × (is_size (of_size 4096 4096) ≡ true) × (is_size (of_size 4097 1) ≡ false) × (is_size (of_size 1 0) ≡ false)
 sizes = (refl, refl, refl, refl)
 
-four_tiles : (tile_count (of_size 33 33) ≡ 4) × (tile_of (of_size 33 33) 31 32 ≡ 2) × (tile_rect (of_size 33 33) 3 ≡ record { left = 32; top = 32; right = 33; bottom = 33 }) × (tile_count (of_size 2048 2048) ≡ 4096)
+four_tiles : (tile_count (of_size 33 33) ≡ 4) × (tile_of (of_size 33 33) 31 32 ≡ 2) × (tile_rect (of_size 33 33) 3 ≡ record { left = 32; top = 32; right = 33; bottom = 33 }) × (tile_count (of_size 4096 4096) ≡ 16384)
 four_tiles = (refl, refl, refl, refl)
 
 -- ---- assembly
@@ -70,9 +70,9 @@ indexed_draws : (refused (square TriangleList) (DrawIndexed 7 0 (pos 0)) ≡ Som
 indexed_draws = (refl, refl, refl, refl, refl, refl)
 
 abbrev to : ℕ → ℕ → Command
-to left right = SetScissor (record { left = left; top = 0; right = right; bottom = 2048 })
+to left right = SetScissor (record { left = left; top = 0; right = right; bottom = 4096 })
 
-scissors : (refused [] (to 0 2048) ≡ None) × (refused [] (to 0 2049) ≡ Some E.ScissorRect) × (refused [] (to 7 7) ≡ None) × (refused [] (to 8 7) ≡ Some E.ScissorRect)
+scissors : (refused [] (to 0 4096) ≡ None) × (refused [] (to 0 4097) ≡ Some E.ScissorRect) × (refused [] (to 7 7) ≡ None) × (refused [] (to 8 7) ≡ Some E.ScissorRect)
 scissors = (refl, refl, refl, refl)
 
 clears : (refused [] (ClearDepthStencil 16777215 255) ≡ None) × (refused [] (ClearDepthStencil 16777216 0) ≡ Some E.VertexRange)

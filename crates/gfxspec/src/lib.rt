@@ -32,7 +32,7 @@ pub const COORDINATE_LIMIT: i32 = 268_435_456;
 pub const DEPTH_MAX: u32 = 16_777_215;
 
 /// The longest side of a target, in pixels.
-pub const SIDE_LIMIT: u32 = 2048;
+pub const SIDE_LIMIT: u32 = 4096;
 
 /// Vertices or indices in a buffer.
 pub const BUFFER_LIMIT: usize = 65_536;

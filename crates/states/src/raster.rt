@@ -15,10 +15,9 @@ pub struct RasterDesc {
     pub front_ccw: bool,
     /// Whether the scissor rectangle acts.
     pub scissor: bool,
+    /// What is added to each depth, in units of depth (1/16,777,215 of the range).
+    pub depth_bias: i32,
 }
-
-/// What is added to each depth while no description has a bias.
-const NO_BIAS: i32 = 0;
 
 /// A rasterizer state (Direct3D 11.3 Functional Specification, "Rasterizer Stage").
 #[derive(Clone, Copy, Debug, PartialEq, Eq)]
@@ -70,17 +69,16 @@ impl RasterState {
         self.desc.scissor
     }
 
-    /// What is added to each depth, in units of depth. No description sets it.
+    /// What is added to each depth, in units of depth; the sum is clamped to the range of depths.
     #[inline]
     pub fn depth_bias(&self) -> i32
         ensures { result ≡ self.now.depth_bias }
     {
-        let _ = &self.desc;
-        NO_BIAS
+        self.desc.depth_bias
     }
 }
 
-/// Back faces are dropped, clockwise is front, and there is no scissor rectangle.
+/// Back faces are dropped, clockwise is front, and there is no scissor rectangle and no bias.
 impl Default for RasterState {
     ghost use Rattle.std.specs.Prelude.{◌≡◌};
     ghost use Rattle.gfxspec.specs.State.{default_raster};
@@ -93,6 +91,7 @@ impl Default for RasterState {
             cull: Cull::Back,
             front_ccw: false,
             scissor: false,
+            depth_bias: 0,
         })
     }
 }
