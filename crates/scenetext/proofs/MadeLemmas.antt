@@ -1,5 +1,5 @@
 -- The verbs that are made of natural numbers alone.
-use Rattle.std.proofs.Common.{◌≡◌, ◌∙◌, ℕ, pos, ◌<◌, Bool, List, [], ◌∷◌, length, map, get_or, zero, suc, refl, sym, ap, subst, arith}
+use Rattle.std.proofs.Common.{◌≡◌, ◌∙◌, ℕ, ℤ, ◌<◌, Bool, List, [], ◌∷◌, length, map, get_or, zero, suc, refl, sym, ap, subst, arith}
 use Rattle.std.specs.Prelude.{decimal, Some, None}
 use Rattle.gfxspec.specs.Numbers.{compare_number}
 use Rattle.gfxspec.specs.DepthStencil.{FaceSetting, DepthStencilSetting}
@@ -44,8 +44,8 @@ in_at (r ∷ rs) (n ∷ ns) h (suc i) below = in_at rs ns h.1 i (omega (arith, b
 abbrev pub topology_set : List ℕ → Verb
 topology_set ns = Call (gfx.SetTopology (topology_from (get_or ns 0 0)))
 
-abbrev pub raster_set : List ℕ → Verb
-raster_set ns = Call (gfx.SetRaster (record { cull = cull_from (get_or ns 0 0); front_ccw = flag_from (get_or ns 1 0); scissor = flag_from (get_or ns 2 0); depth_bias = pos 0 }))
+abbrev pub raster_from : List ℕ → ℤ → RasterSetting
+raster_from ns bias = record { cull = cull_from (get_or ns 0 0); front_ccw = flag_from (get_or ns 1 0); scissor = flag_from (get_or ns 2 0); depth_bias = bias }
 
 abbrev pub scissor_set : List ℕ → Verb
 scissor_set ns = Call (gfx.SetScissor (record { left = get_or ns 0 0; top = get_or ns 1 0; right = get_or ns 2 0; bottom = get_or ns 3 0 }))
@@ -127,13 +127,12 @@ topology_made ns h =
     made_of words.Topology ns _ (topology_set ns) refl (λ im. refl) (λ a. a) h
     (ap (λ n. n ∷ []) (topology_back (get_or ns 0 0) (in_at (ranges words.Topology) ns h 0 (omega arith))) ∙ entries_are (ranges words.Topology) ns h)
 
-pub raster_made : (ns : List ℕ) → AreIn (ranges words.Raster) ns → IsMade words.Raster ns (raster_set ns)
-raster_made ns h =
+pub raster_back : (ns : List ℕ) (bias : ℤ) → AreIn (ranges words.Raster) ns → raster_numbers (raster_from ns bias) ≡ ns
+raster_back ns bias h =
     let cull = cull_back (get_or ns 0 0) (in_at (ranges words.Raster) ns h 0 (omega arith)) in
     let front_ccw = flag_back (get_or ns 1 0) (in_at (ranges words.Raster) ns h 1 (omega arith)) in
     let scissor = flag_back (get_or ns 2 0) (in_at (ranges words.Raster) ns h 2 (omega arith)) in
-    let made : RasterSetting = record { cull = cull_from (get_or ns 0 0); front_ccw = flag_from (get_or ns 1 0); scissor = flag_from (get_or ns 2 0); depth_bias = pos 0 } in
-    made_of words.Raster ns (raster_numbers made) (raster_set ns) refl (λ im. refl) (λ a. (a, refl)) h (rw (cull, front_ccw, scissor) (entries_are (ranges words.Raster) ns h))
+    rw (cull, front_ccw, scissor) (entries_are (ranges words.Raster) ns h)
 
 pub scissor_made : (ns : List ℕ) → AreIn (ranges words.Scissor) ns → IsMade words.Scissor ns (scissor_set ns)
 scissor_made ns h = made_plain words.Scissor ns (scissor_set ns) refl (λ im. refl) (λ a. a) h
@@ -198,9 +197,8 @@ pixel_made ns h = made_plain words.Pixel ns (pixel_asked ns) refl (λ im. refl) 
 
 -- ---- it is made of its numbers again
 
--- a rasterizer state without a bias
-pub raster_again : (r : RasterSetting) → r.depth_bias ≡ pos 0 → raster_set (raster_numbers r) ≡ Call (gfx.SetRaster r)
-raster_again r h = rw (cull_again r.cull, flag_again r.front_ccw, flag_again r.scissor, ← h) refl
+pub raster_again : (r : RasterSetting) → raster_from (raster_numbers r) r.depth_bias ≡ r
+raster_again r = rw (cull_again r.cull, flag_again r.front_ccw, flag_again r.scissor) refl
 
 pub depth_stencil_again : (s : DepthStencilSetting) (reference : ℕ) → depth_stencil_set (depth_stencil_numbers s reference) ≡ Call (gfx.SetDepthStencil s reference)
 depth_stencil_again s reference = simp (flag_again, compare_again, stencil_op_again)

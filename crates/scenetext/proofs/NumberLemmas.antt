@@ -1,5 +1,5 @@
 -- Numbers in plain decimal, and names of contexts: from a value to its word, and back.
-use Rattle.std.proofs.Common.{◌≡◌, ℕ, ℤ, pos, negsuc, suc, ◌-◌, ◌^◌, ◌<◌, ◌≤◌, Bool, true, false, ◌&&◌, eqb, leb, List, [], ◌∷◌, length, get_or, refl, sym, ap, subst, ◌∙◌, arith}
+use Rattle.std.proofs.Common.{◌≡◌, ◌≢◌, ℕ, ℤ, pos, negsuc, suc, ◌-◌, ◌^◌, ◌<◌, ◌≤◌, Bool, true, false, ◌&&◌, not, eqb, leb, List, [], ◌∷◌, length, get_or, refl, sym, ap, subst, ◌∙◌, arith}
 use Rattle.std.specs.Prelude.{decimal, bytes_eq, int_le, FitsSigned}
 use Rattle.std.specs.List.{list_all}
 use Rattle.std.specs.Int.{w32}
@@ -14,7 +14,7 @@ use Rattle.std.proofs.lemmas.Str.Parse.{IsNumeralModel, numerals_by_value, tells
 use Rattle.std.proofs.lemmas.Fmt.{digits_decimal, digits_value-decimal, decimal_nonempty}
 use lib.Signed.{mag}
 use Rattle.scenetext.specs.Text.{is_printable, is_word}
-use Rattle.scenetext.specs.Numbers.{is_number, context_word, is_context, fits_kind, i32s}
+use Rattle.scenetext.specs.Numbers.{NonZero, is_number, context_word, is_context, fits_kind, i32s}
 use Rattle.scenetext.proofs.TextLemmas.{IsWordText, Lacks, and_left, and_right}
 
 pub own : IsNumeralModel (AllDigits 10) (digits_value 10)
@@ -90,6 +90,32 @@ pub integer_fits : (z : ℤ) → FitsSigned w32 z → fits_kind i32s (signed_dec
 integer_fits (pos n) h = is_number-signed_decimal (negsuc 2147483647) (pos 2147483647) (pos n) (omega (arith, ints)) refl (grind (arith, ints))
 integer_fits (negsuc n) h = is_number-signed_decimal (negsuc 2147483647) (pos 2147483647) (negsuc n) (omega (arith, ints)) (grind (arith, ints)) refl
 
+-- a word that spells no number of 32 bits is no such number other than 0 either
+pub integer_fails : (w : List ℕ) → fits_kind i32s w ≡ false → fits_kind NonZero w ≡ false
+integer_fails w h = rw h refl
+
+not_both : (b : Bool) → not b ≡ true → b ≡ true → ⊥
+not_both true h e = absurd cc
+not_both false h e = absurd cc
+
+-- nor is the word of 0
+pub zero_fails : (w : List ℕ) → w ≡ signed_decimal (pos 0) → fits_kind NonZero w ≡ false
+zero_fails w e = false_from _ (λ t. not_both (bytes_eq w (decimal 0)) (and_right (fits_kind i32s w) (not (bytes_eq w (decimal 0))) t) ((bytes_eq-Decides w (decimal 0)).1 e))
+
+-- a number other than 0 isn't spelled as 0 is
+unlike_zero : (z : ℤ) → FitsSigned w32 z → z ≢ pos 0 → bytes_eq (signed_decimal z) (decimal 0) ≡ false
+unlike_zero z h ne =
+    false_from _ (λ t.
+    let same : signed_decimal z ≡ signed_decimal (pos 0) = (bytes_eq-Decides (signed_decimal z) (decimal 0)).0 t in
+    ne (sym (value-signed_decimal z (mag_small z h)) ∙ ap (signed_digits_value 10) same ∙ value-signed_decimal (pos 0) (omega arith)))
+  where
+    mag_small : (z : ℤ) → FitsSigned w32 z → mag z < 2 ^ 63
+    mag_small (pos n) h = omega (arith, ints)
+    mag_small (negsuc n) h = omega (arith, ints)
+
+pub nonzero_fits : (z : ℤ) → FitsSigned w32 z → z ≢ pos 0 → fits_kind NonZero (signed_decimal z) ≡ true
+nonzero_fits z h ne = rw (integer_fits z h, unlike_zero z h ne) refl
+
 pub context_fits : (k : ℕ) → k < 8 → is_context (context_word k) ≡ true
 context_fits k h = grind (arith, nat_tests)
 
@@ -132,6 +158,12 @@ integer_is w h =
     let f = in_w32 z.0 z.2 z.3 in
     let v : number w ≡ z.0 = ap number z.1 ∙ value-signed_decimal z.0 (small_signed z.0 f) in
     (z.1 ∙ ap signed_decimal (sym v), subst (λ y. FitsSigned w32 y) (sym v) f)
+
+pub nonzero_is : (w : List ℕ) → fits_kind NonZero w ≡ true → (w ≡ signed_decimal (number w)) × FitsSigned w32 (number w) × (number w ≢ pos 0)
+nonzero_is w h =
+    let i = integer_is w (and_left (fits_kind i32s w) (not (bytes_eq w (decimal 0))) h) in
+    let other = and_right (fits_kind i32s w) (not (bytes_eq w (decimal 0))) h in
+    (i.0, i.1, λ e. not_both (bytes_eq w (decimal 0)) other ((bytes_eq-Decides w (decimal 0)).1 (i.0 ∙ ap signed_decimal e)))
 
 pub context_is : (w : List ℕ) → is_context w ≡ true → (w ≡ context_word (context w)) × (context w < 8)
 context_is [] h = absurd cc

@@ -1,34 +1,88 @@
 -- What the parts of the reader owe.
-use Rattle.std.proofs.Common.{◌≡◌, ℕ, ℤ, zero, suc, ◌+◌, ◌-◌, ◌*◌, ◌<◌, Bool, true, false, ◌&&◌, List, [], ◌∷◌, ◌++◌, length, map, replicate, Option, Some, refl, sym, ap, ◌∙◌, append_assoc, arith}
-use Rattle.std.specs.Prelude.{decimal, slice_index, count_by}
+use Rattle.std.proofs.Common.{◌≡◌, ◌≢◌, ℕ, ℤ, pos, zero, suc, ◌+◌, ◌-◌, ◌*◌, ◌<◌, Bool, true, false, ◌&&◌, List, [], ◌∷◌, ◌++◌, length, map, replicate, Option, Some, refl, sym, ap, subst, ◌∙◌, append_assoc, arith}
+use Rattle.std.specs.Prelude.{decimal, codes, slice_index, count_by, FitsSigned}
 use Rattle.std.specs.List.{AllByRecursion, flat_map}
+use Rattle.std.specs.Int.{w32}
 use Rattle.std.specs.Fmt.{signed_decimal}
 use Rattle.std.proofs.lemmas.List.{length-append, length-map}
 use Rattle.std.proofs.lemmas.Bool.Decides.{nat_tests}
 use Rattle.std.proofs.lemmas.Fmt.{digits_value-decimal}
 use Rattle.gfxspec.specs.declared.geometry.Vertex.{Vertex}
+use Rattle.gfxspec.specs.State.{RasterSetting}
+use Rattle.gfxspec.specs.Commands as gfx
 use Rattle.scenetext.specs.declared.fault.Fault.{Fault}
 use Rattle.scenetext.specs.declared.fault.Fault.TheVariants as faults
 use Rattle.scenetext.specs.declared.fault.ReadError.{ReadError}
 use Rattle.scenetext.specs.declared.fault.ReadError.TheVariants as errors
 use Rattle.scenetext.specs.declared.command.CommandWord.{CommandWord}
 use Rattle.scenetext.specs.declared.command.CommandWord.TheVariants as words
-use Rattle.scenetext.specs.Scene.{Actor, Verb, Execute}
+use Rattle.scenetext.specs.Scene.{Actor, Verb, Call, Execute}
 use Rattle.scenetext.specs.Text.{TextLine, words_of}
-use Rattle.scenetext.specs.Numbers.{Kind, context_word, fits_kind, fit, i32s}
-use Rattle.scenetext.specs.Commands.{vertex_kinds, shape, name, serves, kinds_of}
-use Rattle.scenetext.specs.Spelling.{vertex_words, verb_words, IsVertex, IsVerb, actor_word, is_immediate_actor}
+use Rattle.scenetext.specs.Numbers.{Kind, NonZero, context_word, fits_kind, fit, i32s}
+use Rattle.scenetext.specs.Commands.{vertex_kinds, ranges, shape, name, serves, kinds_of}
+use Rattle.scenetext.specs.Spelling.{raster_numbers, bias_words, vertex_words, verb_words, IsVertex, IsVerb, actor_word, is_immediate_actor}
 use Rattle.scenetext.specs.Faults.{word, or_fault, unless, arguments_fault, finishes, has_list, later_line_fault}
 use Rattle.scenetext.specs.declared.range.TheConstants.{INDEX}
-use Rattle.scenetext.specs.Ranges.{kind_of, kinds}
+use Rattle.scenetext.specs.Ranges.{kind_of, kinds, AreIn}
 use Rattle.scenetext.specs.Reading.{Reads, Refuses, Counts, LacksCounted, IsHead, RefusesLine}
 use Rattle.scenetext.proofs.NumberLemmas.{own}
-use Rattle.scenetext.proofs.RangeLemmas.{and_false, fit_fails}
+use Rattle.scenetext.proofs.RangeLemmas.{and_false, fit_fails, length-AreIn, naturals_fit}
 use Rattle.scenetext.proofs.GroupLemmas.{fit-append, vertex_fits, length-vertex_words, length-vertices, groups_of, IsIndex, index_ranges, indices_in, singles_of}
-use Rattle.scenetext.proofs.VerbLemmas.{Fits, verb_fits, command_named-name}
+use Rattle.scenetext.proofs.VerbLemmas.{spelled_bias, Fits, verb_fits, command_named-name}
 use Rattle.scenetext.proofs.SceneLemmas.{actor_known, immediate_is}
 
--- ---- arguments that are numbers
+fit-front : (ks ls : List Kind) (ws : List (List ℕ)) → fit ks ws ≡ false → fit (ks ++ ls) ws ≡ false
+fit-front [] ls ws h = absurd cc
+fit-front (k ∷ ks) ls [] h = refl
+fit-front (k ∷ ks) ls (w ∷ ws) h = by (fits_kind k w) (fit ks ws) (fit (ks ++ ls) ws) h (fit-front ks ls ws)
+  where
+    by : (a b c : Bool) → (a && b) ≡ false → (b ≡ false → c ≡ false) → (a && c) ≡ false
+    by true b c h f = f h
+    by false b c h f = refl
+
+-- ---- a rasterizer state with a bias
+
+raster_fails : (ws : List (List ℕ)) → length ws ≡ 4 → fit (kinds (ranges words.Raster) ++ NonZero ∷ []) ws ≡ false → (rows : Option Fault) → arguments_fault (shape words.Raster) ws rows ≡ Some faults.Argument
+raster_fails ws four f rows =
+    ap (λ n. or_fault (kinds_of (shape words.Raster) n) faults.ArgumentCount (λ ks. unless (fit ks ws) faults.Argument rows)) four
+    ∙ ap (λ b. unless b faults.Argument rows) f
+
+refused_raster : (ws : List (List ℕ)) (e : ReadError) → length ws ≡ 4 → e ≡ errors.Fault faults.Argument → fit (kinds (ranges words.Raster) ++ NonZero ∷ []) ws ≡ false → Refuses words.Raster ws e
+refused_raster ws e four is f = subst (Refuses words.Raster ws) (sym is) (raster_fails ws four f)
+
+-- one of the three numbers is none of its range
+pub numbers_refused : (ws : List (List ℕ)) (e : ReadError) → length ws ≡ 4 → e ≡ errors.Fault faults.Argument → fit (kinds (ranges words.Raster)) ws ≡ false → Refuses words.Raster ws e
+numbers_refused ws e four is f = refused_raster ws e four is (fit-front (kinds (ranges words.Raster)) (NonZero ∷ []) ws f)
+
+-- the word behind three numbers is no bias
+pub bias_refused : (ws rest : List (List ℕ)) (values : List ℕ) (e : ReadError) → length ws ≡ 4 → ws ≡ map decimal values ++ rest → AreIn (ranges words.Raster) values → e ≡ errors.Fault faults.Argument → fits_kind NonZero (word rest 0) ≡ false → Refuses words.Raster ws e
+bias_refused ws rest values e four are h is f =
+    refused_raster ws e four is
+    (ap (fit (kinds (ranges words.Raster) ++ NonZero ∷ [])) are
+    ∙ fit-append (kinds (ranges words.Raster)) (NonZero ∷ []) (map decimal values) rest (length-AreIn (ranges words.Raster) values h ∙ sym (length-map values decimal)) (naturals_fit (ranges words.Raster) values refl h)
+    ∙ last rest f)
+  where
+    last : (rest : List (List ℕ)) → fits_kind NonZero (word rest 0) ≡ false → fit (NonZero ∷ []) rest ≡ false
+    last [] f = refl
+    last (w ∷ ws) f = rw f refl
+
+-- a state of these numbers and this bias
+pub reads_biased : (ws behind rest : List (List ℕ)) (ns : List ℕ) (bias : ℤ) (r : RasterSetting) → length ws ≡ 4 → ws ≡ map decimal ns ++ behind → behind ≡ signed_decimal bias ∷ rest → AreIn (ranges words.Raster) ns → FitsSigned w32 bias → bias ≢ pos 0 → raster_numbers r ≡ ns → r.depth_bias ≡ bias → Reads words.Raster ws (Call (gfx.SetRaster r))
+reads_biased ws behind rest ns bias r four are last h f ne numbers moved =
+    let three = length-AreIn (ranges words.Raster) ns h ∙ sym (length-map ns decimal) in
+    let whole = sym four ∙ ap length are ∙ length-append (map decimal ns) behind in
+    let one = ap length last in
+    let none : rest ≡ [] = empty rest (omega (arith, three, whole, one)) in
+    record {
+      words_are = ap (λ xs. codes "raster" ∷ (map decimal xs ++ bias_words r.depth_bias)) numbers ∙ ap (λ b. codes "raster" ∷ (map decimal ns ++ bias_words b)) moved
+          ∙ ap (λ xs. codes "raster" ∷ (map decimal ns ++ xs)) (spelled_bias bias ne ∙ ap (λ xs. signed_decimal bias ∷ xs) (sym none) ∙ sym last) ∙ ap (λ xs. codes "raster" ∷ xs) (sym are);
+      verb = (subst (AreIn (ranges words.Raster)) (sym numbers) h, subst (FitsSigned w32) (sym moved) f);
+      taken = λ im. refl;
+    }
+  where
+    empty : (xs : List (List ℕ)) → length xs ≡ 0 → xs ≡ []
+    empty [] e = refl
+    empty (x ∷ xs) e = absurd (omega arith)
 
 -- ---- vertices
 
@@ -42,15 +96,6 @@ second_fails old (w ∷ ws) x e l f = ap (fit vertex_kinds) e ∙ and_false (fit
 
 pub others_fail : (old us ws : List (List ℕ)) (x y : ℤ) (ks : List Kind) → old ≡ signed_decimal x ∷ us → us ≡ signed_decimal y ∷ ws → fit ks ws ≡ false → fit (i32s ∷ i32s ∷ ks) old ≡ false
 others_fail old us ws x y ks e f h = ap (fit (i32s ∷ i32s ∷ ks)) (e ∙ ap (λ r. signed_decimal x ∷ r) f) ∙ and_false (fits_kind i32s (signed_decimal x)) _ (and_false (fits_kind i32s (signed_decimal y)) _ h)
-
-fit-front : (ks ls : List Kind) (ws : List (List ℕ)) → fit ks ws ≡ false → fit (ks ++ ls) ws ≡ false
-fit-front [] ls ws h = absurd cc
-fit-front (k ∷ ks) ls [] h = refl
-fit-front (k ∷ ks) ls (w ∷ ws) h = by (fits_kind k w) (fit ks ws) (fit (ks ++ ls) ws) h (fit-front ks ls ws)
-  where
-    by : (a b c : Bool) → (a && b) ≡ false → (b ≡ false → c ≡ false) → (a && c) ≡ false
-    by true b c h f = f h
-    by false b c h f = refl
 
 fit_vertices_fail : (vs : List Vertex) (ws : List (List ℕ)) (r : ℕ) → AllByRecursion IsVertex vs → fit vertex_kinds ws ≡ false → fit (flat_map (λ k. k) (replicate (length vs + suc r) vertex_kinds)) (flat_map vertex_words vs ++ ws) ≡ false
 fit_vertices_fail [] ws r h f =

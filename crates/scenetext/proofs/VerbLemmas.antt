@@ -1,5 +1,5 @@
 -- Verbs and their words: the words are what the table of commands wants, and what it lets through are words of a verb.
-use Rattle.std.proofs.Common.{◌≡◌, ℕ, ℤ, suc, ◌+◌, ◌-◌, ◌*◌, ◌/◌, ◌<◌, Bool, true, false, cond, not, eqb, eq-eqb, List, [], ◌∷◌, ◌++◌, length, map, replicate, Some, None, refl, sym, ap, subst, ◌∙◌, arith}
+use Rattle.std.proofs.Common.{◌≡◌, ◌≢◌, ℕ, ℤ, pos, negsuc, zero, suc, ◌+◌, ◌-◌, ◌*◌, ◌/◌, ◌<◌, Bool, true, false, cond, not, eqb, eq-eqb, List, [], ◌∷◌, ◌++◌, length, map, replicate, Some, None, refl, sym, ap, subst, ◌∙◌, arith}
 use Rattle.std.specs.Prelude.{decimal, codes, FitsSigned, Option}
 use Rattle.std.specs.List.{list_all, AllByRecursion, flat_map}
 use Rattle.std.specs.Int.{w32}
@@ -7,7 +7,8 @@ use Rattle.std.specs.Fmt.{signed_decimal}
 use Rattle.std.proofs.lemmas.List.{length-map, length-replicate}
 use Rattle.std.proofs.lemmas.Bool.{eqb-true}
 use Rattle.std.proofs.lemmas.Bool.Decides.{nat_tests}
-use Rattle.gfxspec.specs.Numbers.{topology_number}
+use Rattle.gfxspec.specs.Numbers.{cull_number, topology_number}
+use Rattle.gfxspec.specs.State.{RasterSetting}
 use Rattle.gfxspec.specs.Commands as gfx
 use Rattle.scenetext.specs.declared.range.Range.{Range}
 use Rattle.scenetext.specs.declared.range.TheConstants.{U32, FLAG}
@@ -15,24 +16,24 @@ use Rattle.scenetext.specs.declared.command.CommandWord.{CommandWord}
 use Rattle.scenetext.specs.declared.command.CommandWord.TheVariants as words
 use Rattle.scenetext.specs.Scene.{Verb, Call, Finish, Flush, Execute, Query, Pixel}
 use Rattle.scenetext.specs.Text.{is_printable, is_word}
-use Rattle.scenetext.specs.Numbers.{context_word, Kind, Context, is_context, fits_kind, fit, i32s}
+use Rattle.scenetext.specs.Numbers.{context_word, Kind, NonZero, Context, is_context, fits_kind, fit, i32s}
 use Rattle.scenetext.specs.Commands.{vertex_kinds, OneOf, name, serves, ranges, shape, kinds_of, command_named}
-use Rattle.scenetext.specs.Spelling.{flag_number, raster_numbers, rect_numbers, depth_stencil_numbers, blend_numbers, vertex_words, verb_words, may_take, IsPredicate, IsVerb}
+use Rattle.scenetext.specs.Spelling.{flag_number, raster_numbers, bias_words, rect_numbers, depth_stencil_numbers, blend_numbers, vertex_words, verb_words, may_take, IsPredicate, IsVerb}
 use Rattle.scenetext.specs.Faults.{word}
 use Rattle.scenetext.specs.Ranges.{kind_of, kinds, IsIn, AreIn}
 use Rattle.scenetext.proofs.TextLemmas.{IsWordText, Lacks, and_left, and_right}
-use Rattle.scenetext.proofs.NumberLemmas.{IsWordText-decimal, IsWordText-signed_decimal, IsWordText-context, natural_fits, integer_fits, context_fits, small_signed, value-signed_decimal, value, number, context, value-decimal, natural_between, integer_is, context_is}
+use Rattle.scenetext.proofs.NumberLemmas.{IsWordText-decimal, IsWordText-signed_decimal, IsWordText-context, natural_fits, integer_fits, nonzero_fits, context_fits, small_signed, value-signed_decimal, value, number, context, value-decimal, natural_between, integer_is, nonzero_is, context_is}
 use Rattle.scenetext.proofs.RangeLemmas.{are_small, length-AreIn, naturals_fit, naturals_texts, values_again, naturals_back}
 use Rattle.scenetext.proofs.ChoiceLemmas.{flag_from, flag_back, flag_again, topology_again}
-use Rattle.scenetext.proofs.MadeLemmas.{topology_set, raster_set, scissor_set, depth_stencil_set, blend_set, predicate_set, drawn, color_cleared, depth_stencil_cleared, begun, ended, finished, flushed, query_asked, pixel_asked, IsMade, topology_made, raster_made, scissor_made, depth_stencil_made, blend_made, draw_made, color_made, clear_made, begin_made, end_made, finish_made, flush_made, query_made, pixel_made, raster_again, depth_stencil_again, blend_again}
-use Rattle.scenetext.proofs.GroupLemmas.{groups_found, vertices_from, vertices_texts, length-vertices, vertices_fit, vertices_again, groups_of, vertices_back, IsIndex, index_ranges, indices_small, indices_in, indices_are, singles_of}
+use Rattle.scenetext.proofs.MadeLemmas.{topology_set, raster_from, scissor_set, depth_stencil_set, blend_set, predicate_set, drawn, color_cleared, depth_stencil_cleared, begun, ended, finished, flushed, query_asked, pixel_asked, IsMade, topology_made, raster_back, scissor_made, depth_stencil_made, blend_made, draw_made, color_made, clear_made, begin_made, end_made, finish_made, flush_made, query_made, pixel_made, raster_again, depth_stencil_again, blend_again}
+use Rattle.scenetext.proofs.GroupLemmas.{fit-append, groups_found, vertices_from, vertices_texts, length-vertices, vertices_fit, vertices_again, groups_of, vertices_back, IsIndex, index_ranges, indices_small, indices_in, indices_are, singles_of}
 
 -- the verb of a command with these words
 abbrev pub verb_from : CommandWord → List (List ℕ) → Verb
 verb_from words.Vb ws = Call (gfx.SetVertices (vertices_from ws))
 verb_from words.Ib ws = Call (gfx.SetIndices (map value ws))
 verb_from words.Topology ws = topology_set (map value ws)
-verb_from words.Raster ws = raster_set (map value ws)
+verb_from words.Raster ws = Call (gfx.SetRaster (raster_from (map value ws) (number (word ws 3))))
 verb_from words.Scissor ws = scissor_set (map value ws)
 verb_from words.Ds ws = depth_stencil_set (map value ws)
 verb_from words.Blend ws = blend_set (map value ws)
@@ -156,6 +157,50 @@ predicate_fits (Some (query, set)) h =
       again = rw (value-decimal query (omega (arith, h.0.high)), value-decimal (flag_number set) (omega (arith, h.1.0.high)), flag_again set) refl;
     }
 
+-- ---- a rasterizer state, with a bias or without
+
+pub spelled_bias : (bias : ℤ) → bias ≢ pos 0 → bias_words bias ≡ signed_decimal bias ∷ []
+spelled_bias (pos zero) ne = absurd (ne refl)
+spelled_bias (pos (suc n)) ne = refl
+spelled_bias (negsuc n) ne = refl
+
+unbiased_fits : (r : RasterSetting) → AreIn (ranges words.Raster) (raster_numbers r) → r.depth_bias ≡ pos 0 → Fits (Call (gfx.SetRaster r))
+unbiased_fits r h e =
+    let ns = raster_numbers r in
+    record {
+      command = words.Raster;
+      arguments = map decimal ns;
+      words_are = ap (λ bias. codes "raster" ∷ (map decimal ns ++ bias_words bias)) e;
+      taken = λ im. refl;
+      kinds = kinds (ranges words.Raster);
+      found = refl;
+      fits = naturals_fit (ranges words.Raster) ns refl h;
+      texts = naturals_texts (ranges words.Raster) ns refl h;
+      again = ap (λ xs. Call (gfx.SetRaster (raster_from xs (pos 0)))) (values_again (ranges words.Raster) ns refl h) ∙ ap (λ bias. Call (gfx.SetRaster (raster_from ns bias))) (sym e) ∙ ap (λ s. Call (gfx.SetRaster s)) (raster_again r);
+    }
+
+biased_fits : (r : RasterSetting) → AreIn (ranges words.Raster) (raster_numbers r) → FitsSigned w32 r.depth_bias → r.depth_bias ≢ pos 0 → Fits (Call (gfx.SetRaster r))
+biased_fits r h f ne =
+    let ns = raster_numbers r in
+    let bias = r.depth_bias in
+    let t = naturals_texts (ranges words.Raster) ns refl h in
+    record {
+      command = words.Raster;
+      arguments = map decimal ns ++ signed_decimal bias ∷ [];
+      words_are = ap (λ ws. codes "raster" ∷ (map decimal ns ++ ws)) (spelled_bias bias ne);
+      taken = λ im. refl;
+      kinds = kinds (ranges words.Raster) ++ NonZero ∷ [];
+      found = refl;
+      fits = fit-append (kinds (ranges words.Raster)) (NonZero ∷ []) (map decimal ns) (signed_decimal bias ∷ []) refl (naturals_fit (ranges words.Raster) ns refl h) ∙ rw (nonzero_fits bias f ne) refl;
+      texts = (t.0, (t.1.0, (t.1.1.0, (IsWordText-signed_decimal bias (small_signed bias f), tt))));
+      again = rw (value-decimal (cull_number r.cull) (omega (arith, h.0.high)), value-decimal (flag_number r.front_ccw) (omega (arith, h.1.0.high)), value-decimal (flag_number r.scissor) (omega (arith, h.1.1.0.high)), value-signed_decimal bias (small_signed bias f)) (ap (λ s. Call (gfx.SetRaster s)) (raster_again r));
+    }
+
+raster_fits : (r : RasterSetting) (bias : ℤ) → r.depth_bias ≡ bias → AreIn (ranges words.Raster) (raster_numbers r) → FitsSigned w32 r.depth_bias → Fits (Call (gfx.SetRaster r))
+raster_fits r (pos zero) e h f = unbiased_fits r h e
+raster_fits r (pos (suc n)) e h f = biased_fits r h f (λ z. absurd cc)
+raster_fits r (negsuc n) e h f = biased_fits r h f (λ z. absurd cc)
+
 pub verb_fits : (v : Verb) → IsVerb v → Fits v
 verb_fits (Call (gfx.SetVertices vs)) h = record {
   command = words.Vb;
@@ -170,7 +215,7 @@ verb_fits (Call (gfx.SetVertices vs)) h = record {
 }
 verb_fits (Call (gfx.SetIndices is)) h = indices_fits is h
 verb_fits (Call (gfx.SetTopology t)) h = naturals words.Topology topology_set (topology_number t ∷ []) _ refl (λ im. refl) refl refl (λ ws. refl) (ap (λ x. Call (gfx.SetTopology x)) (topology_again t)) h
-verb_fits (Call (gfx.SetRaster r)) h = naturals words.Raster raster_set (raster_numbers r) _ refl (λ im. refl) refl refl (λ ws. refl) (raster_again r h.1) h.0
+verb_fits (Call (gfx.SetRaster r)) h = raster_fits r r.depth_bias refl h.0 h.1
 verb_fits (Call (gfx.SetScissor r)) h = naturals words.Scissor scissor_set (rect_numbers r) _ refl (λ im. refl) refl refl (λ ws. refl) refl h
 verb_fits (Call (gfx.SetDepthStencil s reference)) h = naturals words.Ds depth_stencil_set (depth_stencil_numbers s reference) _ refl (λ im. refl) refl refl (λ ws. refl) (depth_stencil_again s reference) h
 verb_fits (Call (gfx.SetBlend b)) h = naturals words.Blend blend_set (blend_numbers b) _ refl (λ im. refl) refl refl (λ ws. refl) (blend_again b) h
@@ -293,6 +338,69 @@ predicate_backs ls (a ∷ b ∷ c ∷ ws) found fits = absurd (none (sym (many (
     none : None ≡ Some ls → ⊥
     none e = absurd cc
 
+-- words that fit some kinds and others behind them
+fit-parts : (ks ls : List Kind) (ws vs : List (List ℕ)) → length ks ≡ length ws → fit (ks ++ ls) (ws ++ vs) ≡ true → (fit ks ws ≡ true) × (fit ls vs ≡ true)
+fit-parts [] ls [] vs e h = (refl, h)
+fit-parts [] ls (w ∷ ws) vs e h = absurd (omega arith)
+fit-parts (k ∷ ks) ls [] vs e h = absurd (omega arith)
+fit-parts (k ∷ ks) ls (w ∷ ws) vs e h =
+    let more = fit-parts ks ls ws vs (omega arith) (and_right (fits_kind k w) (fit (ks ++ ls) (ws ++ vs)) h) in
+    (rw (and_left (fits_kind k w) (fit (ks ++ ls) (ws ++ vs)) h) more.0, more.1)
+
+unbiased_backs : (a b c : List ℕ) → fit (kinds (ranges words.Raster)) (a ∷ b ∷ c ∷ []) ≡ true → Backs words.Raster (a ∷ b ∷ c ∷ [])
+unbiased_backs a b c fits =
+    let n = naturals_back (ranges words.Raster) (a ∷ b ∷ c ∷ []) refl refl fits in
+    let back = raster_back (map value (a ∷ b ∷ c ∷ [])) (pos 0) n.1 in
+    record {
+      words = ap (λ ns. codes "raster" ∷ (map decimal ns ++ [])) back ∙ ap (λ ws. codes "raster" ∷ ws) n.0;
+      verb = (subst (AreIn (ranges words.Raster)) (sym back) n.1, record { sfits = grind (arith, nat_tests) });
+      taken = λ im. refl;
+    }
+
+biased_backs : (a b c d : List ℕ) → fit (kinds (ranges words.Raster) ++ NonZero ∷ []) (a ∷ b ∷ c ∷ d ∷ []) ≡ true → Backs words.Raster (a ∷ b ∷ c ∷ d ∷ [])
+biased_backs a b c d fits =
+    let parts = fit-parts (kinds (ranges words.Raster)) (NonZero ∷ []) (a ∷ b ∷ c ∷ []) (d ∷ []) refl fits in
+    let n = naturals_back (ranges words.Raster) (a ∷ b ∷ c ∷ []) refl refl parts.0 in
+    let z = nonzero_is d (and_left (fits_kind NonZero d) true parts.1) in
+    let back = raster_back (map value (a ∷ b ∷ c ∷ [])) (number d) n.1 in
+    record {
+      words = ap (λ ns. codes "raster" ∷ (map decimal ns ++ bias_words (number d))) back ∙ ap (λ ws. codes "raster" ∷ (ws ++ bias_words (number d))) n.0 ∙ ap (λ ws. codes "raster" ∷ a ∷ b ∷ c ∷ ws) (spelled_bias (number d) z.2 ∙ ap (λ w. w ∷ []) (sym z.0));
+      verb = (subst (AreIn (ranges words.Raster)) (sym back) n.1, z.1);
+      taken = λ im. refl;
+    }
+
+raster_backs : (ls : List Kind) (ws : List (List ℕ)) → kinds_of (shape words.Raster) (length ws) ≡ Some ls → fit ls ws ≡ true → Backs words.Raster ws
+raster_backs ls [] found fits = absurd cc
+raster_backs ls (a ∷ []) found fits = absurd cc
+raster_backs ls (a ∷ b ∷ []) found fits = absurd cc
+raster_backs ls (a ∷ b ∷ c ∷ []) found fits =
+    let same : kinds (ranges words.Raster) ≡ ls = cc in
+    unbiased_backs a b c (subst (λ ks. fit ks (a ∷ b ∷ c ∷ []) ≡ true) (sym same) fits)
+raster_backs ls (a ∷ b ∷ c ∷ d ∷ []) found fits =
+    let same : kinds (ranges words.Raster) ++ NonZero ∷ [] ≡ ls = cc in
+    biased_backs a b c d (subst (λ ks. fit ks (a ∷ b ∷ c ∷ d ∷ []) ≡ true) (sym same) fits)
+raster_backs ls (a ∷ b ∷ c ∷ d ∷ e ∷ ws) found fits = absurd (none (sym (many (length ws)) ∙ found))
+  where
+    ks : List Kind
+    ks = kinds (ranges words.Raster)
+
+    not_three : (n : ℕ) → eqb 3 (n + 5) ≡ false
+    not_three n = grind (arith, nat_tests)
+
+    not_four : (n : ℕ) → eqb 4 (n + 5) ≡ false
+    not_four n = grind (arith, nat_tests)
+
+    five : (n : ℕ) → suc (suc (suc (suc (suc n)))) ≡ n + 5
+    five n = omega arith
+
+    many : (n : ℕ) → kinds_of (shape words.Raster) (suc (suc (suc (suc (suc n))))) ≡ None
+    many n =
+        ap (kinds_of (shape words.Raster)) (five n)
+        ∙ ap (λ t. cond t (Some ks) (cond (eqb 4 (n + 5)) (Some (ks ++ NonZero ∷ [])) None)) (not_three n) ∙ ap (λ t. cond t (Some (ks ++ NonZero ∷ [])) None) (not_four n)
+
+    none : None ≡ Some ls → ⊥
+    none e = absurd cc
+
 -- words that fit a command are those of the verb that they make
 pub backs : (c : CommandWord) (ls : List Kind) (ws : List (List ℕ)) → kinds_of (shape c) (length ws) ≡ Some ls → fit ls ws ≡ true → Backs c ws
 backs words.Vb ls ws found fits =
@@ -302,7 +410,7 @@ backs words.Vb ls ws found fits =
     record { words = ap (λ x. codes "vb" ∷ x) r.0; verb = r.1; taken = λ im. refl }
 backs words.Ib ls ws found fits = indices_backs ls ws found fits
 backs words.Topology ls ws found fits = naturals_backs words.Topology topology_set refl refl (λ ws. refl) topology_made ls ws found fits
-backs words.Raster ls ws found fits = naturals_backs words.Raster raster_set refl refl (λ ws. refl) raster_made ls ws found fits
+backs words.Raster ls ws found fits = raster_backs ls ws found fits
 backs words.Scissor ls ws found fits = naturals_backs words.Scissor scissor_set refl refl (λ ws. refl) scissor_made ls ws found fits
 backs words.Ds ls ws found fits = naturals_backs words.Ds depth_stencil_set refl refl (λ ws. refl) depth_stencil_made ls ws found fits
 backs words.Blend ls ws found fits = naturals_backs words.Blend blend_set refl refl (λ ws. refl) blend_made ls ws found fits

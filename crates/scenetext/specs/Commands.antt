@@ -5,7 +5,7 @@ use Rattle.scenetext.specs.declared.command.CommandWord.{CommandWord}
 use Rattle.scenetext.specs.declared.command.CommandWord.TheVariants.{Vb, Ib, Topology, Raster, Scissor, Ds, Blend, Predicate, Draw, Drawi, Clearc, Cleards, Begin, End, Finish, Flush, Exec, Query, Pixel}
 use Rattle.scenetext.specs.declared.range.Range.{Range}
 use Rattle.scenetext.specs.declared.range.TheConstants.{U32, BYTE, FLAG, INDEX, TOPOLOGY, CULL, COMPARISON, STENCIL_OP, LOGIC_OP, COLOR_MASK}
-use Rattle.scenetext.specs.Numbers.{Kind, Context, i32s}
+use Rattle.scenetext.specs.Numbers.{Kind, NonZero, Context, i32s}
 use Rattle.scenetext.specs.Ranges.{kinds}
 
 abbrev pub commands : List CommandWord
@@ -58,7 +58,7 @@ serves Pixel immediate = immediate
 abbrev pub face_ranges : List Range
 face_ranges = STENCIL_OP ∷ STENCIL_OP ∷ STENCIL_OP ∷ COMPARISON ∷ []
 
--- the ranges of a command's natural numbers, in order: of one vertex behind its x and y, of one index, of `predicate` where it has any, of `drawi` before its base, of `exec` behind its context
+-- the ranges of a command's natural numbers, in order: of one vertex behind its x and y, of one index, of `raster` before its bias, of `predicate` where it has any, of `drawi` before its base, of `exec` behind its context
 abbrev pub ranges : CommandWord → List Range
 ranges Vb = U32 ∷ BYTE ∷ BYTE ∷ BYTE ∷ BYTE ∷ []
 ranges Ib = INDEX ∷ []
@@ -92,6 +92,7 @@ vertex_kinds = i32s ∷ i32s ∷ kinds (ranges Vb)
 abbrev pub shape : CommandWord → Shape
 shape Vb = Groups vertex_kinds
 shape Ib = Groups (kinds (ranges Ib))
+shape Raster = OneOf (kinds (ranges Raster) ∷ (kinds (ranges Raster) ++ NonZero ∷ []) ∷ [])
 shape Predicate = OneOf ([] ∷ kinds (ranges Predicate) ∷ [])
 shape Drawi = OneOf ((kinds (ranges Drawi) ++ i32s ∷ []) ∷ [])
 shape Exec = OneOf ((Context ∷ kinds (ranges Exec)) ∷ [])

@@ -1,11 +1,12 @@
 -- Arguments: numbers in a range, and names of contexts.
-use Rattle.std.specs.Prelude.{ℕ, ℤ, pos, negsuc, ◌+◌, ◌==◌, nat_le, int_le, Bool, true, false, ◌&&◌, List, [], ◌∷◌, bytes_eq}
+use Rattle.std.specs.Prelude.{ℕ, ℤ, pos, negsuc, ◌+◌, ◌==◌, nat_le, int_le, Bool, true, false, ◌&&◌, not, decimal, List, [], ◌∷◌, bytes_eq}
 use Rattle.std.specs.Fmt.{signed_decimal}
 use Rattle.std.specs.Str.Parse.{signed_digits_value}
 
--- what may stand as an argument
+-- what may stand as an argument: a number of a range, a number of 32 bits with a sign and other than 0, or a context
 pub data Kind : Type 0 where
   Number : (low high : ℤ) → Kind
+  NonZero : Kind
   Context : Kind
 
 -- a number is spelled in plain decimal, and has no other spelling
@@ -24,6 +25,7 @@ is_context w = false
 
 abbrev pub fits_kind : Kind → List ℕ → Bool
 fits_kind (Number low high) w = is_number low high w
+fits_kind NonZero w = is_number (negsuc 2147483647) (pos 2147483647) w && not (bytes_eq w (decimal 0))
 fits_kind Context w = is_context w
 
 -- each word is of its kind

@@ -1,5 +1,5 @@
 -- The spelling of a scene: what stands in its text, word by word.
-use Rattle.std.specs.Prelude.{ℕ, pos, ◌≡◌, ◌<◌, Bool, true, false, not, ◌&&◌, ◌==◌, Option, Some, None, List, [], ◌∷◌, ◌++◌, map, decimal, codes, count_by, FitsSigned}
+use Rattle.std.specs.Prelude.{ℕ, ℤ, pos, zero, ◌≡◌, ◌<◌, Bool, true, false, not, ◌&&◌, ◌==◌, Option, Some, None, List, [], ◌∷◌, ◌++◌, map, decimal, codes, count_by, FitsSigned}
 use Rattle.std.specs.List.{flat_map, AllByRecursion}
 use Rattle.std.specs.Int.{w32}
 use Rattle.std.specs.Fmt.{signed_decimal}
@@ -38,6 +38,11 @@ vertex_words v = signed_decimal v.x ∷ signed_decimal v.y ∷ decimal v.z ∷ m
 abbrev pub raster_numbers : RasterSetting → List ℕ
 raster_numbers r = cull_number r.cull ∷ flag_number r.front_ccw ∷ flag_number r.scissor ∷ []
 
+-- a bias of 0 is not spelled
+abbrev pub bias_words : ℤ → List (List ℕ)
+bias_words (pos zero) = []
+bias_words bias = signed_decimal bias ∷ []
+
 abbrev pub face_numbers : FaceSetting → List ℕ
 face_numbers f = stencil_op_number f.fail ∷ stencil_op_number f.depth_fail ∷ stencil_op_number f.pass ∷ compare_number f.func ∷ []
 
@@ -62,7 +67,7 @@ abbrev pub verb_words : Verb → List (List ℕ)
 verb_words (Call (gfx.SetVertices vertices)) = codes "vb" ∷ flat_map vertex_words vertices
 verb_words (Call (gfx.SetIndices indices)) = codes "ib" ∷ map decimal indices
 verb_words (Call (gfx.SetTopology topology)) = codes "topology" ∷ decimal (topology_number topology) ∷ []
-verb_words (Call (gfx.SetRaster r)) = codes "raster" ∷ map decimal (raster_numbers r)
+verb_words (Call (gfx.SetRaster r)) = codes "raster" ∷ (map decimal (raster_numbers r) ++ bias_words r.depth_bias)
 verb_words (Call (gfx.SetScissor r)) = codes "scissor" ∷ map decimal (rect_numbers r)
 verb_words (Call (gfx.SetDepthStencil s reference)) = codes "ds" ∷ map decimal (depth_stencil_numbers s reference)
 verb_words (Call (gfx.SetBlend b)) = codes "blend" ∷ map decimal (blend_numbers b)
@@ -107,12 +112,12 @@ abbrev pub IsPredicate : Option (ℕ × Bool) → Type 0
 IsPredicate None = Unit {0}
 IsPredicate (Some (query, value)) = AreIn (ranges commands.Predicate) (query ∷ flag_number value ∷ [])
 
--- the values that the arguments may have: numbers in the ranges of the command; kept settings have no spelling, nor has a depth bias
+-- the values that the arguments may have: numbers in the ranges of the command; kept settings have no spelling
 abbrev pub IsVerb : Verb → Type 0
 IsVerb (Call (gfx.SetVertices vertices)) = AllByRecursion IsVertex vertices
 IsVerb (Call (gfx.SetIndices indices)) = AllByRecursion (λ i. AreIn (ranges commands.Ib) (i ∷ [])) indices
 IsVerb (Call (gfx.SetTopology topology)) = AreIn (ranges commands.Topology) (topology_number topology ∷ [])
-IsVerb (Call (gfx.SetRaster r)) = AreIn (ranges commands.Raster) (raster_numbers r) × (r.depth_bias ≡ pos 0)
+IsVerb (Call (gfx.SetRaster r)) = AreIn (ranges commands.Raster) (raster_numbers r) × FitsSigned w32 r.depth_bias
 IsVerb (Call (gfx.SetScissor r)) = AreIn (ranges commands.Scissor) (rect_numbers r)
 IsVerb (Call (gfx.SetDepthStencil s reference)) = AreIn (ranges commands.Ds) (depth_stencil_numbers s reference)
 IsVerb (Call (gfx.SetBlend b)) = AreIn (ranges commands.Blend) (blend_numbers b)

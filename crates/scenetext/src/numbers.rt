@@ -1,8 +1,8 @@
 //! Arguments that are numbers.
 
-ghost use Rattle.std.specs.Prelude.{◌≡◌, ◌≢◌, ◌<◌, ◌≤◌, ◌++◌, ◌∷◌, ℕ, ℤ, length, map, decimal, IfOk, IfErr, IfSome, IfNone, OnOk, Err, [], true, false};
+ghost use Rattle.std.specs.Prelude.{◌≡◌, ◌≢◌, ◌<◌, ◌≤◌, ◌++◌, ◌∷◌, ℕ, ℤ, pos, length, map, decimal, IfOk, IfErr, IfSome, IfNone, OnOk, Err, [], true, false};
 ghost use Rattle.std.specs.Fmt.{signed_decimal};
-ghost use Rattle.scenetext.specs.Numbers.{fits_kind, fit, i32s, is_context, context_word};
+ghost use Rattle.scenetext.specs.Numbers.{NonZero, fits_kind, fit, i32s, is_context, context_word};
 ghost use Rattle.scenetext.specs.Commands.{OneOf, vertex_kinds};
 ghost use Rattle.scenetext.specs.Spelling.{vertex_words, IsVertex};
 ghost use Rattle.scenetext.specs.Faults.{word};
@@ -47,6 +47,19 @@ pub(crate) fn next_integer(words: &mut Words) -> Result<i32, ReadError>
     match words.next().and_then(integer) {
         Some(number) => Ok(number),
         None => Err(ReadError::Fault(Fault::Argument)),
+    }
+}
+
+/// The number other than 0, which may be negative, that the next word spells.
+#[tactic(auto, using(crate::proofs::NumberLemmas::zero_fails, crate::proofs::NumberLemmas::integer_fails))]
+pub(crate) fn next_nonzero(words: &mut Words) -> Result<i32, ReadError>
+    requires { 0 < length words.old }
+    ensures ok { IfOk result (λ z. (words.old ≡ signed_decimal z ∷ words.new) × (z ≢ pos 0)) }
+    ensures err { IfErr result (λ e. (e ≡ ReadError.Fault Fault.Argument) × (fits_kind NonZero (word words.old 0) ≡ false)) }
+{
+    match next_integer(words)? {
+        0 => Err(ReadError::Fault(Fault::Argument)),
+        number => Ok(number),
     }
 }
 

@@ -1,14 +1,18 @@
 //! The arguments of each command.
 
-ghost use Rattle.std.specs.Prelude.{IfOk, IfErr};
+ghost use Rattle.std.specs.Prelude.{◌≡◌, length, IfOk, IfErr};
 ghost use Rattle.scenetext.specs.Seen.{verb_value};
 ghost use Rattle.scenetext.specs.Reading.{Reads, Refuses};
+ghost use Rattle.scenetext.specs.Commands.{ranges};
+ghost use Rattle.scenetext.specs.Ranges.{AreIn};
+ghost use Rattle.scenetext.specs.Spelling.{raster_numbers};
 
 use crate::choices::{color_mask_of, comparison_of, cull_of, face_of, logic_op_of, topology_of};
 use crate::command::CommandWord;
 use crate::fault::{Fault, ReadError};
 use crate::numbers::{
-    expect, naturals, next_context, next_integer, next_natural, next_naturals, next_vertex,
+    expect, naturals, next_context, next_integer, next_natural, next_naturals, next_nonzero,
+    next_vertex,
 };
 use crate::range::{
     BYTE, COLOR_MASK, COMPARISON, CULL, FLAG, INDEX, LOGIC_OP, Range, STENCIL_OP, TOPOLOGY, U32,
@@ -60,16 +64,43 @@ fn set_topology<A: Allocator>(words: &mut Words) -> Result<Verb<A>, ReadError>
     Ok(Verb::SetTopology(topology_of(topology)))
 }
 
+/// The rasterizer state of three numbers and a bias.
+fn raster_of(numbers: [u32; 3], depth_bias: i32) -> RasterState
+    requires { AreIn (ranges CommandWord.Raster) numbers }
+    ensures numbers { raster_numbers result ≡ numbers }
+    ensures bias { result.depth_bias ≡ depth_bias }
+{
+    let [cull, front_ccw, scissor] = numbers;
+    RasterState::new(RasterDesc {
+        cull: cull_of(cull),
+        front_ccw: front_ccw == 1,
+        scissor: scissor == 1,
+        depth_bias,
+    })
+}
+
+/// The rasterizer state of four words, of which the last is a bias.
+#[tactic(auto, using(crate::proofs::ReadLemmas::numbers_refused, crate::proofs::ReadLemmas::bias_refused))]
+fn set_biased_raster<A: Allocator>(words: &mut Words) -> Result<Verb<A>, ReadError>
+    requires { length words.old ≡ 4 }
+    ensures ok { IfOk result (λ v. Reads CommandWord.Raster words.old (verb_value v)) }
+    ensures err { IfErr result (Refuses CommandWord.Raster words.old) }
+{
+    let numbers = next_naturals(words, [CULL, FLAG, FLAG])?;
+    let depth_bias = next_nonzero(words)?;
+    Ok(Verb::SetRaster(raster_of(numbers, depth_bias)))
+}
+
 fn set_raster<A: Allocator>(words: &mut Words) -> Result<Verb<A>, ReadError>
     ensures ok { IfOk result (λ v. Reads CommandWord.Raster words.old (verb_value v)) }
     ensures err { IfErr result (Refuses CommandWord.Raster words.old) }
 {
-    let [cull, front_ccw, scissor] = naturals(words, [CULL, FLAG, FLAG])?;
-    Ok(Verb::SetRaster(RasterState::new(RasterDesc {
-        cull: cull_of(cull),
-        front_ccw: front_ccw == 1,
-        scissor: scissor == 1,
-    })))
+    if words.count() == 4 {
+        return set_biased_raster(words);
+    }
+    expect(words, 3)?;
+    let numbers = next_naturals(words, [CULL, FLAG, FLAG])?;
+    Ok(Verb::SetRaster(raster_of(numbers, 0)))
 }
 
 fn set_scissor<A: Allocator>(words: &mut Words) -> Result<Verb<A>, ReadError>
