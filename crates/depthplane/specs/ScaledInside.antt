@@ -1,15 +1,15 @@
--- What eight walks keep: the heights there, divided by the area, in 2^40ths.
+-- What eight walks without a bias keep: the heights there, divided by the area, in 2^40ths.
 use Rattle.std.specs.Prelude.{◌≡◌, ℕ, ◌<◌, ◌≤◌, ◌+◌, ◌*◌, ◌-ℤ◌, IsTrue, slice_index, unsigned_abs}
 use Rattle.gfxspec.specs.Limits.{side_bound}
 use Rattle.gfxspec.specs.Raster.{centre}
 use Rattle.depthplane.specs.declared.walks_scaled.ScaledWalks.TheInside.{Inside}
 use Rattle.depthplane.specs.Division.{IsDivisor}
-use Rattle.depthplane.specs.Height.{height, size_of, AreDepths}
+use Rattle.depthplane.specs.Height.{without_bias, height, size_of, AreDepths}
 use Rattle.depthplane.specs.Places.{Places}
 use Rattle.depthplane.specs.Scaled.{IsScaled, excess_at}
 
 abbrev pub place_of : Inside → Places
-place_of w = record { plane = w.plane.now; left = w.left; top = w.top; x = w.x; y = w.y }
+place_of w = record { plane = without_bias w.plane.now; left = w.left; top = w.top; x = w.x; y = w.y }
 
 -- lane j is at pixel (x + j, y); the steps are what eight pixels to the right and one row down add anywhere
 pub record AreWalks (w : Inside) : Type 0 where

@@ -12,7 +12,7 @@ pub trait Walks: Drop {
     /// Where the walks are.
     ghost place: { Self → Places };
 
-    /// The depths at the eight pixels, exact and rounded down wherever the triangle covers the centre.
+    /// The depths at the eight pixels, exact, rounded down and moved by the bias, wherever the triangle covers the centre.
     fn depths(&self) -> [u32; 8]
         ensures { (j : ℕ) → j < 8 → IsNearStart (place self.now) j
             → IsTrue (covers (place self.now).plane.triangle (centre ((place self.now).x + j) (place self.now).y))

@@ -4,7 +4,7 @@ ghost use Rattle.std.specs.Prelude.{◌≡◌, ◌≢◌, ℕ, ◌<◌, ◌≤�
 ghost use Rattle.gfxspec.specs.Limits.{side_bound};
 ghost use Rattle.depthplane.specs.Division.{IsDivisor};
 ghost use Rattle.gfxspec.specs.Raster.{centre};
-ghost use Rattle.depthplane.specs.Height.{height, size_of};
+ghost use Rattle.depthplane.specs.Height.{without_bias, height, size_of};
 ghost use Rattle.depthplane.specs.Mended.{mended_by};
 
 use crate::plane::Plane;
@@ -17,7 +17,7 @@ use std::simd::prelude::*;
 /// pixel.
 const NEAR: u64 = 16_384;
 
-/// Eight walks by multiples of 2^-40. The steps stand in the walks themselves, so that a loop over rows needn't read them from
+/// Eight walks by multiples of 2^-40, over the depths before any bias. The steps stand in the walks themselves, so that a loop over rows needn't read them from
 /// the plane again. A value that lies too near above a whole number to be sure of its depth is looked at exactly.
 #[derive(Drop)]
 pub struct ScaledWalks<'a> {
@@ -123,11 +123,11 @@ fn is_sure(area: i64, error: u8) -> bool
 }
 
 impl Plane {
-    /// Eight walks that begin at pixel (x, y) and the seven to its right.
+    /// Eight walks that begin at pixel (x, y) and the seven to its right, over the depths before any bias.
     pub fn walk_eight(&self, x: u32, y: u32) -> ScaledWalks<'_>
         requires x { x < side_bound }
         requires y { y < side_bound }
-        ensures { result ≡ record { plane = self.now; left = x; top = y; x = x; y = y } }
+        ensures { result ≡ record { plane = without_bias self.now; left = x; top = y; x = x; y = y } }
     {
         let scaled = self.scaled;
         ScaledWalks {

@@ -1,0 +1,27 @@
+//! A bias is added to depths, within their range.
+
+ghost use Rattle.std.specs.Prelude.{◌≡◌, ℕ, ◌<◌, slice_index};
+ghost use Rattle.gfxspec.specs.Depth.{biased};
+
+use gfxspec::DEPTH_MAX;
+
+/// A depth moved by a bias, in units of depth: the sum, or the end of the range of depths that it passes
+/// (Direct3D 11.3 Functional Specification, "Rasterizer Stage", depth bias).
+#[inline]
+pub fn with_bias(depth: u32, bias: i32) -> u32
+    ensures { result ≡ biased bias depth }
+{
+    (i64::from(depth) + i64::from(bias)).clamp(0, i64::from(DEPTH_MAX)) as u32
+}
+
+/// Eight depths moved by a bias.
+#[inline]
+pub(crate) fn with_bias8(depths: [u32; 8], bias: i32) -> [u32; 8]
+    ensures { (j : ℕ) → j < 8 → slice_index result j ≡ biased bias (slice_index depths j) }
+{
+    let mut all = [0; 8];
+    for j in 0..8usize {
+        all[j] = with_bias(depths[j], bias);
+    }
+    all
+}
