@@ -82,6 +82,7 @@ pub record IsSetupOf (t : TriSetup) (p : Primitive) (s : Settings) : Type 0 wher
   pub z0 : t.plane.z0 ≡ p.first.z
   pub z1 : t.plane.z1 ≡ p.second.z
   pub z2 : t.plane.z2 ≡ p.third.z
+  pub bias : t.plane.bias ≡ s.raster.depth_bias
   pub kept : is_culled s.raster.cull (facing p s) ≡ false
   pub face : (d : DepthStencilSetting) → (if t.front then d.front else d.back) ≡ face_setting (facing p s) d
   pub rgba : t.rgba ≡ p.first.rgba

@@ -5,10 +5,10 @@ use Rattle.gfxspec.specs.declared.pixel.Pixel.{Pixel}
 use Rattle.gfxspec.specs.declared.pixel.DepthStencil.{DepthStencil}
 use Rattle.gfxspec.specs.declared.geometry.PixelRect.{PixelRect}
 use Rattle.gfxspec.specs.Raster.{Point, Triangle, centre, edge, edge_holds}
-use Rattle.gfxspec.specs.Depth.{depth_at, biased}
 use Rattle.gfxspec.specs.DepthStencil.{TestOutcome, tested}
 use Rattle.gfxspec.specs.Color.{written_color}
 use Rattle.gfxspec.specs.Items.{is_in_rect}
+use Rattle.depthplane.specs.Place.{depth_of}
 use Rattle.tileword.specs.declared.edge_mask.EdgeMask.{EdgeMask}
 use Rattle.tileword.specs.declared.word.Word.{Word}
 use Rattle.tileword.specs.declared.word.Word.TheVariants.{State, Tri, ClearC, ClearDs}
@@ -36,14 +36,10 @@ lets_through e x y = not e.raster.scissor || is_in_rect e.scissor x y
 abbrev pub reaches_by : EdgeMask → TriSetup → StateEntry → ℕ → ℕ → Bool
 reaches_by m t e x y = passes_edges m t.edges (centre x y) && lets_through e x y
 
-abbrev pub depth_of : TriSetup → StateEntry → ℕ → ℕ → ℕ
-depth_of t e x y =
-    biased e.raster.depth_bias (depth_at t.plane.triangle t.plane.z0 t.plane.z1 t.plane.z2 (centre x y))
-
--- both tests of a triangle at a pixel that it reaches
+-- both tests of a triangle at a pixel that it reaches; its plane has the bias
 abbrev pub outcome : TriSetup → StateEntry → ℕ → ℕ → Pixel → TestOutcome
 outcome t e x y old =
-    tested e.depth_stencil (if t.front then e.depth_stencil.front else e.depth_stencil.back) e.reference (depth_of t e x y) old.ds
+    tested e.depth_stencil (if t.front then e.depth_stencil.front else e.depth_stencil.back) e.reference (depth_of t.plane x y) old.ds
 
 abbrev pub drawn : TriSetup → StateEntry → TestOutcome → Pixel → Pixel
 drawn t e tests old =

@@ -13,7 +13,7 @@ ghost use Rattle.binner.specs.Meaning.{IsSetupOf};
 use crate::setup::TriSetup;
 use assemble::{culled, facing};
 use cmdlist::State;
-use depthplane::Plane;
+use depthplane::{Plane, with_bias};
 use edges::EdgeSet;
 use gfxspec::{Facing, PixelRect, Size, Vertex};
 use snap::SnapTri;
@@ -82,14 +82,15 @@ pub(crate) fn prepared(vertices: &[Vertex; 3], state: &State<'_>, size: Size) ->
     if !is_seen(bounds, size) {
         return None;
     }
-    let plane = Plane::of(&corners, [first.z, second.z, third.z]);
+    let bias = state.raster.depth_bias();
+    let plane = Plane::of_biased(&corners, [first.z, second.z, third.z], bias);
     Some(TriSetup {
         edges,
         plane,
         bounds,
         front: is_front(facing),
         rgba: first.rgba,
-        least_depth: first.z.min(second.z).min(third.z),
-        greatest_depth: first.z.max(second.z).max(third.z),
+        least_depth: with_bias(first.z.min(second.z).min(third.z), bias),
+        greatest_depth: with_bias(first.z.max(second.z).max(third.z), bias),
     })
 }

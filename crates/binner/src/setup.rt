@@ -2,6 +2,7 @@
 
 ghost use Rattle.std.specs.Prelude.{◌≡◌, ◌≤◌, false, min, max};
 ghost use Rattle.gfxspec.specs.Limits.{side_bound};
+ghost use Rattle.gfxspec.specs.Depth.{biased};
 ghost use Rattle.gfxspec.specs.Raster.{is_empty};
 ghost use Rattle.depthplane.specs.Height.{AreDepths};
 
@@ -23,14 +24,14 @@ pub struct TriSetup {
     pub front: bool,
     /// The leading vertex's colour.
     pub rgba: [u8; 4],
-    /// The least and the greatest depth of its vertices.
+    /// The least and the greatest depth of its vertices, moved by the bias.
     pub least_depth: u32,
     pub greatest_depth: u32,
     pub ghost same: { plane.triangle ≡ edges },
     pub ghost solid: { is_empty edges ≡ false },
     pub ghost deep: { AreDepths plane },
-    pub ghost least: { least_depth ≡ min (min plane.z0 plane.z1) plane.z2 },
-    pub ghost greatest: { greatest_depth ≡ max (max plane.z0 plane.z1) plane.z2 },
+    pub ghost least: { least_depth ≡ biased plane.bias (min (min plane.z0 plane.z1) plane.z2) },
+    pub ghost greatest: { greatest_depth ≡ biased plane.bias (max (max plane.z0 plane.z1) plane.z2) },
     pub ghost right: { bounds.right ≤ side_bound },
     pub ghost bottom: { bounds.bottom ≤ side_bound },
 }

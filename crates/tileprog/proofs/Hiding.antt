@@ -11,12 +11,13 @@ use Rattle.gfxspec.specs.declared.geometry.PixelRect.{PixelRect}
 use Rattle.gfxspec.specs.declared.state.Compare.{Compare}
 use Rattle.gfxspec.specs.declared.state.Compare.TheVariants.{Never, Less, Equal, LessEqual, Greater, NotEqual, GreaterEqual, Always}
 use Rattle.gfxspec.specs.DepthStencil.{DepthStencilSetting, FaceSetting, TestOutcome, tested, compares}
-use Rattle.gfxspec.specs.Depth.{weight}
+use Rattle.gfxspec.specs.Depth.{weight, depth_at, biased}
 use Rattle.gfxspec.specs.Items.{is_in_rect}
 use Rattle.gfxspec.specs.Raster.{Triangle, Point, centre, covers, is_empty, area, edge, edge_holds}
 use Rattle.gfxspec.specs.Tiles.{IsIn}
 use Rattle.snap.proofs.CoverLaws.{all_hold, weights_sum}
 use Rattle.depthplane.specs.Place.{depth_of}
+use Rattle.depthplane.proofs.Biases.{biased_order}
 use Rattle.classify.specs.Region.{IsClassOf}
 use Rattle.classify.specs.declared.Class.TheVariants.{Cut}
 use Rattle.tileword.specs.declared.edge_mask.EdgeMask.{EdgeMask}
@@ -34,7 +35,6 @@ use Rattle.tileprog.specs.Counting.{one_if}
 use Rattle.tileprog.specs.Edges.{passes_edges}
 use Rattle.tileprog.specs.Hidden.{NonePasses, none_passes, greatest_after, IsHidden, AreAfter, IsWhole}
 use Rattle.tileprog.specs.Passing.{triangle_count, IsTile}
-use Rattle.tileprog.proofs.Biases.{unbiased, depth_small}
 use Rattle.tileprog.proofs.Lanes.{tested_depth}
 use Rattle.tileprog.proofs.Summing.{sum_over_none}
 use Rattle.tileprog.proofs.Under.{named_covers, passes_are, reach_is}
@@ -88,17 +88,17 @@ module _ (t : TriSetup) (x y : ℕ) (c : covers t.edges (centre x y) ≡ true) w
   depth_least =
       let p = centre x y in
       let r = t.plane.triangle in
-      let l = t.least in
-      least_mean (weight r 0 p) (weight r 1 p) (weight r 2 p) t.plane.z0 t.plane.z1 t.plane.z2 t.least_depth
-      (omega (arith, l)) (omega (arith, l)) (omega (arith, l)) (some_weight r p solid_plane covered_plane)
+      let m = min (min t.plane.z0 t.plane.z1) t.plane.z2 in
+      let below = least_mean (weight r 0 p) (weight r 1 p) (weight r 2 p) t.plane.z0 t.plane.z1 t.plane.z2 m (omega arith) (omega arith) (omega arith) (some_weight r p solid_plane covered_plane) in
+      subst (λ n. n ≤ depth_of t.plane x y) (sym t.least) (biased_order t.plane.bias m (depth_at r t.plane.z0 t.plane.z1 t.plane.z2 p) below)
 
   pub depth_greatest : depth_of t.plane x y ≤ t.greatest_depth
   depth_greatest =
       let p = centre x y in
       let r = t.plane.triangle in
-      let g = t.greatest in
-      greatest_mean (weight r 0 p) (weight r 1 p) (weight r 2 p) t.plane.z0 t.plane.z1 t.plane.z2 t.greatest_depth
-      (omega (arith, g)) (omega (arith, g)) (omega (arith, g))
+      let m = max (max t.plane.z0 t.plane.z1) t.plane.z2 in
+      let above = greatest_mean (weight r 0 p) (weight r 1 p) (weight r 2 p) t.plane.z0 t.plane.z1 t.plane.z2 m (omega arith) (omega arith) (omega arith) in
+      subst (λ n. depth_of t.plane x y ≤ n) (sym t.greatest) (biased_order t.plane.bias (depth_at r t.plane.z0 t.plane.z1 t.plane.z2 p) m above)
 
 -- ---- a stored depth
 
@@ -169,22 +169,18 @@ module _ (t : TriSetup) (e : StateEntry) (m : EdgeMask) (old : Block) (class : I
       let named : P.passes_edges m t.edges (centre u v) ≡ true = first (P.passes_edges m t.edges (centre u v)) (lets_through e u v) r in
       named_covers (edge_bits m) t.edges old.rect u v t.solid class is (passes_are m t.edges (centre u v) ∙ named)
 
-  depth_is : (u v : ℕ) → e.raster.depth_bias ≡ pos 0 → depth_of t.plane u v ≡ P.depth_of t e u v
-  depth_is u v none = unbiased (depth_of t.plane u v) e.raster.depth_bias (depth_small t.plane u v t.deep) none
-
   module _ (stored : Option DepthBounds) (known : IfSome stored (λ w. LieBetween old w.least w.greatest)) where
     lies : (w : DepthBounds) → stored ≡ Some w → LieBetween old w.least w.greatest
     lies w is = subst (λ o. IfSome o (λ w. LieBetween old w.least w.greatest)) is known
 
-    module _ (h : IsHidden e.depth_stencil e.raster.depth_bias t.least_depth t.greatest_depth stored) where
+    module _ (h : IsHidden e.depth_stencil t.least_depth t.greatest_depth stored) where
       test_fails : (u v : ℕ) → IsIn old.rect u v → reaches_by m t e u v ≡ true → outcome t e u v (pixel_at old u v) ≡ record { after = (pixel_at old u v).ds; passed = false }
       test_fails u v is r =
           let c = covered u v is r in
           let was = lies h.was h.known u v is in
           let fails : compares e.depth_stencil.func (depth_of t.plane u v) (pixel_at old u v).ds.depth ≡ false
           = none_pass e.depth_stencil.func t.least_depth t.greatest_depth h.was.least h.was.greatest h.none (depth_of t.plane u v) (pixel_at old u v).ds.depth (depth_least t u v c) (depth_greatest t u v c) was.0 was.1 in
-          failed e.depth_stencil (face_of t e) e.reference (P.depth_of t e u v) (pixel_at old u v).ds h.unmoved.stencil h.unmoved.depth
-          (ap (λ z. compares e.depth_stencil.func z (pixel_at old u v).ds.depth) (sym (depth_is u v h.unmoved.still)) ∙ fails)
+          failed e.depth_stencil (face_of t e) e.reference (depth_of t.plane u v) (pixel_at old u v).ds h.alone.stencil h.alone.depth fails
 
       pub hidden_pixel : (u v : ℕ) → IsIn old.rect u v → pixel_at old u v ≡ triangle_by m (Some t) (Some e) u v (pixel_at old u v)
       hidden_pixel u v is = by (reaches_by m t e u v) refl
@@ -202,15 +198,14 @@ module _ (t : TriSetup) (e : StateEntry) (m : EdgeMask) (old : Block) (class : I
 
     -- what the depths lie between behind it
     module _ (new : Block) (whole : Bool) (d : DepthBounds)
-        (a : AreAfter e.depth_stencil e.raster.depth_bias t.least_depth t.greatest_depth whole stored d)
+        (a : AreAfter e.depth_stencil t.least_depth t.greatest_depth whole stored d)
         (pixels : (u v : ℕ) → IsIn old.rect u v → pixel_at new u v ≡ triangle_by m (Some t) (Some e) u v (pixel_at old u v))
         (reached : whole ≡ true → (u v : ℕ) → IsIn old.rect u v → reaches_by m t e u v ≡ true) where
       tested_depth_is : (u v : ℕ) → (outcome t e u v (pixel_at old u v)).after.depth ≡ depth_after e.depth_stencil.func (depth_of t.plane u v) (pixel_at old u v).ds.depth
       tested_depth_is u v =
           ap (λ (o : TestOutcome). o.after.depth)
-          (tested_depth e.depth_stencil (face_of t e) e.reference (P.depth_of t e u v) (pixel_at old u v).ds e.depth_stencil.func true (record { stencil = a.unmoved.stencil; depth = a.unmoved.depth; func_is = refl; write_is = a.write }))
-          ∙ ap (λ c. if c then P.depth_of t e u v else (pixel_at old u v).ds.depth) (and_true (compares e.depth_stencil.func (P.depth_of t e u v) (pixel_at old u v).ds.depth))
-          ∙ ap (λ z. depth_after e.depth_stencil.func z (pixel_at old u v).ds.depth) (sym (depth_is u v a.unmoved.still))
+          (tested_depth e.depth_stencil (face_of t e) e.reference (depth_of t.plane u v) (pixel_at old u v).ds e.depth_stencil.func true (record { stencil = a.alone.stencil; depth = a.alone.depth; func_is = refl; write_is = a.write }))
+          ∙ ap (λ c. if c then depth_of t.plane u v else (pixel_at old u v).ds.depth) (and_true (compares e.depth_stencil.func (depth_of t.plane u v) (pixel_at old u v).ds.depth))
 
       pub kept_between : (u v : ℕ) → IsIn old.rect u v → (d.least ≤ (pixel_at new u v).ds.depth) × ((pixel_at new u v).ds.depth ≤ d.greatest)
       kept_between u v is =
@@ -248,7 +243,7 @@ module _ (p : TriSetup) (e : StateEntry) (m : EdgeMask) (clip r : PixelRect) (ti
 -- what is kept behind it
 pub kept_if : (t : TriSetup) (e : StateEntry) (m : EdgeMask) (old new : Block) (clip : PixelRect) (stored after : Option DepthBounds) (whole : Bool) → IsTile old.rect → IsClassOf (Cut (edge_bits m)) t.edges old.rect → IsBounded t e →
     ((u v : ℕ) → IsIn old.rect u v → is_in_rect clip u v ≡ is_in_rect t.bounds u v) → IfSome stored (λ w. LieBetween old w.least w.greatest) → (whole ≡ true → IsWhole old.rect clip m) →
-    IfSome after (AreAfter e.depth_stencil e.raster.depth_bias t.least_depth t.greatest_depth whole stored) → new.rect ≡ old.rect →
+    IfSome after (AreAfter e.depth_stencil t.least_depth t.greatest_depth whole stored) → new.rect ≡ old.rect →
     ((u v : ℕ) → IsIn old.rect u v → pixel_at new u v ≡ triangle_by m (Some t) (Some e) u v (pixel_at old u v)) → IfSome after (λ d. LieBetween new d.least d.greatest)
 kept_if t e m old new clip stored None whole tile class bounded inside known all a rect pixels = a
 kept_if t e m old new clip stored (Some d) whole tile class bounded inside known all a rect pixels = λ u v is.

@@ -3,7 +3,6 @@ pub mod Bits
 pub mod Spanning
 pub mod Lanes
 pub mod Painted
-pub mod Biases
 pub mod Stroking
 pub mod Reaching
 pub mod Ones

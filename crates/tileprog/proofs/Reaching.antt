@@ -4,7 +4,6 @@ use Rattle.std.specs.Prelude.{nat_le, if◌then◌else◌, slice_index}
 use Rattle.std.proofs.lemmas.Bool.Decides.{nat_tests}
 use Rattle.gfxspec.specs.declared.pixel.Pixel.{Pixel}
 use Rattle.gfxspec.specs.declared.geometry.PixelRect.{PixelRect}
-use Rattle.gfxspec.specs.Depth.{biased}
 use Rattle.gfxspec.specs.Items.{is_in_rect}
 use Rattle.gfxspec.specs.Raster.{centre, covers}
 use Rattle.gfxspec.specs.Tiles.{IsIn, IsInTile}
@@ -16,7 +15,6 @@ use Rattle.tileprog.specs.Edges.{passes_edges}
 use Rattle.lanes.specs.Stencil.{has}
 use Rattle.tileprog.specs.SpanDrawn.{drawn_lane}
 use Rattle.tileprog.specs.Strokes.{Stroke, IsNamed, IsWithin, reached, stroked, stroke_passes, depth_there}
-use Rattle.tileprog.proofs.Biases.{depth_small}
 use Rattle.tileprog.proofs.Lanes.{has_none}
 
 -- depths of walks that began in a tile, at the lanes that lie in it
@@ -84,14 +82,10 @@ module _ (s : Stroke) (r : PixelRect) (x y cover : ℕ) (sound : IsNamed s.plane
             (λ i. (tested_by s.brush (depth_is j h is e i) (same j h i).ds).passed)
         by false e = refl
 
-  -- depths of walks, moved by the bias
-  pub walked_depth : (depths moved : List ℕ) → ((j : ℕ) → j < 8 → IsIn r (x + j) y → IsTrue (covers s.plane.triangle (centre (x + j) y)) → slice_index depths j ≡ depth_of s.plane (x + j) y)
-      → ((j : ℕ) → j < 8 → slice_index depths j ≤ 16777215 → slice_index moved j ≡ biased s.brush.bias (slice_index depths j))
-      → (j : ℕ) → j < 8 → IsIn r (x + j) y → reached s (x + j) y ≡ true → slice_index moved j ≡ depth_there s (x + j) y
-  walked_depth depths moved deep move j h is reach =
-      let at = deep j h is (sound.covered (x + j) y is (second _ _ reach)) in
-      let P : ℕ → Type 0 = λ n. n ≤ 16777215 in
-      move j h (subst P (sym at) (depth_small s.plane (x + j) y sound.depths)) ∙ ap (biased s.brush.bias) at
+  -- depths of walks
+  pub walked_depth : (depths : List ℕ) → ((j : ℕ) → j < 8 → IsIn r (x + j) y → IsTrue (covers s.plane.triangle (centre (x + j) y)) → slice_index depths j ≡ depth_of s.plane (x + j) y)
+      → (j : ℕ) → j < 8 → IsIn r (x + j) y → reached s (x + j) y ≡ true → slice_index depths j ≡ depth_there s (x + j) y
+  walked_depth depths deep j h is reach = deep j h is (sound.covered (x + j) y is (second _ _ reach))
 
   -- the depths of the eight pixels themselves, for a brush that asks for none
   abbrev pub eight_depths : List ℕ

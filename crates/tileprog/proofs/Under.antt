@@ -7,7 +7,6 @@ use Rattle.std.proofs.lemmas.Nat.Bits.{bit_at-lt}
 use Rattle.gfxspec.specs.declared.pixel.Pixel.{Pixel}
 use Rattle.gfxspec.specs.declared.geometry.PixelRect.{PixelRect}
 use Rattle.gfxspec.specs.Color.{written_color}
-use Rattle.gfxspec.specs.Depth.{biased}
 use Rattle.gfxspec.specs.DepthStencil.{tested}
 use Rattle.gfxspec.specs.Items.{is_in_rect}
 use Rattle.gfxspec.specs.Raster.{Triangle, Point, centre, covers, is_empty, edge, edge_holds}
@@ -90,15 +89,14 @@ pub record IsBrushOf (b : Brush) (p : TriSetup) (e : StateEntry) : Type 0 where
   pub state : b.state ≡ e.depth_stencil
   pub front : b.front ≡ p.front
   pub reference : b.reference ≡ e.reference
-  pub bias : b.bias ≡ e.raster.depth_bias
   pub blend : b.blend ≡ e.blend
   pub rgba : b.rgba ≡ p.rgba
 
 module _ (b : Brush) (p : TriSetup) (e : StateEntry) (k : IsBrushOf b p e) (x y : ℕ) (old : Pixel) where
-  pub test_is : tested_by b (biased b.bias (depth_of p.plane x y)) old.ds ≡ outcome p e x y old
-  test_is = λ i. tested (k.state i) (if k.front i then (k.state i).front else (k.state i).back) (k.reference i) (biased (k.bias i) (depth_of p.plane x y)) old.ds
+  pub test_is : tested_by b (depth_of p.plane x y) old.ds ≡ outcome p e x y old
+  test_is = λ i. tested (k.state i) (if k.front i then (k.state i).front else (k.state i).back) (k.reference i) (depth_of p.plane x y) old.ds
 
-  pub drawn_is : drawn_by b (biased b.bias (depth_of p.plane x y)) old ≡ drawn p e (outcome p e x y old) old
+  pub drawn_is : drawn_by b (depth_of p.plane x y) old ≡ drawn p e (outcome p e x y old) old
   drawn_is = λ i. record { rgba = if (test_is i).passed then written_color (k.blend i) (k.rgba i) old.rgba else old.rgba; ds = (test_is i).after }
 
 -- ---- a triangle in its bounds
@@ -127,7 +125,7 @@ module _ (p : TriSetup) (e : StateEntry) (m : EdgeMask) (clip r : PixelRect) (ti
 
   pub under_is : (b : Brush) → IsBrushOf b p e → (u v : ℕ) → IsIn r u v → (old : Pixel) → stroked (record { brush = b; plane = p.plane; mask = edge_bits m; clip = clip }) u v old ≡ triangle_by m (Some p) (Some e) u v old
   under_is b k u v is old =
-      ap (λ c. if c then drawn_by b (biased b.bias (depth_of p.plane u v)) old else old) (reach_is u v is)
+      ap (λ c. if c then drawn_by b (depth_of p.plane u v) old else old) (reach_is u v is)
       ∙ ap (λ q. if reaches_by m p e u v then q else old) (drawn_is b p e k u v old)
 
   -- where the bounds leave nothing of a tile

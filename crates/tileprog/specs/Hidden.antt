@@ -1,5 +1,5 @@
 -- When a triangle can't pass the depth test at any pixel of a tile, by what its depths and the tile's lie between.
-use Rattle.std.specs.Prelude.{ℕ, ℤ, pos, ◌≡◌, ◌≤◌, ◌==◌, Bool, true, false, ◌&&◌, ◌||◌, nat_le, nat_lt, min, max, Option, Some, if◌then◌else◌}
+use Rattle.std.specs.Prelude.{ℕ, ◌≡◌, ◌≤◌, ◌==◌, Bool, true, false, ◌&&◌, ◌||◌, nat_le, nat_lt, min, max, Option, Some, if◌then◌else◌}
 use Rattle.gfxspec.specs.declared.state.Compare.{Compare}
 use Rattle.gfxspec.specs.declared.state.Compare.TheVariants.{Never, Less, Equal, LessEqual, Greater, NotEqual, GreaterEqual, Always}
 use Rattle.gfxspec.specs.DepthStencil.{DepthStencilSetting, compares}
@@ -23,15 +23,14 @@ none_passes NotEqual least greatest low high = (least == greatest) && ((low == h
 none_passes GreaterEqual least greatest low high = nat_lt greatest low
 none_passes Always least greatest low high = false
 
--- the state tests depth alone and moves no depth
-pub record IsUnmoved (s : DepthStencilSetting) (bias : ℤ) : Type 0 where
+-- the state tests depth alone
+pub record TestsDepthAlone (s : DepthStencilSetting) : Type 0 where
   pub stencil : s.stencil ≡ false
   pub depth : s.depth ≡ true
-  pub still : bias ≡ pos 0
 
 -- the triangle's depths pass against none of the stored ones
-pub record IsHidden (s : DepthStencilSetting) (bias : ℤ) (least greatest : ℕ) (stored : Option DepthBounds) : Type 0 where
-  pub unmoved : IsUnmoved s bias
+pub record IsHidden (s : DepthStencilSetting) (least greatest : ℕ) (stored : Option DepthBounds) : Type 0 where
+  pub alone : TestsDepthAlone s
   pub was : DepthBounds
   pub known : stored ≡ Some was
   pub none : none_passes s.func least greatest was.least was.greatest ≡ true
@@ -50,8 +49,8 @@ greatest_after GreaterEqual whole high greatest = max high greatest
 greatest_after Always whole high greatest = max high greatest
 
 -- `whole` where the triangle reaches each pixel of the tile
-pub record AreAfter (s : DepthStencilSetting) (bias : ℤ) (least greatest : ℕ) (whole : Bool) (stored : Option DepthBounds) (after : DepthBounds) : Type 0 where
-  pub unmoved : IsUnmoved s bias
+pub record AreAfter (s : DepthStencilSetting) (least greatest : ℕ) (whole : Bool) (stored : Option DepthBounds) (after : DepthBounds) : Type 0 where
+  pub alone : TestsDepthAlone s
   pub write : s.write ≡ true
   pub was : DepthBounds
   pub known : stored ≡ Some was

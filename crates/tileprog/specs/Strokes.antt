@@ -2,7 +2,6 @@
 use Rattle.std.specs.Prelude.{ℕ, ◌≡◌, ◌≤◌, ◌<◌, Bool, ◌&&◌, IsTrue, if◌then◌else◌}
 use Rattle.gfxspec.specs.declared.geometry.PixelRect.{PixelRect}
 use Rattle.gfxspec.specs.declared.pixel.Pixel.{Pixel}
-use Rattle.gfxspec.specs.Depth.{biased}
 use Rattle.gfxspec.specs.Items.{is_in_rect}
 use Rattle.gfxspec.specs.Raster.{centre, covers}
 use Rattle.gfxspec.specs.Tiles.{IsIn}
@@ -24,7 +23,7 @@ abbrev pub reached : Stroke → ℕ → ℕ → Bool
 reached s x y = is_in_rect s.clip x y && passes_edges s.mask s.plane.triangle (centre x y)
 
 abbrev pub depth_there : Stroke → ℕ → ℕ → ℕ
-depth_there s x y = biased s.brush.bias (depth_of s.plane x y)
+depth_there s x y = depth_of s.plane x y
 
 -- a pixel after the stroke
 abbrev pub stroked : Stroke → ℕ → ℕ → Pixel → Pixel

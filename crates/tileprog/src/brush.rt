@@ -14,8 +14,6 @@ pub(crate) struct Brush {
     pub(crate) state: DepthStencilState,
     pub(crate) front: bool,
     pub(crate) reference: u8,
-    /// Added to each depth.
-    pub(crate) bias: i32,
     pub(crate) blend: BlendState,
     pub(crate) rgba: [u8; 4],
     pub(crate) tests: Tests,
@@ -29,14 +27,12 @@ pub(crate) fn make_brush(
     state: DepthStencilState,
     front: bool,
     reference: u8,
-    bias: i32,
     blend: BlendState,
     rgba: [u8; 4],
 ) -> Brush
     ensures state { result.state ≡ state }
     ensures front { result.front ≡ front }
     ensures reference { result.reference ≡ reference }
-    ensures bias { result.bias ≡ bias }
     ensures blend { result.blend ≡ blend }
     ensures rgba { result.rgba ≡ rgba }
 {
@@ -44,7 +40,6 @@ pub(crate) fn make_brush(
         state,
         front,
         reference,
-        bias,
         blend,
         rgba,
         tests: tests_of(&state),

@@ -84,17 +84,15 @@ pub(crate) fn draw<A: Allocator>(
     let left = rect.left + 8 * first;
     let steps = triangle.edges.steps();
     let edges = triangle.edges.walk(left, clip.top);
-    let walk = triangle.plane.walk_eight(left, clip.top);
+    let plane = &triangle.plane;
+    if plane.is_biased() {
+        let biased = plane.walk_eight_biased(left, clip.top);
+        return draw_spans(
+            block, plane, edges, biased, steps, mask, brush, clip, first, past,
+        );
+    }
+    let walk = plane.walk_eight(left, clip.top);
     draw_spans(
-        block,
-        &triangle.plane,
-        edges,
-        walk,
-        steps,
-        mask,
-        brush,
-        clip,
-        first,
-        past,
+        block, plane, edges, walk, steps, mask, brush, clip, first, past,
     )
 }

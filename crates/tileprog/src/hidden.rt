@@ -34,13 +34,13 @@ pub(crate) fn is_hidden(
     greatest: u32,
     stored: Option<DepthBounds>,
 ) -> bool
-    ensures { IsTrue result → IsHidden entry.now.depth_stencil entry.now.raster.depth_bias least greatest stored }
+    ensures { IsTrue result → IsHidden entry.now.depth_stencil least greatest stored }
 {
     let state = entry.depth_stencil;
     let Some(known) = stored else {
         return false;
     };
-    if state.stencil() || !state.depth() || entry.raster.depth_bias() != 0 {
+    if state.stencil() || !state.depth() {
         return false;
     }
     none_passes(state.func(), least, greatest, known)
@@ -70,13 +70,13 @@ pub(crate) fn bounds_after(
     whole: bool,
     stored: Option<DepthBounds>,
 ) -> Option<DepthBounds>
-    ensures { IfSome result (AreAfter entry.now.depth_stencil entry.now.raster.depth_bias least greatest whole stored) }
+    ensures { IfSome result (AreAfter entry.now.depth_stencil least greatest whole stored) }
 {
     let state = entry.depth_stencil;
     let Some(known) = stored else {
         return None;
     };
-    if state.stencil() || !state.depth() || !state.write() || entry.raster.depth_bias() != 0 {
+    if state.stencil() || !state.depth() || !state.write() {
         return None;
     }
     Some(DepthBounds {

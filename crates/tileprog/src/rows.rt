@@ -13,7 +13,7 @@ ghost use Rattle.tileprog.specs.Strokes.{IsNamed};
 
 use crate::brush::Brush;
 use crate::column::Column;
-use crate::spans::{blend_depths, blend_open, blend_stencils, cover, lanes_in, moved8};
+use crate::spans::{blend_depths, blend_open, blend_stencils, cover, lanes_in};
 use depthplane::{Plane, Walks};
 use edges::EdgeWalk;
 use gfxspec::Compare;
@@ -91,7 +91,7 @@ pub(crate) fn depth_row<A: Allocator, W: Walks>(
     if cover == 0 {
         return 0;
     }
-    let depths = moved8(walk.depths(), brush.bias);
+    let depths = walk.depths();
     let bits = blend_depths(block, column.span, row, cover, &depths, func, write, brush);
     lanes_in(bits)
 }
@@ -124,7 +124,7 @@ pub(crate) fn stencil_row<A: Allocator, W: Walks>(
     if cover == 0 {
         return 0;
     }
-    let depths = moved8(walk.depths(), brush.bias);
+    let depths = walk.depths();
     let bits = blend_stencils(block, column.span, row, cover, &depths, test, brush);
     lanes_in(bits)
 }

@@ -4,7 +4,6 @@ ghost use Rattle.std.specs.Prelude.{◌≡◌, ◌<◌, ◌≤◌, ◌+◌, ◌=
 ghost use Rattle.std.specs.Int.{bit_at};
 ghost use Rattle.gfxspec.specs.Limits.{side_bound};
 ghost use Rattle.gfxspec.specs.Raster.{centre};
-ghost use Rattle.gfxspec.specs.Depth.{biased};
 ghost use Rattle.gfxspec.specs.DepthStencil.{compares};
 ghost use Rattle.edges.specs.Walk.{StepRight};
 ghost use Rattle.lanes.specs.Stencil.{has};
@@ -17,7 +16,7 @@ ghost use Rattle.tileprog.specs.SpanDrawn.{painted_lane, tested_lane, drawn_lane
 
 use crate::brush::Brush;
 use edges::EdgeWalk;
-use gfxspec::{Compare, DEPTH_MAX};
+use gfxspec::Compare;
 use lanes::{StencilTest, cover_mask, depth_mask, write8};
 use std::alloc::Allocator;
 use tileblock::TileBlock;
@@ -31,29 +30,6 @@ pub(crate) fn cover(walk: &EdgeWalk<'_>, steps: [i64; 3], mask: u8) -> u8
     ensures { (j : ℕ) → j < 8 → has result j ≡ passes_edges mask walk.now.triangle (centre (walk.now.x + j) walk.now.y) }
 {
     cover_mask(walk.values(), steps, mask, 8)
-}
-
-/// A depth moved by a bias, within the range of depths.
-#[inline]
-fn moved(depth: u32, bias: i32) -> u32
-    ensures { result ≡ biased bias depth }
-{
-    (i64::from(depth) + i64::from(bias)).clamp(0, i64::from(DEPTH_MAX)) as u32
-}
-
-/// Depths moved by a bias, each within the range of depths.
-#[inline]
-pub(crate) fn moved8(depths: [u32; 8], bias: i32) -> [u32; 8]
-    ensures { (j : ℕ) → j < 8 → slice_index depths j ≤ 16777215 → slice_index result j ≡ biased bias (slice_index depths j) }
-{
-    if bias == 0 {
-        return depths;
-    }
-    let mut all = [0; 8];
-    for j in 0..8usize {
-        all[j] = moved(depths[j], bias);
-    }
-    all
 }
 
 /// Writes the colours of the span's pixels whose bits are set.

@@ -61,7 +61,6 @@ fn draw_under<A: Allocator>(
         entry.depth_stencil,
         triangle.front,
         entry.reference,
-        entry.raster.depth_bias(),
         entry.blend,
         triangle.rgba,
     );

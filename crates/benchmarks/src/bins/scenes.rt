@@ -90,6 +90,7 @@ fn set_up(context: &mut DeferredContext<Global>) -> Result<(), GfxError> {
         cull: Cull::None,
         front_ccw: false,
         scissor: false,
+        depth_bias: 0,
     }))?;
     context.ia_set_topology(Topology::TriangleList)
 }

@@ -1,5 +1,7 @@
-use Rattle.std.proofs.Common.{rules, ap, sym, subst, ◌∙◌, [], pos, min, max, get_or}
+use Rattle.std.proofs.Common.{rules, ap, sym, subst, ◌∙◌, [], pos, min, max, get_or, w32, FitsSigned}
+use Rattle.std.proofs.lemmas.Int.{to_z-of_z}
 use Rattle.gfxspec.specs.declared.geometry.Vertex.{Vertex}
+use Rattle.gfxspec.specs.Depth.{biased}
 use Rattle.gfxspec.specs.Vertices.{IsDepth}
 use Rattle.gfxspec.proofs.Threes.{All_three}
 use Rattle.gfxspec.specs.Assembly.{Primitive}
@@ -13,8 +15,8 @@ use Rattle.binner.proofs.prepare.prepared.Goals as goal
 abbrev none : Vertex
 none = record { x = pos 0; y = pos 0; z = 0; rgba = [] }
 
-pub of-plane-requires-clause-depths : goal.of-plane-requires-clause-depths
-of-plane-requires-clause-depths c =
+pub of_biased-plane-requires-clause-depths : goal.of_biased-plane-requires-clause-depths
+of_biased-plane-requires-clause-depths c =
     let ready = all_ready c.args.vertices.now none (search rules) c.requires in
     All_three IsDepth _ _ _ ready.first.deep ready.second.deep ready.third.deep
 
@@ -29,12 +31,16 @@ returns-then-not-is_seen-clause-dropped c n x y small_x small_y within_x within_
 pub invariant_of-result : goal.invariant_of-result
 invariant_of-result c =
     let ready = all_ready c.args.vertices.now none (search rules) c.requires in
+    let f : FitsSigned w32 c.depth_bias-bias.result = search rules in
+    let plane = simp to_z-of_z at c.of_biased-plane.ensures in
+    let lowest = simp to_z-of_z at c.with_bias.ensures in
+    let highest = simp to_z-of_z at c.with_bias-2.ensures in
     record {
-      same = ap (λ d. d.triangle) c.of-plane.ensures ∙ sym c.in_ok-edges.ensures.set;
+      same = ap (λ d. d.triangle) plane ∙ sym c.in_ok-edges.ensures.set;
       solid = solid _ c.in_ok-edges.edges c.in_ok-edges.ensures.set (search rules);
-      deep = subst AreDepths (sym c.of-plane.ensures) (record { z0 = ready.first.deep; z1 = ready.second.deep; z2 = ready.third.deep });
-      least = c.min-2.ensures ∙ ap (λ m. min m (get_or c.args.vertices.now 2 none).z) c.min.ensures ∙ ap (λ (d : DeepTriangle). min (min d.z0 d.z1) d.z2) (sym c.of-plane.ensures);
-      greatest = c.max-2.ensures ∙ ap (λ m. max m (get_or c.args.vertices.now 2 none).z) c.max.ensures ∙ ap (λ (d : DeepTriangle). max (max d.z0 d.z1) d.z2) (sym c.of-plane.ensures);
+      deep = subst AreDepths (sym plane) (record { z0 = ready.first.deep; z1 = ready.second.deep; z2 = ready.third.deep });
+      least = lowest ∙ ap (biased c.depth_bias-bias.result) (c.min-2.ensures ∙ ap (λ m. min m (get_or c.args.vertices.now 2 none).z) c.min.ensures) ∙ ap (λ (d : DeepTriangle). biased d.bias (min (min d.z0 d.z1) d.z2)) (sym plane);
+      greatest = highest ∙ ap (biased c.depth_bias-bias.result) (c.max-2.ensures ∙ ap (λ m. max m (get_or c.args.vertices.now 2 none).z) c.max.ensures) ∙ ap (λ (d : DeepTriangle). biased d.bias (max (max d.z0 d.z1) d.z2)) (sym plane);
       right = c.within_reach-bounds.ensures.right;
       bottom = c.within_reach-bounds.ensures.bottom;
     }
@@ -45,12 +51,15 @@ returns-clause-setup c =
     let s = state_value c.args.state.now in
     let same = same_primitive c.args.vertices.now none (search rules) in
     let corners = c.of-corners.ensures ∙ ap snapped_triangle same in
+    let f : FitsSigned w32 c.depth_bias-bias.result = search rules in
+    let plane = simp to_z-of_z at c.of_biased-plane.ensures in
     let faces = facing_is t s c.facing-facing.result c.front_ccw.result _ c.facing-facing.ensures c.front_ccw.ensures corners in
     record {
       edges = c.in_ok-edges.ensures.set ∙ corners;
-      z0 = ap (λ d. d.z0) c.of-plane.ensures ∙ ap (λ (p : Primitive). p.first.z) same;
-      z1 = ap (λ d. d.z1) c.of-plane.ensures ∙ ap (λ (p : Primitive). p.second.z) same;
-      z2 = ap (λ d. d.z2) c.of-plane.ensures ∙ ap (λ (p : Primitive). p.third.z) same;
+      z0 = ap (λ d. d.z0) plane ∙ ap (λ (p : Primitive). p.first.z) same;
+      z1 = ap (λ d. d.z1) plane ∙ ap (λ (p : Primitive). p.second.z) same;
+      z2 = ap (λ d. d.z2) plane ∙ ap (λ (p : Primitive). p.third.z) same;
+      bias = ap (λ d. d.bias) plane ∙ c.depth_bias-bias.ensures;
       kept = kept_is t s c.facing-facing.result c.cull.result c.culled.result faces c.cull.ensures c.culled.ensures c.if-culled.false;
       face = λ d. c.is_front.ensures d ∙ ap (λ f. face_setting f d) faces;
       rgba = ap (λ (p : Primitive). p.first.rgba) same;
@@ -105,8 +114,8 @@ is_seen-requires c = search rules
 pub returns-then-not-is_seen-clause-setup : goal.returns-then-not-is_seen-clause-setup
 returns-then-not-is_seen-clause-setup c = search rules
 
-pub of-plane-requires-clause-area : goal.of-plane-requires-clause-area
-of-plane-requires-clause-area c = search rules
+pub of_biased-plane-requires-clause-area : goal.of_biased-plane-requires-clause-area
+of_biased-plane-requires-clause-area c = search rules
 
 pub is_front-requires : goal.is_front-requires
 is_front-requires c = search rules

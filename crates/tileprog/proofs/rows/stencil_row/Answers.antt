@@ -1,5 +1,4 @@
-use Rattle.std.proofs.Common.{sym, refl, rules, ◌+◌, w32, FitsSigned}
-use Rattle.std.proofs.lemmas.Int.{to_z-of_z}
+use Rattle.std.proofs.Common.{sym, refl, ◌+◌}
 use Rattle.tileprog.specs.Strokes.{Stroke}
 use Rattle.tileprog.proofs.Reaching.{depths_at, walked_depth}
 use Rattle.tileprog.proofs.Rowing.{lanes_at, row_missed, row_drawn}
@@ -24,11 +23,9 @@ returns g c =
     let s : Stroke = record { brush = c.args.brush.now; plane = at; mask = k.mask; clip = k.clip } in
     let cover = c.lanes_left-cover.result in
     let lanes = lanes_at c.args.edges.now at.triangle k.x y k.mask k.clip.left k.clip.right cover c.requires.edges c.lanes_left-cover.ensures in
-    let bias : FitsSigned w32 s.brush.bias = search rules in
-    let moves = simp to_z-of_z at c.moved8-depths.ensures in
     let place = g.W.Walks.place c.args.walk.now in
-    let deep = depths_at at place old.rect place.left place.top k.x y c.depths.result c.requires.walk c.requires.column.tile c.requires.left c.requires.top c.depths.ensures in
+    let deep = depths_at at place old.rect place.left place.top k.x y c.depths-depths.result c.requires.walk c.requires.column.tile c.requires.left c.requires.top c.depths-depths.ensures in
     row_drawn s old k.span c.args.row k.x y cover (sym c.requires.column.x) refl c.requires.named c.requires.column.within lanes c.requires.row.top c.requires.row.bottom
-    c.blend_stencils-bits.new.block c.moved8-depths.result c.blend_stencils-bits.result c.lanes_in.result
-    (walked_depth s old.rect k.x y cover c.requires.named lanes c.requires.row.top c.requires.row.bottom c.depths.result c.moved8-depths.result deep moves)
+    c.blend_stencils-bits.new.block c.depths-depths.result c.blend_stencils-bits.result c.lanes_in.result
+    (walked_depth s old.rect k.x y cover c.requires.named lanes c.requires.row.top c.requires.row.bottom c.depths-depths.result deep)
     c.blend_stencils-bits.ensures.block c.blend_stencils-bits.ensures.bits c.lanes_in.ensures.value c.lanes_in.ensures.few

@@ -22,7 +22,7 @@ returns-clause-pixels g c = λ u v is.
     let b = c.make_brush-brush.result in
     let made = c.make_brush-brush.ensures in
     let inside = c.requires.inside in
-    let k : IsBrushOf b p e = record { state = made.state; front = made.front; reference = made.reference; bias = search rules; blend = made.blend; rgba = made.rgba } in
+    let k : IsBrushOf b p e = record { state = made.state; front = made.front; reference = made.reference; blend = made.blend; rgba = made.rgba } in
     let S : ℕ → Type 0 = λ n. Stroked (record { brush = b; plane = p.plane; mask = n; clip = clip }) c.args.block.now c.draw.new.block in
     let drew = subst S c.bits.ensures.value c.draw.ensures.drew in
     drew.pixels u v is ∙ under_is p e c.args.mask clip r c.requires.tile c.requires.class c.requires.bounded inside b k u v is (pixel_at c.args.block.now u v)
@@ -36,7 +36,7 @@ returns-clause-count g c =
     let b = c.make_brush-brush.result in
     let made = c.make_brush-brush.ensures in
     let inside = c.requires.inside in
-    let k : IsBrushOf b p e = record { state = made.state; front = made.front; reference = made.reference; bias = search rules; blend = made.blend; rgba = made.rgba } in
+    let k : IsBrushOf b p e = record { state = made.state; front = made.front; reference = made.reference; blend = made.blend; rgba = made.rgba } in
     c.draw.ensures.count
     ∙ ap (λ n. sum_over r (stroke_count (record { brush = b; plane = p.plane; mask = n; clip = clip }) c.args.block.now)) c.bits.ensures.value
     ∙ under_counts p e c.args.mask clip r c.requires.tile c.requires.class c.requires.bounded inside b k c.args.block.now
