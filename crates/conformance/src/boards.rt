@@ -3,5 +3,7 @@
 mod amounts;
 mod growths;
 mod meeting;
+mod named;
+mod quiet;
 mod rows;
 mod stealing;

@@ -1,13 +1,16 @@
 //! Tests of what no contract says, over what the crates below hand out: scripts from bytes to bytes (`scripts`), the calls
 //! of the immediate context that no script reaches (`contexts`), recorded and compiled lists (`recording`, `compiling`),
-//! the reading of scripts (`reading`), boards, ports and their threads (`boards`, `ports`, `meeting`), devices (`devices`),
-//! numbers and texts of refusals (`refusals`), the command line (`words`), and the allocator that refuses a growth (`allocator`).
+//! the reading of scripts (`reading`), blocks, boards, ports and their threads (`blocks`, `boards`, `ports`, `meeting`),
+//! devices (`devices`), numbers and texts of refusals (`refusals`), the command line (`words`), and the allocator that
+//! refuses a growth (`allocator`).
 //!
 //! They stand in a crate of their own because a crate with tests is proved once more with them. Nothing here is handed out.
 #![tactic(auto)]
 
 #[cfg(test)]
 mod allocator;
+#[cfg(test)]
+mod blocks;
 #[cfg(test)]
 mod boards;
 #[cfg(test)]

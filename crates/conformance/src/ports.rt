@@ -3,6 +3,9 @@
 ghost use Rattle.std.specs.Prelude.{◌≡◌, ◌∷◌, []};
 ghost use Rattle.port.specs.History.{AreAll};
 
+mod quiet;
+mod raised;
+
 use gfxspec::GfxError;
 use port::{DrainPass, PortPass, Ports, Submission};
 use refusing::Refusing;

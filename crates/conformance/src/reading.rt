@@ -84,7 +84,8 @@ const LATER_LINES: &str = "101\x20
 105 i topology
 105 i topology x x
 105 i raster 3 0
-105 i raster 3 0 0 0
+105 i raster 3 0 0 1 1
+105 i raster 3 0 0 0 1
 105 i scissor 0 0 0
 105 i ds 1 1 2 0 255 255 1 1 1 8 1 1 1 8
 105 i ds 1 1 2 0 255 255 1 1 1 8 1 1 1 8 0 0
@@ -117,6 +118,11 @@ const LATER_LINES: &str = "101\x20
 106 i raster 4 0 0
 106 i raster 3 2 0
 106 i raster 3 0 2
+106 i raster 4 0 0 1
+106 i raster 3 0 0 0
+106 i raster 3 0 0 -0
+106 i raster 3 0 0 2147483648
+106 i raster 3 0 0 -2147483649
 106 i scissor 0 0 0 4294967296
 106 i ds 2 1 2 0 255 255 1 1 1 8 1 1 1 8 0
 106 i ds 1 2 2 0 255 255 1 1 1 8 1 1 1 8 0

@@ -44,7 +44,7 @@ fn texts_say_the_limits(rt: HostRuntime) -> Result<(), Fail> {
         (GfxError::OutOfMemory, "out of memory"),
         (
             GfxError::TargetSize,
-            "a side of the target is 0 or above 2048",
+            "a side of the target is 0 or above 4096",
         ),
         (GfxError::VertexCount, "more than 65536 vertices or indices"),
         (GfxError::WorkerCount, "more than 15 workers"),

@@ -17,7 +17,7 @@ use tilecore::{Core, Event, Reply, TileJob, schedule_law};
 use workers::{NoGate, drain, drain_alone};
 
 // A worker hands its tile in, with what it added to the one issue.
-fn hand_in(worker: u32, count: u64) -> Event
+pub(super) fn hand_in(worker: u32, count: u64) -> Event
     ensures { happening_of result ≡ hands_in worker (count ∷ []) }
 {
     let mut counts = ArrayVec::new();
@@ -78,7 +78,7 @@ fn claim(rt: &impl Abort, board: &Board<'_, Amounts, Global>, seat: &mut Seat<Am
 }
 
 // The results of a board whose tiles are all in.
-fn close<'a>(
+pub(super) fn close<'a>(
     rt: &impl Abort,
     board: Board<'a, Amounts, Global>,
     seat: Seat<Amounts>,
@@ -93,7 +93,7 @@ fn close<'a>(
 }
 
 // The amount of the next result.
-fn next_amount(finished: &mut Finished<'_, Amounts, Global>) -> Option<u32> {
+pub(super) fn next_amount(finished: &mut Finished<'_, Amounts, Global>) -> Option<u32> {
     Some(finished.next_tile()?.amount)
 }
 

@@ -63,3 +63,26 @@ fn one_submission(rt: HostRuntime) -> Result<(), Fail> {
     assert_one_submission(&rt, &mut context, &ports, &mut drain);
     Ok(())
 }
+
+/// Executes the one submission of context 2 on the caller's thread alone.
+fn assert_one_alone<R: Abort + Wait>(
+    rt: &R,
+    context: &mut ImmediateContext<Global>,
+    ports: &Ports<CommandList<Global>, Global>,
+    drain: &mut DrainPass<CommandList<Global>>,
+)
+    requires { drain.old.queue ≡ ports.now.queue }
+{
+    let ran = context.execute_next_alone(rt, ports, drain, true);
+    assert!(rt; matches!(ran, Ok(Some((2, 0)))));
+    let drawn = context.pixel_alone(0, 0);
+    assert!(rt; matches!(drawn, Ok(pixel) if pixel.rgba[0] == 1 && pixel.rgba[3] == 4));
+}
+
+#[test]
+fn one_submission_alone(rt: HostRuntime) -> Result<(), Fail> {
+    let (ports, mut drain) = ports_with_one(&rt, rt.alloc())?;
+    let mut context = ImmediateContext::new(rt.alloc(), 1, 1)?;
+    assert_one_alone(&rt, &mut context, &ports, &mut drain);
+    Ok(())
+}
