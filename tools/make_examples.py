@@ -13,7 +13,7 @@ import random
 
 import package_path
 from yuzuratchet import BlendState, ComparisonFunc, CullMode, DepthStencilState, LogicOp, PrimitiveTopology, RasterizerState, Scene, StencilFace, StencilOp
-from yuzuratchet.limits import DEEPEST
+from yuzuratchet.limits import DEEPEST, TARGET_SIDE
 from yuzuratchet.recipes import light_outside_shadows, mark_shadow_volumes
 from yuzuratchet.shapes import clockwise, draw_triangles, rectangle
 
@@ -123,6 +123,68 @@ def large():
         three = [(x + size * math.cos(angle + math.tau * k / 3), y + size * math.sin(angle + math.tau * k / 3)) for k in range(3)]
         vertices += [(px, py, 10_000 * at, colour(at / 220)) for px, py in clockwise(*three)]
     return list_scene(2048, 2048, vertices, (1024, 964), (2047, 2047))
+
+
+def floor_depth(x, y):
+    """The depth of the tilted floor of the decals."""
+    return round(1_500_000 + 21_013.7 * x + 55_021.3 * y)
+
+
+def mark(x, y, size, rgba, parts):
+    """A star on the floor, in its plane: triangles round the middle."""
+    rim = [(x + size * (1 + k % 2) / 2 * math.cos(math.tau * k / parts + 0.2), y + size * (1 + k % 2) / 2 * math.sin(math.tau * k / parts + 0.2)) for k in range(parts)]
+    corners = []
+    for k in range(parts):
+        corners += [(px, py, floor_depth(px, py), rgba) for px, py in clockwise((x, y), rim[k], rim[(k + 1) % parts])]
+    return corners
+
+
+def half_floor(left):
+    """The floor from a column on, 116 pixels wide, in squares of two shades."""
+    corners = []
+    for row in range(8):
+        for column in range(8):
+            x, y = left + 14.5 * column, 8 + 16 * row
+            square = [(x, y), (x + 14.5, y), (x, y + 16), (x + 14.5, y + 16)]
+            rgba = shade((150, 160, 175), 0.55 + 0.25 * ((row + column) % 2))
+            for three in (square[0], square[1], square[2]), (square[1], square[3], square[2]):
+                corners += [(px, py, floor_depth(px, py), rgba) for px, py in three]
+    return corners
+
+
+def decals():
+    """Marks on a tilted floor, in its plane: on the left as they are, on the right brought nearer by a depth bias of -2."""
+    scene = opened(256, 144)
+    context = scene.immediate
+    draw_triangles(context, half_floor(8) + half_floor(132))
+    marks = [(38, 42, 30, 0.02), (90, 62, 28, 0.13), (44, 102, 32, 0.55), (98, 116, 18, 0.8)]
+    for query, (left, bias) in enumerate([(0, 0), (124, -2)]):
+        context.rs_set_state(RasterizerState(depth_bias=bias))
+        with context.counted(query):
+            draw_triangles(context, [corner for x, y, size, hue in marks for corner in mark(left + x, y, size, colour(hue, 0.75), 14)])
+        context.get_data(query)
+    for x, y in ((38, 42), (162, 42)):
+        context.pixel(x, y)
+    return scene
+
+
+def largest_target():
+    """The halves of the largest target, each counted and both together."""
+    scene = Scene(TARGET_SIDE, TARGET_SIDE)
+    context, far = scene.immediate, TARGET_SIDE
+    context.ia_set_vertices([(0, 0, 0, (1, 1, 1, 1)), (far, 0, 0, (2, 2, 2, 2)), (0, far, 0, (3, 3, 3, 3)), (far, far, 0, (4, 4, 4, 4))])
+    context.ia_set_indices([1, 3, 2])
+    context.ia_set_topology(LIST)
+    with context.counted(2):
+        with context.counted(0):
+            context.draw(3)
+        with context.counted(1):
+            context.draw_indexed(3)
+    for query in range(3):
+        context.get_data(query)
+    for x, y in ((0, 0), (far - 1, 0), (far - 1, far - 1)):
+        context.pixel(x, y)
+    return scene
 
 
 def ribbon():
@@ -619,7 +681,7 @@ EXAMPLES = {
     "fan": fan, "shared-edges": shared_edges, "pile": pile, "slivers": slivers, "far": far, "large": large,
     "ribbon": ribbon, "mesh": mesh, "bowl": bowl, "shadow-volumes": shadow_volumes, "two-faced-count": two_faced_count,
     "logic-operations": logic_operations, "eight-contexts": eight_contexts, "lamps": lamps,
-    "large-lists": large_lists,
+    "large-lists": large_lists, "decals": decals, "largest-target": largest_target,
     **{f"width-{columns}": lambda columns=columns: width(columns) for columns in range(1, 34)},
     **{f"scene-{seed}": lambda seed=seed: random_scene(seed) for seed in range(10)},
     **{f"scene-{seed}": lambda seed=seed: asked_scene(seed) for seed in range(10, 13)},
