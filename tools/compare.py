@@ -1,9 +1,10 @@
 #!/usr/bin/env python3
 """Draws random scenes with the built program and with tools/plain_device.py, and tells the first that differ.
 
-    tools/compare.py [SCENES [SEED]] [--workers N] [--program FILE] [--without WORD ..]
+    tools/compare.py [SCENES [SEED]] [--workers N ..] [--kinds KIND ..] [--program FILE] [--without WORD ..]
 
-tools/random_scenes.py says what the scenes are. A scene that differs is left in differs.txt.
+tools/random_scenes.py says what the scenes are. With several numbers of workers each scene is drawn once with each. A scene
+that differs is left in differs.txt.
 """
 
 import argparse
@@ -24,7 +25,8 @@ def parsed():
     parser = argparse.ArgumentParser(description=__doc__, formatter_class=argparse.RawDescriptionHelpFormatter)
     parser.add_argument("scenes", metavar="SCENES", nargs="?", type=whole_number(1), default=100, help="how many (100)")
     parser.add_argument("seed", metavar="SEED", nargs="?", type=int, default=1, help="of the random numbers (1)")
-    parser.add_argument("--workers", metavar="N", type=whole_number(0, WORKERS), help=f"how many workers draw beside the caller, 0 to {WORKERS}")
+    parser.add_argument("--workers", metavar="N", nargs="+", type=whole_number(0, WORKERS), default=[0], help=f"how many workers draw beside the caller, 0 to {WORKERS} (0)")
+    parser.add_argument("--kinds", metavar="KIND", nargs="+", default=random_scenes.KINDS, choices=random_scenes.KINDS, help="of the scenes, in turn (all)")
     parser.add_argument("--program", metavar="FILE", help="the built program, if it isn't this clone's")
     parser.add_argument("--without", metavar="WORD", nargs="*", default=[], choices=list(WORDS), help="words of scripts to leave out")
     return parser.parse_args()
@@ -39,14 +41,15 @@ def without(scene, words):
 def compare(given):
     chance, refused = random.Random(given.seed), 0
     for number in range(given.scenes):
-        scene = without(random_scenes.random_scene(chance, number), given.without)
+        scene = without(random_scenes.random_scene(chance, number, kinds=given.kinds), given.without)
         text = scene.script()
-        result = run(scene, workers=given.workers, program=given.program, check=False)
         answers, image = plain_device.evaluate(text)
-        refused += result.refused is not None
-        if result.text != answers or result.tga != image:
-            pathlib.Path("differs.txt").write_text(text, encoding="ascii")
-            sys.exit(f"scene {number} differs: it is in differs.txt")
+        for workers in given.workers:
+            result = run(scene, workers=workers, program=given.program, check=False)
+            if result.text != answers or result.tga != image:
+                pathlib.Path("differs.txt").write_text(text, encoding="ascii")
+                sys.exit(f"scene {number} differs with {workers} workers: it is in differs.txt")
+        refused += "refused" in answers
     print(f"{given.scenes} scenes agree, of which {refused} end in a refusal")
 
 

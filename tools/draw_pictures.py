@@ -17,7 +17,7 @@ from yuzuratchet import YuzuratchetError, load_script, run
 
 NAMES = [
     "fan", "shared-edges", "pile", "slivers", "far", "large", "ribbon", "mesh", "bowl", "shadow-volumes", "two-faced-count",
-    "logic-operations", "eight-contexts", "lamps",
+    "logic-operations", "eight-contexts", "lamps", "decals",
 ]
 FOLDER = package_path.TOP / "docs" / "pictures"
 WIDEST = 1024

@@ -3,6 +3,8 @@
 by the plain evaluation of plain_device.py. The file crates/gallery/stdout is this program's output:
 
     tools/gallery_answers.py > crates/gallery/stdout
+
+With names of scripts it prints those alone: large-lists.txt alone takes minutes.
 """
 
 import argparse
@@ -15,8 +17,14 @@ DATA = pathlib.Path(__file__).resolve().parent.parent / "crates" / "gallery" / "
 
 
 def main():
-    argparse.ArgumentParser(description=__doc__, formatter_class=argparse.RawDescriptionHelpFormatter).parse_args()
-    for name in (DATA / "index").read_text(encoding="ascii").splitlines():
+    parser = argparse.ArgumentParser(description=__doc__, formatter_class=argparse.RawDescriptionHelpFormatter)
+    indexed = (DATA / "index").read_text(encoding="ascii").splitlines()
+    parser.add_argument("names", metavar="NAME", nargs="*", help="a script of crates/gallery/data, as its index has it (all)")
+    given = parser.parse_args()
+    unknown = [name for name in given.names if name not in indexed]
+    if unknown:
+        parser.error(f"{unknown[0]} isn't in the index")
+    for name in given.names or indexed:
         answers, image = plain_device.evaluate((DATA / name).read_bytes())
         print(f"{name}\n{answers}image {hashlib.sha256(image).hexdigest()}")
 

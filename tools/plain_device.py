@@ -43,9 +43,10 @@ def is_top_or_left(a, b, c):
 
 
 class Triangle:
-    """A triangle of vertices (x, y, z, red, green, blue, alpha), the leading one first, on the snapped grid."""
+    """A triangle of vertices (x, y, z, red, green, blue, alpha), the leading one first, on the snapped grid, and its depth bias."""
 
-    def __init__(self, vertices):
+    def __init__(self, vertices, bias):
+        self.bias = bias
         self.corners = [(snapped(v[0]), snapped(v[1])) for v in vertices]
         self.depths = [v[2] for v in vertices]
         self.rgba = tuple(vertices[0][3:7])
@@ -72,7 +73,8 @@ class Triangle:
         return weights
 
     def depth(self, weights):
-        return sum(w * z for w, z in zip(weights, self.depths)) // sum(weights)
+        depth = sum(w * z for w, z in zip(weights, self.depths)) // sum(weights)
+        return min(max(depth + self.bias, 0), DEEPEST)
 
     def pixels(self, width, height):
         """The columns and rows of a target that the triangle can reach."""
@@ -187,7 +189,8 @@ class Target:
 def triangles_of(item):
     """The triangles of a draw."""
     places = triangles(item.places, item.state.topology, item.line.word == "drawi")
-    return [Triangle([item.state.vertices[place + item.base] for place in triple]) for triple in places]
+    bias = item.state.rasterizer.depth_bias
+    return [Triangle([item.state.vertices[place + item.base] for place in triple], bias) for triple in places]
 
 
 class PlainSession(Session):

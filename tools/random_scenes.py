@@ -1,13 +1,17 @@
 """Random scenes, on which the program, tools/plain_device.py and the package are held against each other.
 
-Targets are up to 70 by 70. Corners lie on centres, on edges of pixels, at ties of 1/512 pixel, anywhere near the target,
-and as far outside as corners may lie. Every second scene is made with lists, strips, indices, cull modes, scissors, both
-faces of the stencil, logic operations under masks, queries, predicates and restore flags, and some of its lines are refused.
+Targets are up to 70 by 70, and now and then as long as a target may be, up to 4,096 by 3. Corners lie on centres, on edges of
+pixels, at ties of 1/512 pixel, anywhere near the target, and as far outside as corners may lie. There are three kinds of scenes:
+
+- triangles: a hundred triangles under one state;
+- states: lists, strips, indices, cull modes, scissors, depth biases, both faces of the stencil, logic operations under masks,
+  queries, predicates and restore flags, and some of the lines are refused;
+- large: triangles that cover all or most of the target, under all functions of depth and stencil.
 """
 
 import package_path  # noqa: F401
 from yuzuratchet import Scene
-from yuzuratchet.limits import DEEPEST, FARTHEST, STRIP_CUT, SUBPIXELS
+from yuzuratchet.limits import DEEPEST, FARTHEST, FARTHEST_PIXEL, STRIP_CUT, SUBPIXELS, TARGET_SIDE
 
 QUERIES = range(4)
 
@@ -35,9 +39,19 @@ def vertices(chance, scene, count):
     return numbers
 
 
+def bias(chance):
+    """The bias of a `raster` line: mostly none, else small, of any size, or as great as one may be."""
+    kind = chance.randrange(6)
+    if kind < 3:
+        return []
+    most = {3: 100, 4: 2 * DEEPEST, 5: 2**31 - 1}[kind]
+    value = chance.choice([-most - (kind == 5), most, chance.randrange(-most, most + 1)])
+    return [value] if value else []
+
+
 def add_triangles(chance, scene):
     """A hundred triangles under one state."""
-    scene.add("i", "raster", chance.choice([1, 3]), 0, 0)
+    scene.add("i", "raster", chance.choice([1, 3]), 0, 0, *bias(chance))
     scene.add("i", "vb", *vertices(chance, scene, 300))
     scene.add("i", "topology", 4)
     scene.add("i", "draw", 300, 0)
@@ -57,7 +71,7 @@ def add_setting(chance, scene, actor):
     top, bottom = sorted(chance.randrange(scene.height + 1) for _ in range(2))
     kind = chance.randrange(4)
     if kind == 0:
-        scene.add(actor, "raster", chance.randrange(1, 4), chance.randrange(2), chance.randrange(2))
+        scene.add(actor, "raster", chance.randrange(1, 4), chance.randrange(2), chance.randrange(2), *bias(chance))
     elif kind == 1:
         if chance.randrange(60) == 0:
             left, right = right, left
@@ -183,11 +197,45 @@ class StatesScene:
         self.close("i")
 
 
-def random_scene(chance, number, asked=20):
-    """A scene of triangles where the number is even, of states where it is odd, with so many questions for pixels."""
-    scene = Scene(chance.randrange(1, 71), chance.randrange(1, 71), strict=False)
-    if number % 2:
+def add_large(chance, scene):
+    """Triangles that go far beyond the target, each under tests of its own, with biases and counts."""
+    scene.add("i", "topology", 4)
+    for number in range(12):
+        scene.add("i", "raster", chance.choice([1, 1, 2, 3]), chance.randrange(2), 0, *bias(chance))
+        scene.add("i", "ds", *depth_stencil(chance))
+        corners = []
+        for x, y in ((-1, -1), (2, -1), (-1, 2)):
+            far = [chance.randrange(1, FARTHEST_PIXEL // 2) * SUBPIXELS + chance.randrange(SUBPIXELS) for _ in range(2)]
+            depth = chance.choice([chance.randrange(DEEPEST + 1), chance.randrange(100), 8_000_000 + chance.randrange(5)])
+            corners += [max(x * far[0], -FARTHEST), max(y * far[1], -FARTHEST), depth, *(chance.randrange(256) for _ in range(4))]
+        scene.add("i", "vb", *corners)
+        scene.add("i", "begin", number % len(QUERIES))
+        scene.add("i", "draw", 3, 0)
+        scene.add("i", "end", number % len(QUERIES))
+    for query in QUERIES:
+        scene.add("i", "query", query)
+
+
+def target(chance):
+    """A width and a height: mostly small, now and then one long side."""
+    sides = [chance.randrange(1, 71), chance.randrange(1, 71)]
+    if chance.randrange(20) == 0:
+        sides = [chance.choice([TARGET_SIDE, chance.randrange(1, TARGET_SIDE + 1)]), chance.randrange(1, 4)]
+        chance.shuffle(sides)
+    return sides
+
+
+KINDS = ("triangles", "states", "large")
+
+
+def random_scene(chance, number, asked=20, kinds=KINDS[:2]):
+    """A scene of the kind whose turn it is, by its number, with so many questions for pixels."""
+    scene = Scene(*target(chance), strict=False)
+    kind = kinds[number % len(kinds)]
+    if kind == "states":
         StatesScene(chance, scene).fill()
+    elif kind == "large":
+        add_large(chance, scene)
     else:
         add_triangles(chance, scene)
     for _ in range(asked):

@@ -51,6 +51,10 @@ def test_numbers_there_and_back() -> None:
     assert DepthStencilState.from_numbers((*tests.numbers(), 77)) == tests
     assert BlendState.from_numbers(blend.numbers()) == blend
     assert (raster.numbers(), blend.numbers()) == ((1, 1, 1), (1, 10, 5))
+    for bias in (-(2**31), -3, 5, 2**31 - 1):
+        biased = RasterizerState(CullMode.NONE, True, True, bias)
+        assert biased.numbers() == (1, 1, 1, bias)
+        assert RasterizerState.from_numbers(biased.numbers()) == biased
     assert tests.numbers() == (0, 0, 5, 1, 15, 240, 2, 7, 8, 3, 1, 1, 1, 8)
 
 
@@ -58,6 +62,9 @@ def test_numbers_there_and_back() -> None:
     ("make", "argument"),
     [
         (lambda: RasterizerState(cull_mode=4), "cull_mode"),
+        (lambda: RasterizerState(depth_bias=2**31), "depth_bias"),
+        (lambda: RasterizerState(depth_bias=-(2**31) - 1), "depth_bias"),
+        (lambda: RasterizerState(depth_bias=1.5), "depth_bias"),
         (lambda: RasterizerState(scissor_enable=2), "scissor_enable"),
         (lambda: StencilFace(stencil_pass_op=0), "stencil_pass_op"),
         (lambda: StencilFace(stencil_func=9), "stencil_func"),

@@ -80,6 +80,7 @@ def test_each_file_is_a_tool_or_a_module() -> None:
         ("bench/run.py", "clear", "--runs", "0"),
         ("bench/run.py", "clear", "--workers", "16"),
         ("bench/run.py", "clear", "--program", "/no/such/program"),
+        ("bench/run.py", "clear", "--against", "/no/such/program"),
     ],
     ids=" ".join,
 )
@@ -101,8 +102,8 @@ def test_the_plain_evaluation_stands_in_for_the_program(tmp_path: Path) -> None:
 
 
 def test_random_scenes_agree(program: Path) -> None:
-    ran = run_tool("tools/compare.py", "6", "3", "--program", str(program))
-    assert ran.stdout.startswith("6 scenes agree"), ran.stderr
+    ran = run_tool("tools/compare.py", "3", "3", "--program", str(program))
+    assert ran.stdout.startswith("3 scenes agree"), ran.stderr
 
 
 def test_the_examples_of_the_gallery_are_as_they_are_made(tmp_path: Path) -> None:
@@ -123,6 +124,16 @@ def test_the_plain_evaluation_gives_what_is_stored(
 
     answers, image = plain_device.evaluate((DATA / name).read_bytes())
     assert Expected(answers, hashlib.sha256(image).hexdigest()) == expected[name]
+
+
+def test_two_programs_are_timed_in_turns() -> None:
+    program = "tools/plain_device.py"
+    ran = run_tool(
+        *("bench/run.py", "many-finishes", "--runs", "1", "--workers", "0", "3"),
+        *("--program", program, "--against", program),
+    )
+    rows = [line.split(" | ") for line in ran.stdout.splitlines() if "many-finishes" in line]
+    assert [row[1] for row in rows] == ["0", "3"] and len({row[8] for row in rows}) == 1, ran.stderr
 
 
 def test_benchmarks_are_scripts() -> None:

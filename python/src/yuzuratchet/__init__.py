@@ -37,7 +37,7 @@ from .states import (
     StencilOp,
 )
 
-__version__ = "0.1.0"
+__version__ = "0.2.0"
 
 __all__ = [
     "ArgumentError",

@@ -6,7 +6,7 @@ are wider, stand in :mod:`yuzuratchet.words`.
 
 from typing import Final
 
-TARGET_SIDE: Final = 2048
+TARGET_SIDE: Final = 4096
 """Pixels of a side of the target; a scissor rectangle ends there at the latest."""
 
 SUBPIXELS: Final = 65_536

@@ -38,8 +38,8 @@ FAULTS: Final = {
     ),
     105: Message(
         "the number of arguments is wrong",
-        "count them: `vb` takes seven for each vertex, `raster` and `blend` three, `ds` "
-        "fifteen, `exec` three, `predicate` none or two",
+        "count them: `vb` takes seven for each vertex, `raster` three, or four with a depth bias, "
+        "`blend` three, `ds` fifteen, `exec` three, `predicate` none or two",
     ),
     106: Message(
         "an argument is no number, or out of its range, or no context where one stands",

@@ -194,7 +194,7 @@ class ImmediateContext(Context):
 
 
 class Scene:
-    """A script in the making, for a target of ``width`` by ``height`` pixels, 1 to 2,048 each.
+    """A script in the making, for a target of ``width`` by ``height`` pixels, 1 to 4,096 each.
 
     A scene that is ``strict`` raises :class:`~yuzuratchet.errors.CallRefused` at each call that the
     device refuses. With ``strict=False`` it takes such calls, as conformance tests want them.

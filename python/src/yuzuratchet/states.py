@@ -110,29 +110,39 @@ def _check_byte(value: Any, name: str) -> None:
         raise ArgumentError(name, f"{value!r} is not in 0 to 255")
 
 
+def _check_bias(value: object) -> None:
+    if isinstance(value, bool) or not isinstance(value, int) or not -(2**31) <= value < 2**31:
+        raise ArgumentError("depth_bias", f"{value!r} is not in {-(2**31)} to {2**31 - 1}")
+
+
 def _numbers(state: Any) -> tuple[int, ...]:
     return tuple(int(getattr(state, it.name)) for it in fields(state))
 
 
 @dataclass(frozen=True)
 class RasterizerState:
-    """Which triangles are drawn, and whether the scissor rectangle acts.
+    """Which triangles are drawn, whether the scissor rectangle acts, and what moves their depths.
 
     A triangle that goes clockwise on the target, whose y goes down, faces the front, or the other
-    way round where ``front_counter_clockwise`` is True.
+    way round where ``front_counter_clockwise`` is True. ``depth_bias`` is added to each depth, as
+    stored, 0 to 16,777,215: a whole number of 32 bits, below 0 for nearer. The sum stays in that
+    range.
     """
 
     cull_mode: CullMode = CullMode.BACK
     front_counter_clockwise: bool = False
     scissor_enable: bool = False
+    depth_bias: int = 0
 
     def __post_init__(self) -> None:
         kinds = {"front_counter_clockwise": bool, "scissor_enable": bool}
         _checked(self, {"cull_mode": CullMode, **kinds})
+        _check_bias(self.depth_bias)
 
     def numbers(self) -> tuple[int, ...]:
-        """The numbers of a ``raster`` line."""
-        return _numbers(self)
+        """The numbers of a ``raster`` line: three, or four where there is a bias."""
+        numbers = _numbers(self)
+        return numbers if self.depth_bias else numbers[:3]
 
     @classmethod
     def from_numbers(cls, numbers: tuple[int, ...]) -> RasterizerState:

@@ -25,24 +25,27 @@ ACTORS: Final = (IMMEDIATE, *DEFERRED)
 class Argument:
     """A number of a line: its name and its range, both ends included.
 
-    A context (``is_context``) is a number too, and is spelled as the actor that it names.
+    A context (``is_context``) is a number too, and is spelled as the actor that it names. Where
+    ``but_zero`` is True the range leaves 0 out.
     """
 
     name: str
     least: int
     most: int
     is_context: bool = False
+    but_zero: bool = False
 
     def takes(self, value: int) -> bool:
         """Whether a script can have this value here."""
-        return self.least <= value <= self.most
+        return self.least <= value <= self.most and not (self.but_zero and value == 0)
 
     @property
     def range(self) -> str:
         """The range in words."""
         if self.is_context:
             return f"{DEFERRED[0]} to {DEFERRED[-1]}"
-        return f"{self.least} {'or' if self.most - self.least == 1 else 'to'} {self.most}"
+        text = f"{self.least} {'or' if self.most - self.least == 1 else 'to'} {self.most}"
+        return f"{text} without 0" if self.but_zero else text
 
 
 @dataclass(frozen=True)
@@ -103,12 +106,15 @@ class Word:
             raise ArgumentError(argument.name, f"{values[place]} is not in {argument.range}")
 
 
+_SIGNED: Final = (-2_147_483_648, 2_147_483_647)
+
+
 def _unsigned(*names: str) -> tuple[Argument, ...]:
     return tuple(Argument(name, 0, 4_294_967_295) for name in names)
 
 
 def _signed(*names: str) -> tuple[Argument, ...]:
-    return tuple(Argument(name, -2_147_483_648, 2_147_483_647) for name in names)
+    return tuple(Argument(name, *_SIGNED) for name in names)
 
 
 def _byte(*names: str) -> tuple[Argument, ...]:
@@ -155,6 +161,8 @@ WORDS: Final = {
             "raster",
             Argument("cull_mode", 1, 3),
             *_flag("front_counter_clockwise", "scissor_enable"),
+            Argument("depth_bias", *_SIGNED, but_zero=True),
+            counts=(3, 4),
         ),
         _word("scissor", *_unsigned("left", "top", "right", "bottom")),
         _word(
