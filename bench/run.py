@@ -1,12 +1,17 @@
 #!/usr/bin/env python3
 """Times the built program over the benchmark scenes, and prints a table.
 
-    bench/run.py [--workers N] [--runs N] [--program FILE] [SCENE ..]
+    bench/run.py [--workers N ..] [--runs N] [--program FILE] [--against FILE] [SCENE ..]
 
 A frame is one more execution: a scene is drawn with one frame and with 1 + m frames, in turns, and the difference of the
-medians is divided by m. The table also has the time of the whole run with one frame, reading and writing included, and
-its peak memory, the largest resident set of the program. With --workers N the program is told to draw with N workers beside
-the caller, 0 to 15, and the table's heading says so; the image's digest is the same for every N.
+medians is divided by m; the processor time of a frame is had in the same way, that of all threads together. The table also has
+the time of the whole run with one frame, reading and writing included, and its peak memory, the largest resident set of the
+program. With --workers the program is told to draw with N workers beside the caller, 0 to 15, and the table has a row for each
+number; the image's digest is the same for every N.
+
+With --against another program is timed in the same turns, run for run. The last column then has its frame divided by the
+program's, the median of the runs and what they lie between: above 1.00 the program is faster. Two programs whose
+images differ end the run.
 """
 
 import argparse
@@ -19,6 +24,7 @@ import subprocess
 import sys
 import tempfile
 import time
+import typing
 
 import scenes
 from yuzuratchet import ProgramMissing
@@ -31,7 +37,8 @@ HERE = pathlib.Path(__file__).resolve().parent
 # how many frames more, so that the difference is some tenths of a second on a fast machine
 MORE = {
     "large-triangles": 8, "small-triangles": 16, "executed-lists": 8, "clears": 10, "large-xor": 8, "shadow-volumes": 8, "ten-tiles": 20,
-    "clear": 100, "largest-target": 40, "indexed-strip": 8, "idle-pixels": 1, "long-script": 1,
+    "clear": 100, "one-triangle": 40, "indexed-strip": 8, "idle-pixels": 1, "long-script": 1, "largest-target": 10, "largest-clear": 25,
+    "many-executions": 1, "many-finishes": 4, "many-flushes": 4,
 }
 
 
@@ -43,15 +50,27 @@ def machine():
     return platform.machine()
 
 
+class Run(typing.NamedTuple):
+    """How long a run took, in seconds, and of the processors', its peak memory in MB, its answers and the digest of its image."""
+
+    seconds: float
+    processor: float
+    memory: float
+    answers: str
+    digest: str
+
+
 def run(program, script, image, words):
-    """Runs the program and gives its seconds, its peak memory in MB and its answers."""
+    """Runs the program once."""
     before = time.monotonic()
     child = subprocess.Popen([program, script, image, *words], stdout=subprocess.PIPE, text=True)
     answers = child.stdout.read()
     _, status, usage = os.wait4(child.pid, 0)
+    seconds = time.monotonic() - before
     if status:
-        sys.exit(f"the program ended with status {status >> 8} on {script}: {answers[-200:]}")
-    return time.monotonic() - before, usage.ru_maxrss / 1024, answers
+        sys.exit(f"{program} ended with status {status >> 8} on {script}: {answers[-200:]}")
+    digest = hashlib.sha256(image.read_bytes()).hexdigest()[:16]
+    return Run(seconds, usage.ru_utime + usage.ru_stime, usage.ru_maxrss / 1024, answers, digest)
 
 
 def written(room, name):
@@ -64,31 +83,78 @@ def written(room, name):
     return files
 
 
-def row(given, program, room, name):
-    """The table's row of a scene."""
-    files, image = written(room, name), pathlib.Path(room, "out.tga")
-    words = [] if given.workers is None else ["--workers", str(given.workers)]
-    times = {frames: [] for frames in files}
+class Timed:
+    """The runs of one program over a scene, with one frame and with more."""
+
+    def __init__(self, program, name):
+        self.program, self.more = program, MORE[name]
+        self.runs = {1: [], 1 + self.more: []}
+
+    def take(self, frames, file, image, words):
+        self.runs[frames].append(run(self.program, file, image, words))
+
+    @property
+    def last(self):
+        return self.runs[1][-1]
+
+    def median(self, what, frames=1):
+        return statistics.median(getattr(it, what) for it in self.runs[frames])
+
+    def frame(self, what):
+        """Milliseconds of a frame, of the time or of the processors' time."""
+        return 1000 * (self.median(what, 1 + self.more) - self.median(what)) / self.more
+
+    def frames(self):
+        """The seconds of the frames of each run."""
+        one, all_frames = self.runs.values()
+        return [long.seconds - short.seconds for short, long in zip(one, all_frames)]
+
+
+def ratio(timed, other):
+    """How many times as fast the program is as the other: the median of the runs, and what they lie between."""
+    ratios = sorted(b / a for a, b in zip(timed.frames(), other.frames()) if a > 0 and b > 0)
+    if not ratios:
+        return "not to be told"
+    return f"{statistics.median(ratios):.2f} ({ratios[0]:.2f} to {ratios[-1]:.2f})"
+
+
+def timed_in_turns(given, programs, files, image, name, words):
+    """The runs of each program over a scene."""
+    all_timed = [Timed(program, name) for program in programs]
     for _ in range(given.runs):
         for frames in reversed(files):
-            seconds, memory, answers = run(program, files[frames], image, words)
-            times[frames].append(seconds)
-    digest = hashlib.sha256(image.read_bytes()).hexdigest()[:16]
-    whole = statistics.median(times[1])
-    frame = 1000 * (statistics.median(times[1 + MORE[name]]) - whole) / MORE[name]
+            for timed in all_timed:
+                timed.take(frames, files[frames], image, words)
+    if len({(it.last.answers, it.last.digest) for it in all_timed}) > 1:
+        sys.exit(f"run.py: the programs' answers or images differ on {name}")
+    return all_timed
+
+
+def rows(given, programs, room, name):
+    """The table's rows of a scene, one for each number of workers."""
+    files, image = written(room, name), pathlib.Path(room, "out.tga")
     size = files[1].stat().st_size / 1e6
+    for workers in given.workers:
+        timed, *others = timed_in_turns(given, programs, files, image, name, ["--workers", str(workers)])
+        cells = [name, workers, f"{size:.1f} MB", f"{timed.frame('seconds'):.2f} ms", f"{timed.frame('processor'):.2f} ms"]
+        cells += [f"{timed.median('seconds'):.2f} s", f"{timed.last.memory:.0f} MB", timed.last.answers.count("\n"), timed.last.digest]
+        yield [*cells, *(ratio(timed, other) for other in others)]
     for file in files.values():
         file.unlink()
-    return f"| {name} | {size:.1f} MB | {frame:.2f} ms | {whole:.2f} s | {memory:.0f} MB | {answers.count(chr(10))} | {digest} |"
+
+
+def table_row(cells):
+    return f"| {' | '.join(map(str, cells))} |"
 
 
 def parsed():
     parser = argparse.ArgumentParser(description=__doc__, formatter_class=argparse.RawDescriptionHelpFormatter)
     parser.add_argument("scenes", metavar="SCENE", nargs="*", help=f"of {', '.join(scenes.SCENES)}; without one, all")
-    workers = f"how many workers draw beside the caller, 0 to {WORKERS}; passed to the program"
-    parser.add_argument("--workers", metavar="N", type=whole_number(0, WORKERS), help=workers)
+    workers = f"how many workers draw beside the caller, 0 to {WORKERS}; with several, a row for each (0)"
+    parser.add_argument("--workers", metavar="N", nargs="+", type=whole_number(0, WORKERS), default=[0], help=workers)
     parser.add_argument("--runs", metavar="N", type=whole_number(1), default=5, help="how many runs a median is of (5)")
     parser.add_argument("--program", metavar="FILE", help="the built program, if it isn't this clone's")
+    parser.add_argument("--against", metavar="FILE", help="another built program, timed in the same turns")
     given = parser.parse_args()
     unknown = [it for it in given.scenes if it not in scenes.SCENES]
     if unknown:
@@ -96,17 +162,22 @@ def parsed():
     return given
 
 
+HEADINGS = ["Scene", "Workers", "Script", "Frame", "Processor time", "Whole run", "Peak memory", "Answers", "Image (SHA-256 begins)"]
+
+
 def main():
     given = parsed()
     try:
-        program = find_program(given.program)
+        programs = [find_program(it) for it in (given.program, given.against)[: 1 + bool(given.against)]]
     except ProgramMissing as error:
         sys.exit(f"run.py: {error}")
-    print(f"On {machine()}, medians of {given.runs} runs{'' if given.workers is None else f', {given.workers} workers'}:\n")
-    print("| Scene | Script | Frame | Whole run | Peak memory | Answers | Image (SHA-256 begins) |\n|---|---|---|---|---|---|---|")
+    headings = HEADINGS + ["Against the other: times as fast"] * bool(given.against)
+    print(f"On {machine()}, medians of {given.runs} runs:\n")
+    print(table_row(headings) + "\n" + "|---" * len(headings) + "|")
     with tempfile.TemporaryDirectory() as room:
         for name in given.scenes or scenes.SCENES:
-            print(row(given, program, room, name), flush=True)
+            for cells in rows(given, programs, room, name):
+                print(table_row(cells), flush=True)
 
 
 if __name__ == "__main__":

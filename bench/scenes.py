@@ -19,7 +19,7 @@ sys.path.insert(0, str(pathlib.Path(__file__).resolve().parent.parent / "tools")
 import package_path  # noqa: E402, F401
 from yuzuratchet import BlendState, ComparisonFunc, CullMode, DepthStencilState, LogicOp, PrimitiveTopology, RasterizerState, Scene, StencilFace  # noqa: E402
 from yuzuratchet.arguments import whole_number  # noqa: E402
-from yuzuratchet.limits import DEEPEST, FARTHEST_PIXEL, STRIP_CUT  # noqa: E402
+from yuzuratchet.limits import DEEPEST, FARTHEST_PIXEL, STRIP_CUT, TARGET_SIDE  # noqa: E402
 from yuzuratchet.recipes import mark_shadow_volumes  # noqa: E402
 
 SIDE = 2048
@@ -209,13 +209,23 @@ def ten_tiles(scene):
     return add
 
 
-def largest_target(scene):
-    """The target under one triangle that covers each of its pixels: its third place is the farthest there is."""
-    context = scene.deferred[0]
-    context.ia_set_vertices([(x, y, 0, (1, 2, 3, 4)) for x, y in ((0, 0), (FARTHEST_PIXEL, 0), (0, FARTHEST_PIXEL))])
+def one_triangle(scene):
+    """One triangle over each pixel of the target. Its corners are as far apart as corners may be."""
+    context, far = scene.deferred[0], FARTHEST_PIXEL
+    context.ia_set_vertices([(x, y, 0, (1, 2, 3, 4)) for x, y in ((far, -far), (far, far), (-far, far))])
     context.ia_set_topology(LIST)
     context.draw(3)
     return frame_of(context.finish_command_list())
+
+
+def largest_target(scene):
+    """One triangle over each pixel of the largest target, 4,096 by 4,096."""
+    return one_triangle(scene)
+
+
+def largest_clear(scene):
+    """A clear of the largest target."""
+    return clear(scene)
 
 
 def long_script(scene):
@@ -230,16 +240,60 @@ def long_script(scene):
     return add
 
 
+def many_executions(scene):
+    """20,000 executions of one triangle on a target of 64 by 64: what starting a run costs."""
+    context = scene.deferred[0]
+    context.ia_set_vertices([(x, y, 0, (1, 2, 3, 4)) for x, y in ((0, 0), (8, 0), (0, 8))])
+    context.ia_set_topology(LIST)
+    context.draw(3)
+    command_list = context.finish_command_list()
+
+    def add(immediate):
+        for _ in range(20_000):
+            immediate.execute(command_list, True)
+
+    return add
+
+
+def many_finishes(scene):
+    """20,000 empty lists of one context."""
+
+    def add(immediate):
+        for _ in range(20_000):
+            scene.deferred[0].finish_command_list()
+
+    return add
+
+
+def many_flushes(scene):
+    """100,000 lines that do nothing."""
+
+    def add(immediate):
+        for _ in range(100_000):
+            immediate.flush()
+
+    return add
+
+
 SCENES = {
     "large-triangles": large_triangles, "small-triangles": small_triangles, "executed-lists": executed_lists, "clears": clears,
-    "large-xor": large_xor, "shadow-volumes": shadow_volumes, "ten-tiles": ten_tiles, "clear": clear, "largest-target": largest_target,
-    "indexed-strip": indexed_strip, "idle-pixels": idle_pixels, "long-script": long_script,
+    "large-xor": large_xor, "shadow-volumes": shadow_volumes, "ten-tiles": ten_tiles, "clear": clear, "one-triangle": one_triangle,
+    "indexed-strip": indexed_strip, "idle-pixels": idle_pixels, "long-script": long_script, "largest-target": largest_target, "largest-clear": largest_clear,
+    "many-executions": many_executions, "many-finishes": many_finishes, "many-flushes": many_flushes,
+}
+
+
+# the sides of the targets that aren't 2,048 by 2,048
+SIDES = {
+    "long-script": 1, "largest-target": TARGET_SIDE, "largest-clear": TARGET_SIDE,
+    "many-executions": 64, "many-finishes": 64, "many-flushes": 64,
 }
 
 
 def script(name, frames):
     """The script of a scene with so many frames."""
-    scene = Scene(*(1, 1) if name == "long-script" else (SIDE, SIDE))
+    side = SIDES.get(name, SIDE)
+    scene = Scene(side, side)
     add_frame = SCENES[name](scene)
     for _ in range(frames):
         add_frame(scene.immediate)
