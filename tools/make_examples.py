@@ -131,9 +131,11 @@ def floor_depth(x, y):
 
 
 def mark(x, y, size, rgba, parts):
-    """A star on the floor, in its plane: triangles round the middle."""
-    rim = [(x + size * (1 + k % 2) / 2 * math.cos(math.tau * k / parts + 0.2), y + size * (1 + k % 2) / 2 * math.sin(math.tau * k / parts + 0.2)) for k in range(parts)]
-    corners = []
+    """A star on the floor, in its plane: triangles round the middle. Its corners lie on quarters of pixels, so that none is moved."""
+    rim, corners = [], []
+    for k in range(parts):
+        away, angle = size * (1 + k % 2) / 2, math.tau * k / parts + 0.2
+        rim.append((x + round(4 * away * math.cos(angle)) / 4, y + round(4 * away * math.sin(angle)) / 4))
     for k in range(parts):
         corners += [(px, py, floor_depth(px, py), rgba) for px, py in clockwise((x, y), rim[k], rim[(k + 1) % parts])]
     return corners
