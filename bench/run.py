@@ -60,6 +60,15 @@ class Run(typing.NamedTuple):
     digest: str
 
 
+def digest_of(image):
+    """The beginning of the SHA-256 of an image, which is read in pieces: a child's peak memory begins with that of its parent."""
+    digest = hashlib.sha256()
+    with open(image, "rb") as file:
+        while piece := file.read(1 << 20):
+            digest.update(piece)
+    return digest.hexdigest()[:16]
+
+
 def run(program, script, image, words):
     """Runs the program once."""
     before = time.monotonic()
@@ -69,8 +78,7 @@ def run(program, script, image, words):
     seconds = time.monotonic() - before
     if status:
         sys.exit(f"{program} ended with status {status >> 8} on {script}: {answers[-200:]}")
-    digest = hashlib.sha256(image.read_bytes()).hexdigest()[:16]
-    return Run(seconds, usage.ru_utime + usage.ru_stime, usage.ru_maxrss / 1024, answers, digest)
+    return Run(seconds, usage.ru_utime + usage.ru_stime, usage.ru_maxrss / 1024, answers, digest_of(image))
 
 
 def written(room, name):
