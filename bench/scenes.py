@@ -241,9 +241,9 @@ def long_script(scene):
 
 
 def many_executions(scene):
-    """20,000 executions of one triangle on a target of 64 by 64: what starting a run costs."""
+    """20,000 executions of one triangle over three tiles of a target of 64 by 64: what starting a run costs."""
     context = scene.deferred[0]
-    context.ia_set_vertices([(x, y, 0, (1, 2, 3, 4)) for x, y in ((0, 0), (8, 0), (0, 8))])
+    context.ia_set_vertices([(x, y, 0, (1, 2, 3, 4)) for x, y in ((0, 0), (64, 0), (0, 64))])
     context.ia_set_topology(LIST)
     context.draw(3)
     command_list = context.finish_command_list()
