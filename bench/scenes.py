@@ -194,19 +194,23 @@ def clear(scene):
     return add
 
 
+def executed(command_list, times):
+    """What adds so many executions of a list."""
+
+    def add(immediate):
+        for _ in range(times):
+            immediate.execute(command_list, True)
+
+    return add
+
+
 def ten_tiles(scene):
     """An execution that touches ten of 4,096 tiles, a thousand times."""
     context = scene.deferred[0]
     context.ia_set_vertices(triangles(random.Random(8), 2, 320, 30, 100))
     context.ia_set_topology(LIST)
     context.draw(6)
-    command_list = context.finish_command_list()
-
-    def add(immediate):
-        for _ in range(1000):
-            immediate.execute(command_list, True)
-
-    return add
+    return executed(context.finish_command_list(), 1000)
 
 
 def one_triangle(scene):
@@ -246,13 +250,7 @@ def many_executions(scene):
     context.ia_set_vertices([(x, y, 0, (1, 2, 3, 4)) for x, y in ((0, 0), (64, 0), (0, 64))])
     context.ia_set_topology(LIST)
     context.draw(3)
-    command_list = context.finish_command_list()
-
-    def add(immediate):
-        for _ in range(20_000):
-            immediate.execute(command_list, True)
-
-    return add
+    return executed(context.finish_command_list(), 20_000)
 
 
 def many_finishes(scene):
