@@ -3,9 +3,9 @@
 
     tools/hostile_runs.py [--program FILE]
 
-Standard descriptors that are closed, in all eight combinations, a full device, a closed pipe, files and folders that are missing or
-can't be read, wrong words, `--help`, scripts with a fault or a refused line, one cut at every byte, and lists that are too full. The
-answers and images that are wanted come from plain_device.py. A line is printed for each run, `right NAME` or `WRONG NAME: why` (`not
+Standard descriptors that are closed, in all eight combinations, or can't be held, a full device, a closed pipe, files and folders that are
+missing or can't be read, threads that don't start, wrong words, `--help`, scripts with a fault or a refused line, one cut at every byte, and
+lists that are full or too full. The answers and images that are wanted come from plain_device.py. A line is printed for each run, `right NAME` or `WRONG NAME: why` (`not
 tried` where root runs this, and another user, whom files can be closed to, can't reach the program). The status is 0 where none is
 wrong.
 """
@@ -15,6 +15,7 @@ import dataclasses
 import itertools
 import os
 import pathlib
+import resource
 import subprocess
 import sys
 import tempfile
@@ -34,6 +35,7 @@ DRAWN, REFUSED, WRONG_WORDS, FAILED = range(4)
 READ = "tiledraw: cannot read script\n"
 IMAGE = "tiledraw: cannot write image\n"
 ANSWERS = "tiledraw: cannot write answers\n"
+UNHELD = "tiledraw: cannot hold standard input, output and error\n"
 
 # The first line that standard error has where the words are not taken.
 WORDS = {
@@ -115,14 +117,17 @@ class Runs:
                 raise
             print(f"not tried {name}: the user nobody can't start {self.program}")
 
-    def ended(self, words, closed=(), output=subprocess.PIPE, is_nobody=False):
-        """How the program ends on words, with these descriptors closed."""
+    def ended(self, words, closed=(), output=subprocess.PIPE, is_nobody=False, limit=None):
+        """How the program ends on words, with these descriptors closed, and a limit of a resource."""
         image = self.room / "image.tga"
         image.unlink(missing_ok=True)
 
-        def close():
+        def prepare():
             for descriptor in closed:
                 os.close(descriptor)
+            if limit:
+                which, most = limit
+                resource.setrlimit(which, (most, most))
 
         ran = subprocess.run(
             [self.program, *words],
@@ -130,7 +135,7 @@ class Runs:
             stdout=output,
             stderr=subprocess.PIPE,
             cwd=self.room,
-            preexec_fn=close if closed else None,
+            preexec_fn=prepare if closed or limit else None,
             timeout=SECONDS,
             check=False,
             **user_of(is_nobody),
@@ -159,6 +164,26 @@ def try_closed_descriptors(runs):
             wanted = Ended(FAILED, "", ANSWERS, b"") if 1 in closed and answers else drawn
             which = ", ".join(NAMES[it] for it in closed) or "nothing"
             runs.expect(f"{name}, {workers} workers, closed: {which}", wanted, [script, "image.tga", "--workers", workers], closed=closed)
+
+
+def try_no_descriptors(runs):
+    """No further descriptor may be opened: none can be held, and nothing is read or written."""
+    script, _, _ = stored("four-tiles")
+    unheld = Ended(FAILED, "", UNHELD, None)
+    runs.expect("no further descriptor", unheld, [script, "image.tga"], limit=(resource.RLIMIT_NOFILE, 3))
+
+
+def try_few_threads(runs):
+    """The user may have so many threads, the first included: the others don't start, and the answers are the same."""
+    for name, workers in itertools.product(("counted-four-tiles", "around-a-list", "seventy-lists"), ("0", "3", "15")):
+        script, answers, image = stored(name)
+        drawn = Ended(DRAWN, answers, "", image)
+        reached = runs.room / "script.txt"
+        reached.write_bytes(script.read_bytes())
+        for most in (1, 2, 3, 4, 5, 8):
+            words = [reached, "image.tga", "--workers", workers]
+            limit = (resource.RLIMIT_NPROC, most)
+            runs.expect(f"{name}, {workers} workers, {most} threads", drawn, words, is_nobody=True, limit=limit)
 
 
 def try_outputs(runs):
@@ -226,10 +251,25 @@ def try_cuts(runs):
         runs.say(f"counted-four-tiles cut {end - start} times before the end of line {line}", complaint)
 
 
+def full_of_triangles():
+    """A list of 65,536 counted triangles, none of them empty: 21,845 and one more, of a pixel each, three times over."""
+    corners = "i vb 0 0 0 1 1 1 1 65536 0 0 2 2 2 2 0 131072 0 3 3 3 3\n"
+    indices = "i ib" + 21845 * " 0 1 2" + "\n"
+    draws = 3 * "i drawi 65535 0 0\n" + "i draw 3 0\n"
+    state = "i ds 1 1 4 0 255 255 1 1 1 8 1 1 1 8 0\ni topology 4\ni begin 0\n"
+    return "target 2 2\n" + corners + indices + state + draws
+
+
 def try_full_lists(runs):
-    """One command more than a list holds, and one issue more."""
+    """A list that holds as many triangles as it may, and one command, one issue and one triangle more than a list holds."""
     script = runs.room / "script.txt"
+    text = full_of_triangles()
+    script.write_text(text + "i end 0\ni query 0\ni pixel 0 0\n", encoding="ascii")
+    answers, image = plain_device.evaluate(script.read_bytes())
+    for workers in ("0", "3"):
+        runs.expect(f"65,536 triangles, {workers} workers", Ended(DRAWN, answers, "", image), [script, "image.tga", "--workers", workers])
     for name, text, refused in (
+        ("65,537 triangles", text + "i draw 3 0\n", "refused 11 13\n"),
         ("65,537 clears", "target 1 1\n" + 65537 * "i clearc 1 2 3 4\n", "refused 65538 13\n"),
         ("65 issues", "target 1 1\n" + 64 * "i begin 0\ni end 0\n" + "i begin 0\n", "refused 130 14\n"),
     ):
@@ -251,6 +291,18 @@ def try_words(runs):
         runs.say(name, difference(Ended(WRONG_WORDS, "", wanted, None), dataclasses.replace(got, error=first)))
 
 
+ATTEMPTS = (
+    try_closed_descriptors,
+    try_no_descriptors,
+    try_few_threads,
+    try_outputs,
+    try_scripts,
+    try_cuts,
+    try_full_lists,
+    try_words,
+)
+
+
 def main():
     parser = argparse.ArgumentParser(description=__doc__, formatter_class=argparse.RawDescriptionHelpFormatter)
     parser.add_argument("--program", help="the built program, if it isn't found by itself")
@@ -260,10 +312,10 @@ def main():
     except ProgramMissing as error:
         sys.exit(f"hostile_runs.py: {error}")
     with tempfile.TemporaryDirectory(prefix="hostile-") as room:
-        os.chmod(room, 0o755)
+        os.chmod(room, 0o777)
         runs = Runs(program, pathlib.Path(room))
         try:
-            for attempt in (try_closed_descriptors, try_outputs, try_scripts, try_cuts, try_full_lists, try_words):
+            for attempt in ATTEMPTS:
                 attempt(runs)
         except OSError as error:
             sys.exit(f"hostile_runs.py: {program} does not start: {error.strerror}")

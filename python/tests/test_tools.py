@@ -67,8 +67,6 @@ def test_each_file_is_a_tool_or_a_module() -> None:
         ("tools/plain_device.py", "/no/such/script", "/tmp/x.tga"),
         ("tools/plain_device.py", "x"),
         ("tools/gallery_answers.py", "x"),
-        ("tools/kernel_sums.py", "x"),
-        ("tools/bin_sums.py", "x"),
         ("tools/gate_times.py", "--no-such-option"),
         ("tools/gate_times.py", "/no/such/command"),
         ("tools/first_picture.py", "/no/such/script"),
@@ -136,7 +134,7 @@ def test_two_programs_are_timed_in_turns() -> None:
     assert [row[1] for row in rows] == ["0", "3"] and len({row[8] for row in rows}) == 1, ran.stderr
 
 
-def test_benchmarks_are_scripts() -> None:
+def test_scenes_are_scripts() -> None:
     ran = run_tool("bench/scenes.py", "ten-tiles", "2")
     lines = ran.stdout.splitlines()
     assert lines[0] == "target 2048 2048" and lines.count("i exec d0 0 1") == 2000

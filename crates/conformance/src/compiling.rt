@@ -42,13 +42,14 @@ fn has_words<A: Allocator + Copy>(compiled: &Compiled<A>, tile: u32, numbers: &[
 }
 
 /// Compiles a list for a square target.
-fn compiled_for<A: Allocator + Copy>(
+pub(crate) fn compiled_for<A: Allocator + Copy>(
     alloc: A,
     list: &CommandList<A>,
     side: u32,
 ) -> Result<Compiled<A>, GfxError>
     requires small { 0 < side }
     requires large { side ≤ 100 }
+    ensures { IfOk result (λ c. c.size ≡ record { width = side; height = side }) }
 {
     let size = Size {
         width: side,
@@ -62,7 +63,7 @@ fn compiled_for<A: Allocator + Copy>(
 }
 
 /// Both halves of 33 by 33 pixels, counted by three queries.
-fn four_tiles<A: Allocator + Copy>(alloc: A) -> Result<CommandList<A>, GfxError> {
+pub(crate) fn four_tiles<A: Allocator + Copy>(alloc: A) -> Result<CommandList<A>, GfxError> {
     let corners = [at(0, 0, 1), at(33, 0, 2), at(0, 33, 3), at(33, 33, 4)];
     list_of(
         alloc,

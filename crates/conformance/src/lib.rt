@@ -1,5 +1,6 @@
 //! Tests of what no contract says, over what the crates below hand out: scripts from bytes to bytes (`scripts`), the calls
-//! of the immediate context that no script reaches (`contexts`), recorded and compiled lists (`recording`, `compiling`),
+//! of the immediate context that no script reaches (`contexts`), recorded and compiled lists (`recording`, `compiling`), tiles
+//! in any order (`orders`),
 //! the reading of scripts (`reading`), blocks, boards, ports and their threads (`blocks`, `boards`, `ports`, `meeting`),
 //! devices (`devices`), numbers and texts of refusals (`refusals`), the command line (`words`), and the allocator that
 //! refuses a growth (`allocator`).
@@ -23,6 +24,8 @@ mod contexts;
 mod devices;
 #[cfg(test)]
 mod meeting;
+#[cfg(test)]
+mod orders;
 #[cfg(test)]
 mod ports;
 #[cfg(test)]
