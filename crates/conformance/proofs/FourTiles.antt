@@ -1,6 +1,5 @@
 -- Orders of four tiles: lists of four numbers, each with the list that says where a number stands.
 use Rattle.std.proofs.Common.{◌≡◌, ◌∙◌, ap, sym, subst, refl, arith, ℕ, zero, suc, ◌<◌, List, [], ◌∷◌, length, get_or}
-use Rattle.std.specs.List.{Contains}
 use Rattle.gfxspec.specs.declared.geometry.Size.{Size}
 use Rattle.gfxspec.specs.Tiles.{tile_count}
 use Rattle.binner.specs.Compiled.{Compilation, IsCompilation}
