@@ -1,4 +1,4 @@
--- What a crew did with the tiles that a compiled list touches.
+-- What was done with the tiles that a compiled list touches.
 use Rattle.std.proofs.Common.{◌≡◌, ◌∙◌, sym, ap, refl, arith, ℕ, ◌<◌, List, [], ◌∷◌, length, get_or, replicate}
 use Rattle.std.specs.List.{Contains, sum_by}
 use Rattle.std.proofs.lemmas.List.{get_or-replicate, length-replicate}

@@ -15,6 +15,7 @@ ghost use Rattle.immediate.specs.Next.{ExecutesNext};
 ghost use Rattle.immediate.specs.Held.{Ran, held_of, context_of, shown, answered, Runs};
 
 use crate::counts::some_begins;
+use crate::drawing::TileCrew;
 use crate::output::Output;
 use cmdlist::{Call, CommandList, DeferredContext, DeviceContext};
 use gfxspec::{GfxError, Pixel, QUERY_LIMIT, Size, WORKER_LIMIT};
@@ -64,6 +65,27 @@ fn run_pending<A: Allocator + Copy + Send + Sync, R: Threads + Sync, G: Gate + S
     let begun = pending.next(true)?;
     output.run_with_workers(rt, pending.commands(), workers, gate)?;
     *pending = begun;
+    Ok(())
+}
+
+/// The same by a crew beside the caller.
+fn run_pending_by_crew<'a, A: Allocator + Copy + Send + Sync, R: Threads + Wait + Sync, G: Gate>(
+    output: &mut Output<A>,
+    pending: &mut DeferredContext<A>,
+    rt: &R,
+    crew: &TileCrew<'a, A>,
+    gate: &G,
+) -> Result<(), GfxError>
+    ensures ok { OnOk result (Ran [] true (held_of output.old pending.old) (held_of output.new pending.new)) }
+    ensures memory { IfErr result (λ e. e ≡ OutOfMemory) }
+    ensures same { OnErr result ((output.new ≡ output.old) × (pending.new ≡ pending.old)) }
+{
+    if pending.is_kept_state_alone() {
+        return Ok(());
+    }
+    let fresh = pending.next(true)?;
+    output.run_by_crew(rt, pending.commands(), crew, gate)?;
+    *pending = fresh;
     Ok(())
 }
 
@@ -336,6 +358,87 @@ impl<A: Allocator + Copy + Send + Sync> ImmediateContext<A> {
             Ok(()) => Ok(Some((next.port, next.number))),
             Err(refusal) => Err((refusal, Some(next))),
         }
+    }
+}
+
+impl<A: Allocator + Copy + Send + Sync> ImmediateContext<A> {
+    /// `flush_alone` by a crew beside the caller. It may wait for a thread that has a tile in its hands. Refused with
+    /// QueryOpen, OutOfMemory.
+    pub fn flush_by_crew<'a, R: Threads + Wait + Sync, G: Gate>(
+        &mut self,
+        rt: &R,
+        crew: &TileCrew<'a, A>,
+        gate: &G,
+    ) -> Result<(), GfxError>
+        ensures { Runs (flush_rows (queries_open self.old.pending)) [] true self.old self.new result }
+    {
+        if self.pending.has_open_queries() {
+            return Err(GfxError::QueryOpen);
+        }
+        run_pending_by_crew(&mut self.output, &mut self.pending, rt, crew, gate)
+    }
+
+    /// `execute_alone` by a crew beside the caller. Refused with QueryOpen, OutOfMemory.
+    pub fn execute_by_crew<'a, R: Threads + Wait + Sync, G: Gate>(
+        &mut self,
+        rt: &R,
+        list: &CommandList<A>,
+        restore: bool,
+        crew: &TileCrew<'a, A>,
+        gate: &G,
+    ) -> Result<(), GfxError>
+        ensures { Runs (flush_rows (queries_open self.old.pending)) list.now restore self.old self.new result }
+    {
+        self.flush_by_crew(rt, crew, gate)?;
+        self.output.run_by_crew(rt, list.commands(), crew, gate)?;
+        begin_anew(self.alloc, &mut self.pending, restore);
+        Ok(())
+    }
+
+    /// `pixel_alone` by a crew beside the caller. Refused with PixelRange, QueryOpen, OutOfMemory.
+    pub fn pixel_by_crew<'a, R: Threads + Wait + Sync, G: Gate>(
+        &mut self,
+        rt: &R,
+        x: u32,
+        y: u32,
+        crew: &TileCrew<'a, A>,
+        gate: &G,
+    ) -> Result<Pixel, GfxError>
+        ensures runs { Runs (pixel_rows self.old.surface.size (queries_open self.old.pending) x y) [] true self.old self.new result }
+        ensures value { IfOk result (λ p. p ≡ shown self.old x y) }
+    {
+        let size = self.output.target().size();
+        if x >= size.width || y >= size.height {
+            return Err(GfxError::PixelRange);
+        }
+        self.flush_by_crew(rt, crew, gate)?;
+        let pixel = self.output.target().pixel(x, y);
+        Ok(pixel)
+    }
+
+    /// `get_data_alone` by a crew beside the caller. Refused with QueryNumber, QueryOpen, NotIssued, OutOfMemory.
+    pub fn get_data_by_crew<'a, R: Threads + Wait + Sync, G: Gate>(
+        &mut self,
+        rt: &R,
+        query: u32,
+        crew: &TileCrew<'a, A>,
+        gate: &G,
+    ) -> Result<u64, GfxError>
+        ensures runs { Runs (query_rows (queries_open self.old.pending) (answered self.old query) query) [] true self.old self.new result }
+        ensures value { IfOk result (λ count. Some count ≡ answered self.old query) }
+    {
+        if query >= QUERY_LIMIT {
+            return Err(GfxError::QueryNumber);
+        }
+        if self.pending.has_open_queries() {
+            return Err(GfxError::QueryOpen);
+        }
+        if !self.is_issued(query) {
+            return Err(GfxError::NotIssued);
+        }
+        self.flush_by_crew(rt, crew, gate)?;
+        let answer = self.counted(query);
+        Ok(answer)
     }
 }
 

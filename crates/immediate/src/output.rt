@@ -15,13 +15,14 @@ ghost use Rattle.immediate.specs.Issues.{acts};
 ghost use Rattle.immediate.specs.Outputs.{HasRun, IsRunBy};
 
 use crate::counts::store_counts;
-use crate::crew::{draw_alone, draw_with_workers};
+use crate::drawing::{TileCrew, draw_alone, draw_by_crew, draw_with_workers};
 use binmem::Bins;
 use binner::{Compiled, compile, compile_parallel};
 use cmdlist::Command;
 use gfxspec::GfxError;
 use std::alloc::Allocator;
 use std::marker::Model;
+use std::sync::Wait;
 use std::thread::Threads;
 use tileblock::Target;
 use workers::Gate;
@@ -174,7 +175,7 @@ impl<A: Allocator + Copy + Send> Output<A> {
         let Some(compiled) = self.compiled(commands)? else {
             return Ok(());
         };
-        let drawn = draw_alone(&self.alloc, &compiled, &mut self.target);
+        let (drawn, compiled) = draw_alone(&self.alloc, compiled, &mut self.target);
         self.bins = Some(compiled.into_bins());
         let counts = drawn?;
         store_counts(&mut self.results, commands, counts.as_slice());
@@ -229,7 +230,37 @@ impl<A: Allocator + Copy + Send + Sync> Output<A> {
         let Some(compiled) = self.compiled_in_threads(rt, commands, workers)? else {
             return Ok(());
         };
-        let drawn = draw_with_workers(rt, &self.alloc, &compiled, &mut self.target, workers, gate);
+        let (drawn, compiled) = draw_with_workers(
+            rt,
+            &self.alloc,
+            compiled,
+            &mut self.target,
+            workers,
+            gate,
+        );
+        self.bins = Some(compiled.into_bins());
+        let counts = drawn?;
+        store_counts(&mut self.results, commands, counts.as_slice());
+        Ok(())
+    }
+
+    /// The same as `run_alone` by the threads of a crew beside the caller, which passes the gate too.
+    pub(crate) fn run_by_crew<'a, R: Threads + Wait + Sync, G: Gate>(
+        &mut self,
+        rt: &R,
+        commands: &[Command<A>],
+        crew: &TileCrew<'a, A>,
+        gate: &G,
+    ) -> Result<(), GfxError>
+        requires accepted { AreAccepted (map command_value commands.now) }
+        ensures ok { OnOk result (HasRun (map command_value commands.now) self.old self.new) }
+        ensures memory { IfErr result (λ e. e ≡ OutOfMemory) }
+        ensures err { OnErr result (self.new ≡ self.old) }
+    {
+        let Some(compiled) = self.compiled_in_threads(rt, commands, crew.workers())? else {
+            return Ok(());
+        };
+        let (drawn, compiled) = draw_by_crew(rt, crew, compiled, &mut self.target, gate);
         self.bins = Some(compiled.into_bins());
         let counts = drawn?;
         store_counts(&mut self.results, commands, counts.as_slice());

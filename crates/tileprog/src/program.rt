@@ -12,13 +12,14 @@ use tilecore::TileJob;
 use tilerun::BlockJob;
 
 /// A compiled list, as a job whose tiles are those that have words. On a board each has the number of its place among
-/// these, so a list that draws on ten tiles of a large target pays for ten.
+/// these, so a list that draws on ten tiles of a large target pays for ten. The job owns the list, so that threads may
+/// keep it beside its board for as long as they run tiles.
 #[derive(Drop)]
-pub struct TileProgram<'a, A: Allocator> {
-    compiled: &'a Compiled<A>,
-    ghost few: { length compiled.now.touched ≤ 16384 },
-    ghost few_issues: { compiled.now.issues ≤ 64 },
-    ghost tiles: { AreTiles compiled.now.size compiled.now.touched },
+pub struct TileProgram<A: Allocator> {
+    compiled: Compiled<A>,
+    ghost few: { length compiled.touched ≤ 16384 },
+    ghost few_issues: { compiled.issues ≤ 64 },
+    ghost tiles: { AreTiles compiled.size compiled.touched },
 }
 
 /// A tile that waits at its place.
@@ -39,19 +40,27 @@ pub struct RunTile<A: Allocator> {
     prefetched: u64,
 }
 
-impl<'a, A: Allocator + Copy> TileProgram<'a, A> {
+impl<A: Allocator + Copy> TileProgram<A> {
     ghost use Rattle.std.specs.Prelude.{◌≡◌};
 
     /// The job of a compiled list.
-    pub fn new(compiled: &'a Compiled<A>) -> TileProgram<'a, A>
-        ensures { result.compiled.now ≡ compiled.now }
+    pub fn new(compiled: Compiled<A>) -> TileProgram<A>
+        ensures { result.compiled ≡ compiled }
     {
         let _touched = compiled.touched();
         TileProgram { compiled }
     }
+
+    /// The compiled list.
+    pub fn into_compiled(self) -> Compiled<A>
+        ensures { result ≡ self.compiled }
+    {
+        let TileProgram { compiled } = self;
+        compiled
+    }
 }
 
-impl<'a, A: Allocator + Copy + Send> TileJob for TileProgram<'a, A> {
+impl<A: Allocator + Copy + Send> TileJob for TileProgram<A> {
     type Open = PlacedTile<A>;
 
     type Done = RunTile<A>;
@@ -62,9 +71,9 @@ impl<'a, A: Allocator + Copy + Send> TileJob for TileProgram<'a, A> {
     ghost use Rattle.gfxspec.specs.Tiles.{tile_rect};
     ghost use Rattle.tileprog.specs.Programs.{TileRan};
 
-    ghost tile_count = { λ job. length job.compiled.now.touched };
+    ghost tile_count = { λ job. length job.compiled.touched };
 
-    ghost issue_count = { λ job. job.compiled.now.issues };
+    ghost issue_count = { λ job. job.compiled.issues };
 
     ghost tile_number = { λ tile. tile.place };
 
@@ -72,12 +81,12 @@ impl<'a, A: Allocator + Copy + Send> TileJob for TileProgram<'a, A> {
 
     ghost done_count = { λ done issue. slice_index done.counts issue };
 
-    ghost fits = { λ job tile. (get_elem? job.compiled.now.touched tile.place ≡ some tile.tile.number)
-        × (tile.tile.block.rect ≡ tile_rect job.compiled.now.size tile.tile.number) };
+    ghost fits = { λ job tile. (get_elem? job.compiled.touched tile.place ≡ some tile.tile.number)
+        × (tile.tile.block.rect ≡ tile_rect job.compiled.size tile.tile.number) };
 
     ghost gives = { λ job tile done. (done.place ≡ tile.place)
-        × (get_elem? job.compiled.now.touched tile.place ≡ some tile.tile.number)
-        × TileRan job.compiled.now tile.tile.number tile.tile.block done.block done.counts };
+        × (get_elem? job.compiled.touched tile.place ≡ some tile.tile.number)
+        × TileRan job.compiled tile.tile.number tile.tile.block done.block done.counts };
 
     fn tiles(&self) -> u32 {
         self.compiled.touched().len() as u32
@@ -108,8 +117,8 @@ impl<'a, A: Allocator + Copy + Send> TileJob for TileProgram<'a, A> {
     fn run(&self, tile: PlacedTile<A>) -> RunTile<A> {
         let PlacedTile { place, tile } = tile;
         let OpenTile { number, mut block } = tile;
-        let prefetched = prefetch(self.compiled, number);
-        let counts = run_words(self.compiled, number, &mut block);
+        let prefetched = prefetch(&self.compiled, number);
+        let counts = run_words(&self.compiled, number, &mut block);
         RunTile {
             place,
             block,
@@ -124,14 +133,14 @@ impl<'a, A: Allocator + Copy + Send> TileJob for TileProgram<'a, A> {
 
     ghost few_issues = { λ job. job.few_issues };
 
-    ghost in_range = { λ job tile h. within job.compiled.now.touched tile.place tile.tile.number h.0 };
+    ghost in_range = { λ job tile h. within job.compiled.touched tile.place tile.tile.number h.0 };
 
     ghost keeps_number = { λ job tile done h. h.0 };
 
     ghost small_counts = { λ job tile done issue h less. h.2.few issue less };
 }
 
-impl<'a, A: Allocator + Copy + Send> BlockJob for TileProgram<'a, A> {
+impl<A: Allocator + Copy + Send> BlockJob for TileProgram<A> {
     type Block = TileBlock<A>;
 
     ghost use Rattle.std.specs.Prelude.{◌≡◌};
@@ -142,29 +151,29 @@ impl<'a, A: Allocator + Copy + Send> BlockJob for TileProgram<'a, A> {
 
     ghost shown = { λ block. block };
 
-    ghost target_size = { λ job. job.compiled.now.size };
+    ghost target_size = { λ job. job.compiled.size };
 
-    ghost touched = { λ job. job.compiled.now.touched };
+    ghost touched = { λ job. job.compiled.touched };
 
     ghost open_block = { λ tile. tile.tile.block };
 
     ghost done_block = { λ done. done.block };
 
-    ghost drawn = { λ job. pixel_by job.compiled.now };
+    ghost drawn = { λ job. pixel_by job.compiled };
 
-    ghost counted = { λ job. count_by job.compiled.now };
+    ghost counted = { λ job. count_by job.compiled };
 
     fn touched(&self) -> &[u32] {
         self.compiled.touched()
     }
 
     fn open(&self, place: u32, number: u32, block: TileBlock<A>) -> PlacedTile<A>
-        requires place { get_elem? self.now.compiled.now.touched place ≡ some number }
-        requires rect { block.rect ≡ tile_rect self.now.compiled.now.size number }
+        requires place { get_elem? self.now.compiled.touched place ≡ some number }
+        requires rect { block.rect ≡ tile_rect self.now.compiled.size number }
         ensures place { result.place ≡ place }
         ensures block { result.tile.block ≡ block }
-        ensures fits { (get_elem? self.now.compiled.now.touched result.place ≡ some result.tile.number)
-            × (result.tile.block.rect ≡ tile_rect self.now.compiled.now.size result.tile.number) }
+        ensures fits { (get_elem? self.now.compiled.touched result.place ≡ some result.tile.number)
+            × (result.tile.block.rect ≡ tile_rect self.now.compiled.size result.tile.number) }
     {
         PlacedTile {
             place,
@@ -186,10 +195,10 @@ impl<'a, A: Allocator + Copy + Send> BlockJob for TileProgram<'a, A> {
     ghost keeps_rect = { λ job tile done h. h.2.rect };
 
     ghost draws = { λ job tile done t x y h at inside. subst
-        (λ n. pixel_at done.block x y ≡ pixel_by job.compiled.now n x y (pixel_at tile.tile.block x y))
+        (λ n. pixel_at done.block x y ≡ pixel_by job.compiled n x y (pixel_at tile.tile.block x y))
         (some-injective tile.tile.number t (sym h.1 ∙ at)) (h.2.pixels x y inside) };
 
     ghost counts = { λ job tile done t issue opening h at less agree. subst
-        (λ n. slice_index done.counts issue ≡ count_by job.compiled.now n issue opening)
+        (λ n. slice_index done.counts issue ≡ count_by job.compiled n issue opening)
         (some-injective tile.tile.number t (sym h.1 ∙ at)) (h.2.counts issue opening less agree) };
 }

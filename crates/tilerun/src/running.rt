@@ -19,9 +19,10 @@ use crate::block_job::BlockJob;
 use arrayvec::ArrayVec;
 use board::{Board, Finished, Seat};
 use std::alloc::Allocator;
+use std::sync::Wait;
 use std::thread::Threads;
 use tileblock::{OpenTile, Target, TileBlock};
-use workers::{Gate, drain_alone, run_all};
+use workers::{Crew, Gate, drain_alone, run_all, run_by_crew};
 
 // Takes the job's tiles out of the target, and places them.
 fn place_all<'a, A: Allocator, J: BlockJob<Block = TileBlock<A>>>(
@@ -153,4 +154,36 @@ pub fn run_with_workers<
     place_all(&board, &mut seat, target, job);
     let seat = run_all(rt, &board, seat, job, workers, gate);
     finish(board, seat, target, job)
+}
+
+/// The same by the threads of a crew beside the caller, which may wait for one that has a tile in its hands. The job comes
+/// back as it was.
+pub fn run_with_crew<
+    'a,
+    A: Allocator + Sync,
+    J: BlockJob<Block = TileBlock<A>> + Drop + Send + Sync,
+    G: Gate,
+    R: Wait,
+>(
+    rt: &R,
+    crew: &Crew<'a, J, A>,
+    board: Board<'a, J, A>,
+    seat: Seat<J>,
+    target: &mut Target<A>,
+    job: J,
+    gate: &G,
+) -> (ArrayVec<u64, 64>, J)
+    requires shown { ShowsBlocks J.shown }
+    requires new { AreNew J.tile_count J.issue_count job true board seat }
+    requires target { IsWhole target.old × (J.target_size job ≡ target.old.size) }
+    ensures drawn { IsDrawn (J.drawn job) (J.touched job) target.old target.new }
+    ensures counts { AreCounts (J.counted job) (J.issue_count job) (J.touched job) (pixel_of target.old)
+        result.0.items }
+    ensures job { result.1 ≡ job }
+{
+    let mut seat = seat;
+    place_all(&board, &mut seat, target, &job);
+    let (board, seat, job) = run_by_crew(rt, crew, board, seat, job, gate);
+    let counts = finish(board, seat, target, &job);
+    (counts, job)
 }

@@ -4,9 +4,9 @@ use Rattle.tileprog.proofs.program.TileProgram.new.Goals as goal
 pub invariant_of-result : goal.invariant_of-result
 invariant_of-result g c =
     let sound = c.touched-touched.ensures.sound in
-    let tiles = are_tiles c.args.compiled.now sound in
+    let tiles = are_tiles c.args.compiled sound in
     record {
-      few = few_tiles_in c.args.compiled.now.size sound.size c.args.compiled.now.touched tiles;
+      few = few_tiles_in c.args.compiled.size sound.size c.args.compiled.touched tiles;
       few_issues = sound.issues;
       tiles = tiles;
     }

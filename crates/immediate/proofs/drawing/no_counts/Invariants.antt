@@ -1,5 +1,5 @@
 use Rattle.std.proofs.Common.{◌≡◌, replicate}
-use Rattle.immediate.proofs.crew.no_counts.Given as goal
+use Rattle.immediate.proofs.drawing.no_counts.Given as goal
 
 abbrev pub invariant-loop : goal.invariant-loop
 invariant-loop l = l.counts.items ≡ replicate l.counter 0

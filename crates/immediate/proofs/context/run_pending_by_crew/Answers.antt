@@ -1,0 +1,10 @@
+use Rattle.std.proofs.Common.{subst, List}
+use Rattle.gfxspec.specs.Commands.{Command}
+use Rattle.immediate.specs.Outputs.{HasRun}
+use Rattle.immediate.proofs.Runs.{pending_ran}
+use Rattle.immediate.proofs.context.run_pending_by_crew.Goals as goal
+
+pub returns-clause-ok : goal.returns-clause-ok
+returns-clause-ok g c =
+    pending_ran c.args.output.now c.run_by_crew.new.self c.args.pending.now c.in_ok-fresh.fresh
+    (subst (λ (list : List Command). HasRun list c.args.output.now c.run_by_crew.new.self) c.commands.ensures.commands c.in_ok-run_by_crew.ensures.ok) c.in_ok-fresh.ensures.next

@@ -1,0 +1,132 @@
+//! Who runs the tiles of a compiled list: the caller alone, threads that are started beside it, or a crew. Memory is refused
+//! before the first tile is taken, and then nothing is changed; where no tile has words no board is made.
+
+ghost use Rattle.std.specs.Prelude.{◌≡◌, ◌≤◌, replicate, IfOk, IfErr, OnErr};
+ghost use Rattle.gfxspec.specs.declared.error.GfxError.TheVariants.{OutOfMemory};
+ghost use Rattle.tileblock.specs.Surface.{IsWhole};
+ghost use Rattle.binner.specs.Compiled.{IsCompilation};
+ghost use Rattle.tileprog.specs.Programs.{ProgramsRan};
+
+use arrayvec::ArrayVec;
+use binner::Compiled;
+use board::Board;
+use gfxspec::GfxError;
+use std::alloc::Allocator;
+use std::sync::Wait;
+use std::thread::Threads;
+use tileblock::Target;
+use tileprog::TileProgram;
+use tilerun::{run_alone, run_with_crew, run_with_workers};
+use workers::{Crew, Gate};
+
+/// A crew that runs the tiles of compiled lists.
+pub type TileCrew<'a, A> = Crew<'a, TileProgram<A>, A>;
+
+/// The counts of a run, or why it was refused, and the compiled list as it was.
+pub(crate) type Drawn<A> = (Result<ArrayVec<u64, 64>, GfxError>, Compiled<A>);
+
+/// A count of 0 for each issue.
+fn no_counts(issues: u32) -> ArrayVec<u64, 64>
+    requires { issues ≤ 64 }
+    ensures { result.items ≡ replicate issues 0 }
+{
+    let mut counts = ArrayVec::new();
+    for _ in 0..issues {
+        counts.push(0);
+    }
+    counts
+}
+
+/// The tiles of a compiled list on the caller's thread.
+pub(crate) fn draw_alone<A: Allocator + Copy + Send>(
+    alloc: &A,
+    program: Compiled<A>,
+    target: &mut Target<A>,
+) -> Drawn<A>
+    requires size { program.size ≡ target.old.size }
+    requires whole { IsWhole target.old }
+    ensures sound { IsCompilation program }
+    ensures ok { IfOk result.0 (λ counts. ProgramsRan program target.old target.new counts.items) }
+    ensures err { OnErr result.0 (target.new ≡ target.old) }
+    ensures memory { IfErr result.0 (λ e. e ≡ OutOfMemory) }
+    ensures same { result.1 ≡ program }
+{
+    if program.touched().is_empty() {
+        let counts = no_counts(program.issues());
+        return (Ok(counts), program);
+    }
+    let job = TileProgram::new(program);
+    match Board::new(alloc, &job) {
+        Ok((board, seat)) => {
+            let counts = run_alone(board, seat, target, &job);
+            (Ok(counts), job.into_compiled())
+        }
+        Err(refusal) => (Err(refusal), job.into_compiled()),
+    }
+}
+
+/// The same with as many threads beside the caller, each of which passes the gate.
+pub(crate) fn draw_with_workers<
+    A: Allocator + Copy + Send + Sync,
+    R: Threads + Sync,
+    G: Gate + Sync,
+>(
+    rt: &R,
+    alloc: &A,
+    program: Compiled<A>,
+    target: &mut Target<A>,
+    workers: u32,
+    gate: &G,
+) -> Drawn<A>
+    requires size { program.size ≡ target.old.size }
+    requires whole { IsWhole target.old }
+    requires workers { workers ≤ 15 }
+    ensures sound { IsCompilation program }
+    ensures ok { IfOk result.0 (λ counts. ProgramsRan program target.old target.new counts.items) }
+    ensures err { OnErr result.0 (target.new ≡ target.old) }
+    ensures memory { IfErr result.0 (λ e. e ≡ OutOfMemory) }
+    ensures same { result.1 ≡ program }
+{
+    if program.touched().is_empty() {
+        let counts = no_counts(program.issues());
+        return (Ok(counts), program);
+    }
+    let job = TileProgram::new(program);
+    match Board::new_named(alloc, &job) {
+        Ok((board, seat)) => {
+            let counts = run_with_workers(rt, board, seat, target, &job, workers, gate);
+            (Ok(counts), job.into_compiled())
+        }
+        Err(refusal) => (Err(refusal), job.into_compiled()),
+    }
+}
+
+/// The same by the threads of a crew beside the caller, which passes the gate too.
+pub(crate) fn draw_by_crew<'a, A: Allocator + Copy + Send + Sync, R: Wait, G: Gate>(
+    rt: &R,
+    crew: &TileCrew<'a, A>,
+    program: Compiled<A>,
+    target: &mut Target<A>,
+    gate: &G,
+) -> Drawn<A>
+    requires size { program.size ≡ target.old.size }
+    requires whole { IsWhole target.old }
+    ensures sound { IsCompilation program }
+    ensures ok { IfOk result.0 (λ counts. ProgramsRan program target.old target.new counts.items) }
+    ensures err { OnErr result.0 (target.new ≡ target.old) }
+    ensures memory { IfErr result.0 (λ e. e ≡ OutOfMemory) }
+    ensures same { result.1 ≡ program }
+{
+    if program.touched().is_empty() {
+        let counts = no_counts(program.issues());
+        return (Ok(counts), program);
+    }
+    let job = TileProgram::new(program);
+    match Board::new_named(crew.allocator(), &job) {
+        Ok((board, seat)) => {
+            let (counts, job) = run_with_crew(rt, crew, board, seat, target, job, gate);
+            (Ok(counts), job.into_compiled())
+        }
+        Err(refusal) => (Err(refusal), job.into_compiled()),
+    }
+}
