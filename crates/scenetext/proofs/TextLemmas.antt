@@ -75,7 +75,7 @@ no_spaces : (ws : List (List ℕ)) → AllByRecursion IsWordText ws → AllByRec
 no_spaces [] h = tt
 no_spaces (w ∷ ws) h = (h.0.no_space, no_spaces ws h.1)
 
-not_lf : (b : ℕ) → is_printable b ≡ true → eqb b 10 ≡ false
+pub not_lf : (b : ℕ) → is_printable b ≡ true → eqb b 10 ≡ false
 not_lf b h = grind (arith, nat_tests)
 
 pub and_left : (a b : Bool) → (a && b) ≡ true → a ≡ true

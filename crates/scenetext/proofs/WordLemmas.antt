@@ -1,17 +1,20 @@
 -- Words that spell numbers.
-use Rattle.std.proofs.Common.{◌≡◌, ◌≢◌, ℕ, ℤ, pos, negsuc, neg_ℤ, ◌-ℤ◌, zero, suc, ◌+◌, ◌-◌, ◌*◌, ◌^◌, ◌<◌, ◌≤◌, true, false, eqb, List, [], ◌∷◌, ◌++◌, length, get_or, take, drop, take_all, length-take-le, Result, Ok, Err, refl, sym, ap, subst, ◌∙◌, arith}
+use Rattle.std.proofs.Common.{◌≡◌, ◌≢◌, ℕ, ℤ, pos, negsuc, neg_ℤ, ◌-ℤ◌, zero, suc, ◌+◌, ◌-◌, ◌*◌, ◌^◌, ◌<◌, ◌≤◌, true, false, not, eqb, List, [], ◌∷◌, ◌++◌, length, get_or, take, drop, take_all, length-take-le, Result, Ok, Err, refl, sym, ap, subst, ⊎_elim, ◌∙◌, arith}
 use Rattle.std.specs.Prelude.{decimal, IfSome, IfNone, FitsSigned}
-use Rattle.std.specs.Int.{w32, w64}
+use Rattle.std.specs.Int.{w32, w64, IsInRange}
 use Rattle.std.specs.Result.{OkIff, result_ok}
 use Rattle.std.specs.Fmt.{digits, signed_decimal}
 use Rattle.std.specs.Char.{digit_value, is_ascii_digit}
 use Rattle.std.specs.Str.Parse.{AllDigits, digits_value, digits_value_after}
 use Rattle.std.proofs.lemmas.Bool.Decides.{nat_tests}
-use Rattle.std.proofs.lemmas.List.{take_more}
+use Rattle.std.proofs.lemmas.Bool.{cases_lt, eqb-true}
+use Rattle.std.proofs.lemmas.List.{take_more, get_or-take}
+use Rattle.std.proofs.lemmas.List.Sums.{prefix_len-le-length, passes_at_first, position_or_len_is}
 use Rattle.std.proofs.lemmas.Str.Parse.{digits_value_short, digit_at}
 use Rattle.std.proofs.lemmas.Fmt.{digits_decimal, decimal-digits_value, decimal_nonempty, first_decimal, length-decimal-le, decimal_injective}
 use Rattle.std.proofs.lemmas.Int.{ints, to_z-of_z}
 use mir.Val.{to_z, of_z}
+use Rattle.scenetext.specs.Reading.{LeadsWith, first_length, first_word}
 use Rattle.scenetext.proofs.NumberLemmas.{own, no_minus, value, value-decimal}
 
 -- ---- one digit more
@@ -37,7 +40,7 @@ pub value_more : (ds : List ℕ) (i : ℕ) → i < length ds → digits_value 10
 value_more ds i l = rw (take_more ds i 0 l) (value-push 0 (take i ds) (get_or ds i 0))
 
 -- the digits read so far leave room for one more
-pub value_room : (ds : List ℕ) (i : ℕ) → i < length ds → length ds ≤ 10 → AllDigits 10 (take i ds) → digits_value 10 (take i ds) < 10 ^ 9
+pub value_room : (ds : List ℕ) (i : ℕ) → i < length ds → i < 10 → AllDigits 10 (take i ds) → digits_value 10 (take i ds) < 10 ^ 9
 value_room ds i l h a = digits_value_short own (take i ds) 9 a (omega (arith, length-take-le i ds))
 
 -- ---- plain decimal
@@ -79,6 +82,43 @@ pub natural_none : {E : Type 0} (bs : List ℕ) (v : ℕ) (r : Result ℕ E) →
 natural_none bs v (Ok n) e p = tt
 natural_none bs v (Err x) e p = λ n h d. p (omega (arith, (is_decimal bs n h d).is))
 
+-- ---- the first word of a line
+
+-- where the first word is a number, it is the digits at the front
+front_is : (line : List ℕ) (n count value : ℕ) → LeadsWith line count value → n < 2 ^ 32 → first_word line ≡ decimal n → first_length line ≡ count
+front_is line n count value h small e =
+    let d = is_decimal (first_word line) n small e in
+    let p = first_length line in
+    let within : p ≤ length line = prefix_len-le-length (λ b. not (eqb b 32)) line in
+    let long : length (first_word line) ≡ p = length-take-le p line within in
+    ⊎_elim
+    (λ less. absurd (not_all (first_word line) count (omega (arith, less, long)) (ap is_ascii_digit (get_or-take p line count 0 less) ∙ h.ends (omega (arith, less, long, d.short)) (omega (arith, less, within))) d.all))
+    (λ more. ⊎_elim
+    (λ less.
+    let space : get_or line p 0 ≡ 32 = eqb-true _ 32 (passes_at_first (λ b. eqb b 32) line 0 (omega (arith, less, h.within))) in
+    let taken = length-take-le count line h.within in
+    absurd (not_all (take count line) p (omega (arith, less, taken)) (ap is_ascii_digit (get_or-take count line p 0 less ∙ space)) h.digits))
+    (λ up. omega (arith, more, up))
+    (cases_lt p count))
+    (cases_lt count p)
+
+pub not_ended : (line : List ℕ) (count value : ℕ) → LeadsWith line count value → count < length line → get_or line count 0 ≢ 32 → (n : ℕ) → n < 2 ^ 32 → first_word line ≢ decimal n
+not_ended line count value h l other n small e =
+    let is = front_is line n count value h small e in
+    other (ap (λ i. get_or line i 0) (sym is) ∙ eqb-true _ 32 (passes_at_first (λ b. eqb b 32) line 0 (omega (arith, is, l))))
+
+pub not_spelled : (line : List ℕ) (count value : ℕ) → LeadsWith line count value → ((n : ℕ) → n < 2 ^ 32 → take count line ≢ decimal n) → (n : ℕ) → n < 2 ^ 32 → first_word line ≢ decimal n
+not_spelled line count value h none n small e = none n small (ap (λ i. take i line) (sym (front_is line n count value h small e)) ∙ e)
+
+pub ended : (line : List ℕ) (count value : ℕ) → LeadsWith line count value → (count < length line → get_or line count 0 ≡ 32) → first_length line ≡ count
+ended line count value h space = position_or_len_is (λ b. eqb b 32) line count 0 h.within (λ k less. digit k less) (λ l. ap (λ b. eqb b 32) (space l))
+  where
+    other : (c : ℕ) → IsInRange 48 57 c → eqb c 32 ≡ false
+    other c d = grind (arith, nat_tests)
+
+    digit : (k : ℕ) → k < count → eqb (get_or line k 0) 32 ≡ false
+    digit k less = ap (λ c. eqb c 32) (sym (get_or-take count line k 0 less)) ∙ other (get_or (take count line) k 0) (digit_at (take count line) k h.digits (omega (arith, less, length-take-le count line h.within)))
+
 -- ---- numbers below zero
 
 pub no_sign : (bs : List ℕ) (n : ℕ) → n < 2 ^ 64 → bs ≡ decimal n → get_or bs 0 0 ≢ 45
@@ -100,10 +140,6 @@ minus_decimal (negsuc m) (suc n) f h e =
     let k : m ≡ n = omega arith in
     ap negsuc k
 
-pub decimal_minus : (n : ℕ) → n ≢ 0 → signed_decimal (neg_ℤ (pos n)) ≡ 45 ∷ decimal n
-decimal_minus zero h = absurd (h refl)
-decimal_minus (suc n) h = refl
-
 pub negated : (n : ℕ) (m : ℤ) → n < 2 ^ 32 → m ≡ pos n → to_z w64 (of_z w64 (pos 0 -ℤ to_z w64 (of_z w64 m))) ≡ neg_ℤ (pos n)
 negated n m h e =
     let f : FitsSigned w64 (pos n) = omega (arith, ints) in
@@ -111,20 +147,21 @@ negated n m h e =
     rw (e, to_z-of_z w64 (pos n) f, to_z-of_z w64 (pos 0 -ℤ pos n) g) (omega (arith, ints))
 
 -- from the number of 64 bits that is tried
-pub negative_some : {E : Type 0} (n : ℕ) (y : ℤ) (r : Result ℤ E) → n ≢ 0 → y ≡ neg_ℤ (pos n) → OkIff r (FitsSigned w32 y) y → IfSome (result_ok r) (λ z. signed_decimal z ≡ 45 ∷ decimal n)
-negative_some n y (Ok z) h e p = ap signed_decimal (p.1 ∙ e) ∙ decimal_minus n h
-negative_some n y (Err x) h e p = tt
-
 pub negative_none : {E : Type 0} (n : ℕ) (y : ℤ) (r : Result ℤ E) → n < 2 ^ 32 → y ≡ neg_ℤ (pos n) → OkIff r (FitsSigned w32 y) y → IfNone (result_ok r) ((z : ℤ) → FitsSigned w32 z → signed_decimal z ≢ 45 ∷ decimal n)
 negative_none n y (Ok z) h e p = tt
 negative_none n y (Err x) h e p = λ z f d. p (subst (λ v. FitsSigned w32 v) (minus_decimal z n f h d ∙ sym e) f)
 
--- a word that begins with a minus
+-- a line that begins with a minus
 pub minus_word : (bs ds : List ℕ) → get_or bs 0 0 ≡ 45 → 1 ≤ length bs → ds ≡ take (length bs - 1) (drop 1 bs) → bs ≡ 45 ∷ ds
 minus_word [] ds m l e = absurd (omega arith)
 minus_word (b ∷ bs) ds m l e =
     let k : suc (length bs) - 1 ≡ length bs = omega arith in
     ap (λ c. c ∷ bs) m ∙ ap (λ (xs : List ℕ). 45 ∷ xs) (sym (e ∙ ap (λ n. take n bs) k ∙ take_all (length bs) bs (omega arith)))
+
+pub first_behind_minus : (line ds : List ℕ) → line ≡ 45 ∷ ds → (first_word line ≡ 45 ∷ first_word ds) × (first_length line ≡ first_length ds + 1)
+first_behind_minus line ds e =
+    let one : first_length (45 ∷ ds) ≡ suc (first_length ds) = omega arith in
+    (ap first_word e ∙ ap (λ n. take n (45 ∷ ds)) one, ap first_length e ∙ omega arith)
 
 pub no_negative : (bs ds : List ℕ) → bs ≡ 45 ∷ ds → ((n : ℕ) → n < 2 ^ 32 → ds ≢ decimal n) → (z : ℤ) → FitsSigned w32 z → bs ≢ signed_decimal z
 no_negative bs ds e h (pos n) f d = no_sign bs n (omega (arith, ints)) d (ap (λ xs. get_or xs 0 0) e)
@@ -144,3 +181,11 @@ natural_too_big bs n (Err x) h e p = λ z f d. by z f d
 pub empty_first : (bs : List ℕ) → length bs < 1 → get_or bs 0 0 ≡ 0
 empty_first [] h = refl
 empty_first (b ∷ bs) h = absurd (omega arith)
+
+-- no word is no number
+pub nothing_spelled : (n : ℕ) → n < 2 ^ 32 → [] ≢ decimal n
+nothing_spelled n small e = omega (arith, ap length e, decimal_nonempty n (omega (arith, small)))
+
+pub nothing_signed : (z : ℤ) → FitsSigned w32 z → [] ≢ signed_decimal z
+nothing_signed (pos n) f e = nothing_spelled n (omega (arith, ints)) e
+nothing_signed (negsuc n) f e = absurd cc

@@ -1,14 +1,17 @@
 -- What the parts of the reader promise.
 use Rattle.std.specs.Option.{option_map_or}
-use Rattle.std.specs.List.{join_with_byte}
-use Rattle.std.specs.Prelude.{ℕ, Bool, ◌≡◌, ◌⊎◌, ◌+◌, slice_set, if◌then◌else◌, ◌<◌, ◌≤◌, ◌^◌, length, true, false, Option, Some, List, ◌∷◌, slice_index, count_by}
+use Rattle.std.specs.List.{join_with_byte, list_all, position_or_len}
+use Rattle.std.specs.Char.{is_ascii_digit}
+use Rattle.std.specs.Str.Parse.{AllDigits, digits_value}
+use Rattle.std.specs.Prelude.{ℕ, Bool, ◌≡◌, ◌⊎◌, ◌+◌, ◌==◌, ◌&&◌, slice_set, if◌then◌else◌, ◌<◌, ◌≤◌, ◌^◌, length, take, true, false, Option, Some, List, [], ◌∷◌, ◌++◌, slice_index, count_by}
 use Rattle.scenetext.specs.declared.fault.Fault.{Fault}
 use Rattle.scenetext.specs.declared.fault.ReadError.{ReadError}
 use Rattle.scenetext.specs.declared.fault.ReadError.TheVariants as errors
 use Rattle.scenetext.specs.declared.command.CommandWord.{CommandWord}
+use Rattle.scenetext.specs.declared.text.FrontForm.{FrontForm}
 use Rattle.gfxspec.specs.declared.geometry.Size.{Size}
 use Rattle.scenetext.specs.Scene.{Actor, Immediate, Deferred, Verb, Execute, Line}
-use Rattle.scenetext.specs.Text.{TextLine, lines_of, words_of, has_form}
+use Rattle.scenetext.specs.Text.{TextLine, lines_of, words_of, is_printable, has_form}
 use Rattle.scenetext.specs.Numbers.{context_word}
 use Rattle.scenetext.specs.Commands.{Shape, name, shape, serves}
 use Rattle.scenetext.specs.Spelling.{actor_word, is_immediate_actor, verb_words, line_words, size_words, may_take, is_finish, IsActor, IsVerb, IsTarget}
@@ -70,6 +73,36 @@ RefusesHead words (errors.Fault f) = (earlier : List TextLine) → later_line_fa
 
 abbrev pub line_record : List ℕ → TextLine
 line_record bs = record { bytes = bs; ended = true }
+
+-- has the rest of a line its form, where a word has begun or must begin?
+abbrev pub form : Bool → List ℕ → Bool
+form begun [] = false
+form begun (b ∷ bs) = if b == 10 then begun else if b == 32 then begun && form false bs else is_printable b && form true bs
+
+-- what some bytes say of the form of a line with whatever bytes behind them
+pub record HasForm (begun : Bool) (bytes : List ℕ) (f : FrontForm) : Type 0 where
+  pub printable : list_all is_printable bytes ≡ true
+  pub spaces : f.spaces ≡ count_by (λ b. b == 32) bytes
+  pub behind : (rest : List ℕ) → form begun (bytes ++ rest) ≡ (f.separates && form f.in_word rest)
+
+-- the same of bytes with these behind them
+abbrev pub AddsForm : List ℕ → FrontForm → FrontForm → Type 0
+AddsForm bytes f g = (begun : Bool) (before : List ℕ) → HasForm begun before f → HasForm begun (before ++ bytes) g
+
+-- so many digits stand at the front of a line, and this is their number; the count ends at ten
+pub record LeadsWith (line : List ℕ) (count value : ℕ) : Type 0 where
+  pub within : count ≤ length line
+  pub few : count ≤ 10
+  pub digits : AllDigits 10 (take count line)
+  pub value_is : value ≡ digits_value 10 (take count line)
+  pub ends : count < 10 → count < length line → is_ascii_digit (slice_index line count) ≡ false
+
+-- the first word of a line
+abbrev pub first_length : List ℕ → ℕ
+first_length line = position_or_len (λ b. b == 32) line
+
+abbrev pub first_word : List ℕ → List ℕ
+first_word line = take (first_length line) line
 
 -- the first line of a text has its form, and this is the text behind it
 pub record CutsLine (text line rest : List ℕ) : Type 0 where

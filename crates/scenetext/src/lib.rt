@@ -2,8 +2,9 @@
 //!
 //! A script is a list of lines of words with one space between them; numbers are in plain decimal. specs/ says what a
 //! text spells (`Spelling`) and what is wrong with it (`Faults`), each without the other, and the law `one_reading`
-//! ties the two. The reader goes over a line once for its form and once for its words, keeps no word, and takes memory
-//! for the vertices and the lines alone.
+//! ties the two. The reader goes over the bytes of a line twice: for its form, 32 bytes at a time, which counts its
+//! words; and for its words, where the digits of a number are read while the end of its word is looked for. It keeps no
+//! word, and takes memory for vertices, indices and lines alone.
 #![tactic(auto)]
 
 mod choices;

@@ -13,6 +13,7 @@ use crate::fault::{Fault, ReadError};
 use crate::numbers::naturals;
 use crate::range::U32;
 use crate::scene::{Actor, Line, Verb};
+use crate::text::FormedLine;
 use crate::verbs::verb_of;
 use crate::words::{Words, context};
 use gfxspec::Size;
@@ -74,10 +75,10 @@ fn head_of(words: &mut Words) -> Result<(Actor, CommandWord), ReadError>
 pub(crate) fn line_of<A: Allocator>(
     alloc: A,
     finished: &[u64; 8],
-    line: &[u8],
+    line: FormedLine,
 ) -> Result<Line<A>, ReadError>
-    ensures ok { IfOk result (λ l. ReadsLine finished.now line.now (line_value l)) }
-    ensures err { IfErr result (RefusesLine finished.now line.now) }
+    ensures ok { IfOk result (λ l. ReadsLine finished.now line.entry.bytes.now (line_value l)) }
+    ensures err { IfErr result (RefusesLine finished.now line.entry.bytes.now) }
 {
     let mut words = Words::new(line);
     let (actor, command) = head_of(&mut words)?;
@@ -89,9 +90,9 @@ pub(crate) fn line_of<A: Allocator>(
 }
 
 /// The size that the first line gives.
-pub(crate) fn size_of(line: &[u8]) -> Result<Size, ReadError>
-    ensures ok { IfOk result (ReadsSize line.now) }
-    ensures err { IfErr result (RefusesFirst line.now) }
+pub(crate) fn size_of(line: FormedLine) -> Result<Size, ReadError>
+    ensures ok { IfOk result (ReadsSize line.entry.bytes.now) }
+    ensures err { IfErr result (RefusesFirst line.entry.bytes.now) }
 {
     let mut words = Words::new(line);
     let Some(word) = words.next() else {

@@ -11,31 +11,22 @@ ghost use Rattle.scenetext.specs.Ranges.{kind_of, kinds, IsIn, AreIn};
 
 use crate::fault::{Fault, ReadError};
 use crate::range::{BYTE, Range, U32};
-use crate::words::{Words, context, integer, natural};
+use crate::words::{Words, context};
 use gfxspec::Vertex;
 
-/// The number of the range that a word spells.
-pub(crate) fn natural_in(word: &[u8], range: Range) -> Option<u32>
-    ensures spelled { IfSome result (λ n. (word.now ≡ decimal n) × IsIn range n) }
-    ensures none { IfNone result (fits_kind (kind_of range) word.now ≡ false) }
-{
-    let number = natural(word)?;
-    if number < range.low || range.high < number {
-        return None;
-    }
-    Some(number)
-}
-
-/// The number that the next word spells.
+/// The number that the next word spells, within a range.
 pub(crate) fn next_natural(words: &mut Words, range: Range) -> Result<u32, ReadError>
     requires { 0 < length words.old }
     ensures ok { IfOk result (λ n. (words.old ≡ decimal n ∷ words.new) × IsIn range n) }
     ensures err { IfErr result (λ e. (e ≡ ReadError.Fault Fault.Argument) × (fits_kind (kind_of range) (word words.old 0) ≡ false)) }
 {
-    match words.next().and_then(|word| natural_in(word, range)) {
-        Some(number) => Ok(number),
-        None => Err(ReadError::Fault(Fault::Argument)),
+    let Some(number) = words.next_natural() else {
+        return Err(ReadError::Fault(Fault::Argument));
+    };
+    if number < range.low || range.high < number {
+        return Err(ReadError::Fault(Fault::Argument));
     }
+    Ok(number)
 }
 
 /// The number, which may be negative, that the next word spells.
@@ -44,10 +35,9 @@ pub(crate) fn next_integer(words: &mut Words) -> Result<i32, ReadError>
     ensures ok { IfOk result (λ z. words.old ≡ signed_decimal z ∷ words.new) }
     ensures err { IfErr result (λ e. (e ≡ ReadError.Fault Fault.Argument) × (fits_kind i32s (word words.old 0) ≡ false)) }
 {
-    match words.next().and_then(integer) {
-        Some(number) => Ok(number),
-        None => Err(ReadError::Fault(Fault::Argument)),
-    }
+    words
+        .next_integer()
+        .ok_or(ReadError::Fault(Fault::Argument))
 }
 
 /// The number other than 0, which may be negative, that the next word spells.

@@ -1,27 +1,29 @@
 //! The words of a line, and the numbers that they spell.
 
-ghost use Rattle.std.specs.Prelude.{◌==◌, count_by, position, false, ◌≡◌, ◌≢◌, ◌∷◌, ◌<◌, ◌≤◌, ◌^◌, ℕ, ℤ, length, decimal, slice_index, IsTrue, IfSome, IfNone, FitsSigned};
+ghost use Rattle.std.specs.Prelude.{◌==◌, position, false, ◌≡◌, ◌≢◌, ◌∷◌, ◌<◌, ◌≤◌, ◌^◌, ℕ, ℤ, length, decimal, slice_index, IsTrue, IfSome, IfNone, FitsSigned};
 ghost use Rattle.std.specs.Int.{w32};
 ghost use Rattle.std.specs.Fmt.{signed_decimal};
-ghost use Rattle.std.specs.Str.Parse.{AllDigits, digits_value};
 ghost use Rattle.scenetext.specs.Numbers.{is_context, context_word};
+ghost use Rattle.scenetext.specs.Faults.{word};
+ghost use Rattle.scenetext.specs.Reading.{first_length, first_word, LeadsWith};
 
+use crate::text::FormedLine;
 use std::marker::Model;
 
-/// The number of some digits; zeros may stand in front.
-fn digits(word: &[u8]) -> Option<u64>
-    requires { length word.now ≤ 10 }
-    ensures some { IfSome result (λ n. AllDigits 10 word.now × (n ≡ digits_value 10 word.now)) }
-    ensures none { IfNone result (¬ AllDigits 10 word.now) }
+/// How many digits stand at the front of a line, and their number. The count ends at ten, since no number of 32 bits has more.
+fn leading_digits(line: &[u8]) -> (usize, u64)
+    ensures { LeadsWith line.now result.0 result.1 }
 {
+    let most = line.len().min(10);
     let mut value = 0;
-    for byte in word {
+    for i in 0..most {
+        let byte = line[i];
         if !byte.is_ascii_digit() {
-            return None;
+            return (i, value);
         }
-        value = value * 10 + u64::from(*byte - b'0');
+        value = value * 10 + u64::from(byte - b'0');
     }
-    Some(value)
+    (most, value)
 }
 
 /// Whether a word is as long as a number of 32 bits may be, with no zero before another byte.
@@ -35,15 +37,29 @@ fn may_be_decimal(word: &[u8]) -> bool
     }
 }
 
-/// The number that a word spells in plain decimal.
-pub(crate) fn natural(word: &[u8]) -> Option<u32>
-    ensures spelled { IfSome result (λ n. word.now ≡ decimal n) }
-    ensures none { IfNone result ((n : ℕ) → n < 2 ^ 32 → word.now ≢ decimal n) }
+/// Whether a word that goes on to this place ends there.
+fn ends_word(line: &[u8], at: usize) -> bool
+    requires { at ≤ length line.now }
+    ensures yes { IsTrue result → at < length line.now → slice_index line.now at ≡ 32 }
+    ensures no { result ≡ false → (at < length line.now) × (slice_index line.now at ≢ 32) }
 {
-    if !may_be_decimal(word) {
+    at == line.len() || line[at] == b' '
+}
+
+/// The number that the first word of a line spells in plain decimal, and how long the word is.
+fn natural(line: &[u8]) -> Option<(u32, usize)>
+    ensures spelled { IfSome result (λ found. (first_word line.now ≡ decimal found.0) × (first_length line.now ≡ found.1)) }
+    ensures none { IfNone result ((n : ℕ) → n < 2 ^ 32 → first_word line.now ≢ decimal n) }
+{
+    let (count, value) = leading_digits(line);
+    if !ends_word(line, count) {
         return None;
     }
-    u32::try_from(digits(word)?).ok()
+    if !may_be_decimal(&line[..count]) {
+        return None;
+    }
+    let number = u32::try_from(value).ok()?;
+    Some((number, count))
 }
 
 /// A number below zero, from its digits.
@@ -57,59 +73,66 @@ fn negative(number: u32) -> Option<i32>
     i32::try_from(-i64::from(number)).ok()
 }
 
-/// What stands behind a minus at the front of a word.
-fn behind_minus(word: &[u8]) -> Option<&[u8]>
-    ensures some { IfSome result (λ digits. word.now ≡ 45 ∷ digits.now) }
-    ensures none { IfNone result (slice_index word.now 0 ≢ 45) }
+/// What stands behind a minus at the front of a line.
+fn behind_minus(line: &[u8]) -> Option<&[u8]>
+    ensures some { IfSome result (λ digits. line.now ≡ 45 ∷ digits.now) }
+    ensures none { IfNone result (slice_index line.now 0 ≢ 45) }
 {
-    match word {
+    match line {
         [b'-', digits @ ..] => Some(digits),
         _ => None,
     }
 }
 
-/// The number, which may be negative, that a word spells in plain decimal.
-pub(crate) fn integer(word: &[u8]) -> Option<i32>
-    ensures spelled { IfSome result (λ z. word.now ≡ signed_decimal z) }
-    ensures none { IfNone result ((z : ℤ) → FitsSigned w32 z → word.now ≢ signed_decimal z) }
+/// The number, which may be negative, that the first word of a line spells in plain decimal, and how long the word is.
+fn integer(line: &[u8]) -> Option<(i32, usize)>
+    ensures spelled { IfSome result (λ found. (first_word line.now ≡ signed_decimal found.0) × (first_length line.now ≡ found.1)) }
+    ensures none { IfNone result ((z : ℤ) → FitsSigned w32 z → first_word line.now ≢ signed_decimal z) }
 {
-    match behind_minus(word) {
-        Some(digits) => negative(natural(digits)?),
-        None => i32::try_from(natural(word)?).ok(),
+    match behind_minus(line) {
+        Some(digits) => {
+            let (number, count) = natural(digits)?;
+            Some((negative(number)?, count + 1))
+        }
+        None => {
+            let (number, count) = natural(line)?;
+            Some((i32::try_from(number).ok()?, count))
+        }
     }
 }
 
-fn spaces(bytes: &[u8]) -> usize
-    ensures count { result ≡ count_by (λ b. b == 32) bytes.now }
-    ensures bound { result < 2 ^ 63 }
+fn space_at(line: &[u8]) -> Option<usize>
+    ensures { result ≡ position (λ b. b == 32) line.now }
 {
-    let mut count = 0;
-    for byte in bytes {
-        count += usize::from(*byte == b' ');
-    }
-    count
+    line.iter().position(|b| *b == b' ')
 }
 
-fn space_at(bytes: &[u8]) -> Option<usize>
-    ensures { result ≡ position (λ b. b == 32) bytes.now }
+fn first_length(line: &[u8]) -> usize
+    ensures { result ≡ first_length line.now }
 {
-    bytes.iter().position(|b| *b == b' ')
+    match space_at(line) {
+        Some(count) => count,
+        None => line.len(),
+    }
 }
 
 /// The words of a line that are not taken yet, in order.
 #[derive(Drop)]
 pub struct Words<'a> {
     rest: Option<&'a [u8]>,
+    count: usize,
 }
 
 impl<'a> Model for Words<'a> {
-    ghost use Rattle.std.specs.Prelude.{ℕ, List, [], option_copied};
+    ghost use Rattle.std.specs.Prelude.{ℕ, List, [], ◌≡◌, length, option_copied};
     ghost use Rattle.std.specs.Option.{option_map_or};
     ghost use Rattle.scenetext.specs.Text.{words_of};
 
     ghost Value = { List (List ℕ) };
 
     ghost view = { λ w. option_map_or words_of (option_copied w.rest) [] };
+
+    ghost invariant = { λ w. w.count ≡ length (option_map_or words_of (option_copied w.rest) []) };
 }
 
 impl<'a> Words<'a> {
@@ -117,20 +140,34 @@ impl<'a> Words<'a> {
     ghost use Rattle.scenetext.specs.Text.{words_of};
 
     /// All words of a line.
-    pub(crate) fn new(line: &'a [u8]) -> Self
-        ensures { result ≡ words_of line.now }
+    pub(crate) fn new(line: FormedLine<'a>) -> Self
+        ensures { result ≡ words_of line.entry.bytes.now }
     {
-        Words { rest: Some(line) }
+        Words {
+            rest: Some(line.bytes),
+            count: line.spaces + 1,
+        }
     }
 
     /// How many words are left.
     pub(crate) fn count(&self) -> usize
         ensures { result ≡ length self.now }
     {
-        match self.rest {
-            Some(rest) => spaces(rest) + 1,
-            None => 0,
-        }
+        self.count
+    }
+
+    /// Leaves the first word of what is left, which is so long.
+    fn skip(&mut self, rest: &'a [u8], count: usize)
+        requires rest { self.old ≡ words_of rest.now }
+        requires count { first_length rest.now ≡ count }
+        ensures { self.old ≡ first_word rest.now ∷ self.new }
+    {
+        self.rest = if count < rest.len() {
+            Some(&rest[count + 1..])
+        } else {
+            None
+        };
+        self.count -= 1;
     }
 
     /// The next word.
@@ -139,16 +176,31 @@ impl<'a> Words<'a> {
         ensures none { IfNone result (self.old ≡ []) }
     {
         let rest = self.rest?;
-        match space_at(rest) {
-            Some(end) => {
-                self.rest = Some(&rest[end + 1..]);
-                Some(&rest[..end])
-            }
-            None => {
-                self.rest = None;
-                Some(rest)
-            }
-        }
+        let count = first_length(rest);
+        self.skip(rest, count);
+        Some(&rest[..count])
+    }
+
+    /// The number that the next word spells in plain decimal.
+    pub(crate) fn next_natural(&mut self) -> Option<u32>
+        ensures some { IfSome result (λ n. self.old ≡ decimal n ∷ self.new) }
+        ensures none { IfNone result ((n : ℕ) → n < 2 ^ 32 → word self.old 0 ≢ decimal n) }
+    {
+        let rest = self.rest?;
+        let (number, count) = natural(rest)?;
+        self.skip(rest, count);
+        Some(number)
+    }
+
+    /// The number, which may be negative, that the next word spells in plain decimal.
+    pub(crate) fn next_integer(&mut self) -> Option<i32>
+        ensures some { IfSome result (λ z. self.old ≡ signed_decimal z ∷ self.new) }
+        ensures none { IfNone result ((z : ℤ) → FitsSigned w32 z → word self.old 0 ≢ signed_decimal z) }
+    {
+        let rest = self.rest?;
+        let (number, count) = integer(rest)?;
+        self.skip(rest, count);
+        Some(number)
     }
 }
 

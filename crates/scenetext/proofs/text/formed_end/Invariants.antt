@@ -1,10 +1,6 @@
-use Rattle.std.proofs.Common.{◌≡◌, false, drop, take}
-use Rattle.scenetext.proofs.TextLemmas.{Lacks}
-use Rattle.scenetext.proofs.CutLemmas.{form}
+use Rattle.std.proofs.Common.{false, take}
+use Rattle.scenetext.specs.Reading.{HasForm}
 use Rattle.scenetext.proofs.text.formed_end.Given as goal
 
 abbrev pub invariant-loop-i : goal.invariant-loop-i
-invariant-loop-i l = record {
-  form : form false l.text ≡ form l.in_word (drop l.i l.text);
-  lacks : Lacks 10 (take l.i l.text);
-}
+invariant-loop-i l = HasForm false (take l.i l.text) l.form
