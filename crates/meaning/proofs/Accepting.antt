@@ -5,8 +5,8 @@ use Rattle.std.proofs.lemmas.Bool.Decides.{nat_tests}
 use Rattle.std.proofs.lemmas.List.{append-nil}
 use Rattle.gfxspec.specs.State.{Settings}
 use Rattle.gfxspec.specs.Commands.{Command, SetVertices, SetIndices, SetScissor, SetPredication, Kept}
-use Rattle.gfxspec.specs.Recorded.{settings_after, queries_open}
-use Rattle.gfxspec.specs.Refusals.{Row, first_row, list_rows, some_open, flush_rows, finish_rows, AreSound, IsAccepted, AcceptedBehind, AreAccepted}
+use Rattle.gfxspec.specs.Recorded.{settings_after}
+use Rattle.gfxspec.specs.Refusals.{Row, first_row, list_rows, some_open, flush_rows, AreSound, IsAccepted, AcceptedBehind, AreAccepted}
 use Rattle.meaning.specs.OneMore.{settings_with}
 use Rattle.meaning.proofs.Nearest.{settings_after-push}
 
@@ -64,7 +64,3 @@ none_there (q ∷ opened) h = absurd (some (length opened) h)
 -- a call that runs the pending commands isn't refused
 pub none_open_at_run : (opened : List ℕ) → first_row (flush_rows opened) ≡ None → opened ≡ []
 none_open_at_run opened h = none_there opened (none_of (flush_rows opened) h).0
-
--- a list is finished
-pub none_open_at_finish : (list : List Command) → first_row (finish_rows list) ≡ None → queries_open list ≡ []
-none_open_at_finish list h = none_there (queries_open list) (none_of (finish_rows list) h).0

@@ -1,6 +1,6 @@
 -- What a context shows, and what one more step changes of it.
 use Rattle.std.proofs.Common.{◌≡◌, ◌≢◌, ◌∙◌, ap, sym, subst, refl, arith, ℕ, ◌+◌, ◌<◌, Bool, true, false, cond, List, [], ◌∷◌, ◌++◌, length}
-use Rattle.std.specs.Prelude.{Option, Some, None, is_none, unwrap_or, ◌==◌, nat_le, slice_set}
+use Rattle.std.specs.Prelude.{Option, Some, None, is_none, ◌==◌, nat_le, slice_set}
 use Rattle.std.proofs.lemmas.Bool.Decides.{nat_tests}
 use Rattle.std.proofs.lemmas.List.{append-nil, length-set, get_or-set_same, get_or-set_other}
 use Rattle.gfxspec.specs.declared.TheConstants.{QUERY_LIMIT}
@@ -37,14 +37,6 @@ result_same size list p r q a b same e = by (last_begun q list)
 none_counted : (last : Option ℕ) (is : List Item) (size : Size) (pixels : ℕ → ℕ → Pixel) → is_none (counted_or None last is size pixels) ≡ is_none last
 none_counted None is size pixels = refl
 none_counted (Some k) is size pixels = refl
-
--- the result of a query that was issued
-pub issued_result : (size : Size) (steps : List Step) (q : ℕ) → is_none (last_issue q steps) ≡ false → count_of size steps q ≡ Some (issue_count (unwrap_or (last_issue q steps) 0) (items_of_session steps) size.width size.height (λ x y. opening))
-issued_result size steps q h = by (last_issue q steps) h
-  where
-    by : (o : Option ℕ) → is_none o ≡ false → counted_or None o (items_of_session steps) size (λ x y. opening) ≡ Some (issue_count (unwrap_or o 0) (items_of_session steps) size.width size.height (λ x y. opening))
-    by None e = absurd cc
-    by (Some k) e = refl
 
 -- ---- results, stored issue by issue
 

@@ -5,8 +5,8 @@ use Rattle.std.proofs.lemmas.List.{append-nil}
 use Rattle.std.proofs.lemmas.List.Concat.{flat_map-append}
 use Rattle.gfxspec.specs.State.{defaults}
 use Rattle.gfxspec.specs.Commands.{Command, Kept}
-use Rattle.gfxspec.specs.Recorded.{settings_after, open_after, queries_open, items_at, items_behind, after_finish}
-use Rattle.gfxspec.specs.Session.{Step, Records, Executes, Flushes, seen, all_seen, run, all_run, step_items, session_items, items_of_session, settings_now, open_now, pending_from, pending}
+use Rattle.gfxspec.specs.Recorded.{settings_after, open_after, items_at, items_behind, after_finish}
+use Rattle.gfxspec.specs.Session.{Step, Records, Executes, Flushes, seen, all_seen, run, all_run, step_items, session_items, items_of_session, settings_now, pending_from, pending}
 use Rattle.meaning.specs.OneMore.{settings_with, pending_with}
 use Rattle.meaning.proofs.Nearest.{settings_after-push}
 
@@ -37,12 +37,6 @@ skipped g before after h = flat_map-append g before (Flushes ∷ after) ∙ ap (
 
 pub items_of_session-flush : (before after : List Step) → items_of_session (before ++ Flushes ∷ after) ≡ items_of_session (before ++ after)
 items_of_session-flush before after = items-flush [] before after
-
-pub settings_now-flush : (before after : List Step) → settings_now (before ++ Flushes ∷ after) ≡ settings_now (before ++ after)
-settings_now-flush before after = ap settings_after (skipped seen before after refl)
-
-pub open_now-flush : (before after : List Step) → open_now (before ++ Flushes ∷ after) ≡ open_now (before ++ after)
-open_now-flush before after = ap queries_open (skipped run before after refl)
 
 -- ---- one more step
 

@@ -2,7 +2,7 @@
 use Rattle.std.proofs.Common.{◌≡◌, ◌≢◌, ◌⊎◌, ℕ, ◌+◌, ◌-◌, ◌<◌, ◌≤◌, Bool, true, false, cond, not, ◌&&◌, ◌||◌, eqb, ltb, List, [], ◌∷◌, ◌++◌, length, get_or, take, drop, drop-cons, Some, None, add-one, refl, sym, ap, subst, ◌∙◌, append_assoc, ⊎_elim, arith, inl, inr}
 use Rattle.std.specs.Prelude.{position}
 use Rattle.std.specs.List.{list_all, position_or_len, onto_first}
-use Rattle.std.proofs.lemmas.Bool.{cases_lt, ltb-true, ltb-false, eqb-true}
+use Rattle.std.proofs.lemmas.Bool.{cases_lt, ltb-false, eqb-true}
 use Rattle.std.proofs.lemmas.Bool.Decides.{nat_tests}
 use Rattle.std.proofs.lemmas.List.{take-append-drop, take_more, append-nil, length-drop, take_all, drop_all}
 use Rattle.std.proofs.lemmas.List.Folds.{list_all-append}

@@ -1,5 +1,6 @@
 -- Laws of the bytes of an image.
-use Rattle.std.proofs.Common.{◌≡◌, ◌∙◌, sym, ap, refl, arith, ℕ, true, zero, suc, ◌+◌, ◌-◌, ◌*◌, ◌<◌, ◌≤◌, List, [], ◌∷◌, ◌++◌, length, get_or, map, take, append_assoc, length-append}
+use Rattle.std.proofs.Common.{◌≡◌, ◌∙◌, sym, ap, refl, arith, ℕ, true, zero, suc, ◌+◌, ◌-◌, ◌*◌, ◌<◌, ◌≤◌, List, [], ◌∷◌, ◌++◌, length, get_or, map, take, Result, Ok, Err, append_assoc, length-append}
+use Rattle.std.specs.Prelude.{IfErr}
 use Rattle.std.specs.List.{flat_map, range_with_len}
 use Rattle.std.proofs.Math.Seq.{take-append-add}
 use Rattle.std.proofs.lemmas.List.{take-append-le, length-take-le, get_or-take, map-id, append-nil}
@@ -33,15 +34,6 @@ length-pieces : (f : ℕ → List ℕ) (size : ℕ) → ((x : ℕ) → length (f
 length-pieces f size each a zero = omega arith
 length-pieces f size each a (suc n) =
     omega (arith, length-append (f a) (flat_map f (range_with_len (a + 1) n)), each a, length-pieces f size each (a + 1) n)
-
--- the pieces before one of them, that one, and those behind it
-pieces_cut : (f : ℕ → List ℕ) (k n : ℕ) → k < n → flat_map f (range_with_len 0 n) ≡ flat_map f (range_with_len 0 k) ++ (f k ++ flat_map f (range_with_len (k + 1) (n - k - 1)))
-pieces_cut f k n h =
-    let rest = n - k - 1 in
-    let e : n ≡ k + suc rest = omega arith in
-    let z : 0 + k ≡ k = omega arith in
-    ap (λ i. flat_map f (range_with_len 0 i)) e ∙ ap (flat_map f) (range_cut 0 k (suc rest)) ∙ flat_map-append f (range_with_len 0 k) (range_with_len (0 + k) (suc rest))
-    ∙ ap (λ i. flat_map f (range_with_len 0 k) ++ (f i ++ flat_map f (range_with_len (i + 1) rest))) z
 
 flat_map-map : (f : ℕ → List ℕ) (xs : List ℕ) → flat_map (λ x. x) (map f xs) ≡ flat_map f xs
 flat_map-map f [] = refl
@@ -85,50 +77,56 @@ same_image size f g same =
     (λ y high. same_pieces (λ x. kept_color (f x y).rgba) (λ x. kept_color (g x y).rgba) 0 size.width
     (λ x wide. ap (λ (p : Pixel). kept_color p.rgba) (same x y (omega arith) (omega arith)))))
 
--- ---- a part of the image
+-- ---- the image so far
 
--- the first t bytes, where these are within the header
-pub part_in_header : (size : Size) (pixels : ℕ → ℕ → Pixel) (t : ℕ) → t < 18 → take (t - 0) (header_bytes size) ≡ take t (image_bytes size pixels)
-part_in_header size pixels t h =
-    let e : t - 0 ≡ t = omega arith in
-    ap (λ k. take k (header_bytes size)) e ∙ sym (take-append-le t (header_bytes size) (rows_bytes size.width size.height pixels) (omega arith))
+-- the header and some rows
+abbrev pub so_far : Size → (ℕ → ℕ → Pixel) → ℕ → List ℕ
+so_far size pixels y = header_bytes size ++ rows_bytes size.width y pixels
 
--- and where they are within row y
-pub part_in_row : (size : Size) (pixels : ℕ → ℕ → Pixel) (y n : ℕ) → y < size.height → n ≤ 4 * size.width → (header_bytes size ++ rows_bytes size.width y pixels) ++ take n (row_bytes size.width pixels y) ≡ take (18 + 4 * size.width * y + n) (image_bytes size pixels)
-part_in_row size pixels y n h k =
+length-so_far : (size : Size) (pixels : ℕ → ℕ → Pixel) (y : ℕ) → length (so_far size pixels y) ≡ 18 + 4 * size.width * y
+length-so_far size pixels y = length-append (header_bytes size) (rows_bytes size.width y pixels) ∙ ap (λ n. 18 + n) (length-rows size.width y pixels)
+
+rows_behind : Size → (ℕ → ℕ → Pixel) → ℕ → List ℕ
+rows_behind size pixels y = flat_map (row_bytes size.width pixels) (range_with_len (0 + y) (size.height - y))
+
+image_cut : (size : Size) (pixels : ℕ → ℕ → Pixel) (y : ℕ) → y ≤ size.height → image_bytes size pixels ≡ so_far size pixels y ++ rows_behind size pixels y
+unfolding rows_behind
+image_cut size pixels y high =
     let f = row_bytes size.width pixels in
-    let start = header_bytes size ++ rows_bytes size.width y pixels in
-    let rest = flat_map f (range_with_len (y + 1) (size.height - y - 1)) in
-    let whole : image_bytes size pixels ≡ start ++ (f y ++ rest) =
-    ap (λ rows. header_bytes size ++ rows) (pieces_cut f y size.height h) ∙ sym (append_assoc (header_bytes size) (rows_bytes size.width y pixels) (f y ++ rest)) in
-    let long : 18 + 4 * size.width * y + n ≡ length start + n =
-    ap (λ m. 18 + m + n) (sym (length-rows size.width y pixels)) ∙ ap (λ m. m + n) (sym (length-append (header_bytes size) (rows_bytes size.width y pixels))) in
-    ap (λ row. start ++ row) (sym (take-append-le n (f y) rest (omega (arith, length-row size.width pixels y))))
-    ∙ sym (take-append-add start (f y ++ rest) n) ∙ ap (λ m. take m (start ++ (f y ++ rest))) (sym long) ∙ ap (take (18 + 4 * size.width * y + n)) (sym whole)
+    let rest = size.height - y in
+    let e : size.height ≡ y + rest = omega arith in
+    ap (λ n. header_bytes size ++ flat_map f (range_with_len 0 n)) e ∙ ap (λ r. header_bytes size ++ flat_map f r) (range_cut 0 y rest)
+    ∙ ap (λ r. header_bytes size ++ r) (flat_map-append f (range_with_len 0 y) (range_with_len (0 + y) rest))
+    ∙ sym (append_assoc (header_bytes size) (rows_bytes size.width y pixels) (flat_map f (range_with_len (0 + y) rest)))
 
--- a sink that was at row y took the row,
-pub wrote_row : (size : Size) (pixels : ℕ → ℕ → Pixel) (start mid new piece : List ℕ) (y : ℕ) → piece ≡ row_bytes size.width pixels y → mid ≡ start ++ (header_bytes size ++ rows_bytes size.width y pixels) → new ≡ mid ++ piece → new ≡ start ++ (header_bytes size ++ rows_bytes size.width (y + 1) pixels)
-wrote_row size pixels start mid new piece y row at took =
+-- a sink took the bytes xs and others wait, and one row more is added
+pub added_row : (size : Size) (pixels : ℕ → ℕ → Pixel) (start old new row : List ℕ) (y : ℕ) → row ≡ row_bytes size.width pixels y → old ≡ start ++ so_far size pixels y → new ≡ old ++ row → new ≡ start ++ so_far size pixels (y + 1)
+added_row size pixels start old new row y is at more =
     let rows = rows_bytes size.width y pixels in
-    took ∙ ap (λ xs. xs ++ piece) at ∙ append_assoc start (header_bytes size ++ rows) piece ∙ ap (λ xs. start ++ xs) (append_assoc (header_bytes size) rows piece)
-    ∙ ap (λ xs. start ++ (header_bytes size ++ (rows ++ xs))) row ∙ ap (λ xs. start ++ (header_bytes size ++ xs)) (sym (rows_more size.width y pixels))
+    more ∙ ap (λ xs. xs ++ row) at ∙ append_assoc start (header_bytes size ++ rows) row ∙ ap (λ xs. start ++ xs) (append_assoc (header_bytes size) rows row)
+    ∙ ap (λ xs. start ++ (header_bytes size ++ (rows ++ xs))) is ∙ ap (λ xs. start ++ (header_bytes size ++ xs)) (sym (rows_more size.width y pixels))
 
--- or failed in it, with t bytes of the image taken
-pub failed_in_row : (size : Size) (pixels : ℕ → ℕ → Pixel) (start mid new piece : List ℕ) (y taken t : ℕ) → y < size.height → piece ≡ row_bytes size.width pixels y → taken ≡ 18 + 4 * size.width * y → taken ≤ t → t < taken + length piece → mid ≡ start ++ (header_bytes size ++ rows_bytes size.width y pixels) → new ≡ mid ++ take (t - taken) piece → new ≡ start ++ take t (image_bytes size pixels)
-failed_in_row size pixels start mid new piece y taken t high row count from to at took =
-    let n = t - taken in
-    let so_far = header_bytes size ++ rows_bytes size.width y pixels in
-    let short : n ≤ 4 * size.width = omega (arith, ap length row, length-row size.width pixels y) in
-    let all : 18 + 4 * size.width * y + n ≡ t = omega arith in
-    took ∙ ap (λ xs. xs ++ take n piece) at ∙ append_assoc start so_far (take n piece) ∙ ap (λ xs. start ++ (so_far ++ take n xs)) row
-    ∙ ap (λ xs. start ++ xs) (part_in_row size pixels y n high short) ∙ ap (λ m. start ++ take m (image_bytes size pixels)) all
+pub counted_row : (width : ℕ) (pixels : ℕ → ℕ → Pixel) (row : List ℕ) (y count n : ℕ) → row ≡ row_bytes width pixels y → count ≡ 18 + 4 * width * y → n ≡ count + length row → n ≡ 18 + 4 * width * (y + 1)
+counted_row width pixels row y count n is at more = omega (arith, ap length is, length-row width pixels y)
 
-pub ends_in_image : (size : Size) (pixels : ℕ → ℕ → Pixel) (piece : List ℕ) (y taken t : ℕ) → y < size.height → piece ≡ row_bytes size.width pixels y → taken ≡ 18 + 4 * size.width * y → t < taken + length piece → t < length (image_bytes size pixels)
-ends_in_image size pixels piece y taken t high row count to =
-    omega (arith, ap length row, length-row size.width pixels y, length-image size pixels, mul-le-mul_left (4 * size.width) high)
+-- a sink took the bytes xs, t of them of the image, and failed amid those that wait
+pub failed_at : (size : Size) (pixels : ℕ → ℕ → Pixel) (y : ℕ) (start xs ys new : List ℕ) (t f : ℕ) → y ≤ size.height → xs ++ ys ≡ start ++ so_far size pixels y → t + length ys ≡ 18 + 4 * size.width * y → t ≤ f → f < t + length ys → new ≡ xs ++ take (f - t) ys → new ≡ start ++ take f (image_bytes size pixels)
+failed_at size pixels y start xs ys new t f high whole count from to took =
+    let s = so_far size pixels y in
+    let long : length xs + (f - t) ≡ length start + f = omega (arith, ap length whole, length-append xs ys, length-append start s, length-so_far size pixels y, count, from, to) in
+    let part : take f s ≡ take f (image_bytes size pixels) =
+    sym (take-append-le f s (rows_behind size pixels y) (omega (arith, length-so_far size pixels y, count, to))) ∙ ap (take f) (sym (image_cut size pixels y high)) in
+    took ∙ sym (take-append-add xs ys (f - t)) ∙ ap (take (length xs + (f - t))) whole ∙ ap (λ n. take n (start ++ s)) long ∙ take-append-add start s f ∙ ap (λ r. start ++ r) part
 
-pub counted_row : (width : ℕ) (pixels : ℕ → ℕ → Pixel) (piece : List ℕ) (y taken n : ℕ) → piece ≡ row_bytes width pixels y → taken ≡ 18 + 4 * width * y → n ≡ taken + length piece → n ≡ 18 + 4 * width * (y + 1)
-counted_row width pixels piece y taken n row count more = omega (arith, ap length row, length-row width pixels y)
+pub ends_in_image : (size : Size) (pixels : ℕ → ℕ → Pixel) (y n t f : ℕ) → y ≤ size.height → t + n ≡ 18 + 4 * size.width * y → f < t + n → f < length (image_bytes size pixels)
+ends_in_image size pixels y n t f high count to = omega (arith, count, to, length-image size pixels, mul-le-mul_left (4 * size.width) high)
+
+-- the same of a result
+pub fails_in_image : {T E : Type 0} (r : Result T E) (taken : E → ℕ) (size : Size) (pixels : ℕ → ℕ → Pixel) (y : ℕ) (start xs ys new : List ℕ) (t : ℕ) → y ≤ size.height → t + length ys ≡ 18 + 4 * size.width * y → IfErr r (λ e. taken e < t + length ys)
+    → (xs ++ ys ≡ start ++ so_far size pixels y → IfErr r (λ e. t ≤ taken e) → IfErr r (λ e. new ≡ xs ++ take (taken e - t) ys) → IfErr r (λ e. new ≡ start ++ take (taken e) (image_bytes size pixels))) × IfErr r (λ e. taken e < length (image_bytes size pixels))
+fails_in_image (Ok x) taken size pixels y start xs ys new t high count to = (λ whole from part. tt, tt)
+fails_in_image (Err e) taken size pixels y start xs ys new t high count to =
+    (λ whole from part. failed_at size pixels y start xs ys new t (taken e) high whole count from to part, ends_in_image size pixels y (length ys) t (taken e) high count to)
 
 pub few_pixels : (size : Size) → is_size size ≡ true → size.width ≤ 4096
 few_pixels size h = grind (arith, nat_tests)

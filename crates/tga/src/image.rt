@@ -1,10 +1,11 @@
 //! The image: a header, and the rows.
 
-ghost use Rattle.std.specs.Prelude.{◌≡◌, ◌+◌, ◌-◌, ◌^◌, ◌<◌, ◌≤◌, ◌++◌, length, take, IfOk, IfErr, OnOk, OnErr};
+ghost use Rattle.std.specs.Prelude.{◌≡◌, ◌+◌, ◌-◌, ◌^◌, ◌<◌, ◌≤◌, ◌++◌, [], length, take, IfOk, IfErr, OnOk, OnErr};
 ghost use Rattle.tileblock.specs.Surface.{IsWhole, pixel_of};
 ghost use Rattle.tga.specs.Image.{header_bytes, image_bytes};
 
 use crate::row::{ROW, store_row};
+use arrayvec::ArrayVec;
 use byteorder::{ByteOrder, LittleEndian};
 use gfxspec::{Sink, Size, put_all};
 use std::alloc::Allocator;
@@ -55,7 +56,64 @@ fn put<W: Sink>(out: &mut W, piece: &[u8], taken: u64) -> Result<u64, TgaFault>
     }
 }
 
+/// How many bytes are handed to the sink at once, at most.
+const PIECE: usize = 65_536;
+
+/// The bytes of an image on their way to a sink.
+#[derive(Drop)]
+struct Pieces {
+    /// How many bytes the sink took.
+    taken: u64,
+    /// The bytes behind them that wait.
+    waiting: ArrayVec<u8, PIECE>,
+}
+
+/// Writes the bytes that wait.
+fn flush<W: Sink>(out: &mut W, pieces: &mut Pieces) -> Result<(), TgaFault>
+    requires failures { W.failures out.old < 2 ^ 63 }
+    requires fits { pieces.old.taken + length pieces.old.waiting.items < 2 ^ 64 }
+    ensures all { W.tells out.old → OnOk result (W.written out.new ≡ W.written out.old ++ pieces.old.waiting.items) }
+    ensures empty { OnOk result (pieces.new.waiting.items ≡ []) }
+    ensures more { OnOk result (pieces.new.taken ≡ pieces.old.taken + length pieces.old.waiting.items) }
+    ensures from { IfErr result (λ fault. pieces.old.taken ≤ fault.taken) }
+    ensures to { IfErr result (λ fault. fault.taken < pieces.old.taken + length pieces.old.waiting.items) }
+    ensures part { W.tells out.old → IfErr result (λ fault.
+        W.written out.new ≡ W.written out.old ++ take (fault.taken - pieces.old.taken) pieces.old.waiting.items) }
+    ensures told { W.tells out.old → W.tells out.new }
+    ensures sound { OnOk result (W.failures out.new ≡ W.failures out.old) }
+    ensures failed { OnErr result (W.failures out.new ≡ W.failures out.old + 1) }
+{
+    pieces.taken = put(out, pieces.waiting.as_slice(), pieces.taken)?;
+    pieces.waiting.clear();
+    Ok(())
+}
+
+/// Puts more bytes behind those that wait, which are written first where a piece has no room for both.
+fn add<W: Sink>(out: &mut W, pieces: &mut Pieces, bytes: &[u8]) -> Result<(), TgaFault>
+    requires failures { W.failures out.old < 2 ^ 63 }
+    requires fits { pieces.old.taken + length pieces.old.waiting.items < 2 ^ 64 }
+    requires short { length bytes.now ≤ 65536 }
+    ensures all { W.tells out.old → OnOk result (W.written out.new ++ pieces.new.waiting.items
+        ≡ (W.written out.old ++ pieces.old.waiting.items) ++ bytes.now) }
+    ensures more { OnOk result (pieces.new.taken + length pieces.new.waiting.items
+        ≡ pieces.old.taken + length pieces.old.waiting.items + length bytes.now) }
+    ensures from { IfErr result (λ fault. pieces.old.taken ≤ fault.taken) }
+    ensures to { IfErr result (λ fault. fault.taken < pieces.old.taken + length pieces.old.waiting.items) }
+    ensures part { W.tells out.old → IfErr result (λ fault.
+        W.written out.new ≡ W.written out.old ++ take (fault.taken - pieces.old.taken) pieces.old.waiting.items) }
+    ensures told { W.tells out.old → W.tells out.new }
+    ensures sound { OnOk result (W.failures out.new ≡ W.failures out.old) }
+    ensures failed { OnErr result (W.failures out.new ≡ W.failures out.old + 1) }
+{
+    if pieces.waiting.remaining_capacity() < bytes.len() {
+        flush(out, pieces)?;
+    }
+    pieces.waiting.try_extend_from_slice(bytes).unwrap();
+    Ok(())
+}
+
 /// Writes a target's image.
+#[inline(never)]
 pub fn write_tga<W: Sink, A: Allocator>(out: &mut W, target: &Target<A>) -> Result<(), TgaFault>
     requires whole { IsWhole target.now }
     requires failures { W.failures out.old < 2 ^ 63 }
@@ -70,11 +128,15 @@ pub fn write_tga<W: Sink, A: Allocator>(out: &mut W, target: &Target<A>) -> Resu
     ensures failed { OnErr result (W.failures out.new ≡ W.failures out.old + 1) }
 {
     let size = target.size();
-    let mut taken = put(out, &header(size), 0)?;
+    let mut pieces = Pieces {
+        taken: 0,
+        waiting: ArrayVec::new(),
+    };
+    add(out, &mut pieces, &header(size))?;
     let mut row = [[0; 4]; ROW];
     for y in 0..size.height {
         store_row(&mut row, target, y);
-        taken = put(out, row[..size.width as usize].as_flattened(), taken)?;
+        add(out, &mut pieces, row[..size.width as usize].as_flattened())?;
     }
-    Ok(())
+    flush(out, &mut pieces)
 }

@@ -1,7 +1,7 @@
 -- What the depths of rows lie between.
-use Rattle.std.proofs.Common.{◌≡◌, ap, sym, subst, arith, ℕ, ◌+◌, ◌*◌, ◌-◌, ◌/◌, ◌%◌, ◌<◌, ◌≤◌, zero, suc, slice_index, List}
+use Rattle.std.proofs.Common.{◌≡◌, subst, arith, ℕ, ◌+◌, ◌*◌, ◌-◌, ◌/◌, ◌%◌, ◌<◌, ◌≤◌, zero, suc, slice_index, List}
 use Rattle.std.specs.Prelude.{min, max}
-use Rattle.gfxspec.specs.Tiles.{IsIn, IsInTile}
+use Rattle.gfxspec.specs.Tiles.{IsInTile}
 use Rattle.tileblock.specs.declared.extremes.Extremes.{Extremes}
 use Rattle.tileblock.specs.Block.{Block, pixel_at}
 use Rattle.tileblock.specs.Bounds.{LieBetween}

@@ -1,4 +1,4 @@
-use Rattle.std.proofs.Common.{refl, ap, arith, inl, inr, ◌∙◌}
+use Rattle.std.proofs.Common.{refl, ap, arith, inl, inr}
 use Rattle.scenetext.specs.Faults.{word}
 use Rattle.scenetext.proofs.RangeLemmas.{out_of_range}
 use Rattle.scenetext.proofs.numbers.next_natural.Goals as goal

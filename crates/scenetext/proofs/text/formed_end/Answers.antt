@@ -1,4 +1,4 @@
-use Rattle.std.proofs.Common.{arith, take, length, inl, inr}
+use Rattle.std.proofs.Common.{inl, inr}
 use Rattle.scenetext.proofs.CutLemmas.{cuts_formed, bad_line, bad_byte, no_end, byte_at_added}
 use Rattle.scenetext.proofs.text.formed_end.Goals as goal
 

@@ -1,4 +1,4 @@
-use Rattle.std.proofs.Common.{◌≡◌, ◌+◌, ◌∙◌, ap, arith, drop}
+use Rattle.std.proofs.Common.{◌∙◌, ap, arith, drop}
 use Rattle.std.proofs.lemmas.List.{drop-drop}
 use Rattle.scenetext.proofs.CutLemmas.{block_added}
 use Rattle.scenetext.proofs.text.front_blocks.Goals as goal

@@ -1,11 +1,11 @@
-use Rattle.std.proofs.Common.{◌≡◌, ◌+◌, ◌++◌, ◌∷◌, [], ℕ, Bool, true, not, cond, eqb, ◌&&◌, ◌||◌, ap, refl, sym, subst, ◌∙◌, arith, length, take, take_all}
+use Rattle.std.proofs.Common.{◌≡◌, ◌+◌, ◌++◌, Bool, true, cond, eqb, ap, refl, subst, ◌∙◌, arith, length, take, take_all}
 use Rattle.std.proofs.Common.{false, ◌≤◌, rules, slice_index_or}
 use mir.Val.{bool_byte}
 use Rattle.scenetext.specs.declared.text.FrontForm.{FrontForm}
 use Rattle.scenetext.specs.Text.{is_printable}
 use Rattle.scenetext.specs.Reading.{AddsForm}
 use Rattle.scenetext.proofs.TextLemmas.{and_left, and_right}
-use Rattle.scenetext.proofs.CutLemmas.{none_added, more_added, byte_added, form_counted}
+use Rattle.scenetext.proofs.CutLemmas.{more_added, byte_added, form_counted}
 use Rattle.scenetext.proofs.text.with_block.Goals as goal
 
 counted : (b : Bool) → bool_byte b ≡ cond b 1 0

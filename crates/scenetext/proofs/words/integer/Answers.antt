@@ -1,4 +1,4 @@
-use Rattle.std.proofs.Common.{◌≡◌, ◌≢◌, ℤ, Option, w32, FitsSigned, ◌∙◌, sym, ap, subst, arith, IfNone}
+use Rattle.std.proofs.Common.{◌≢◌, ℤ, Option, w32, FitsSigned, ◌∙◌, sym, ap, subst, arith, IfNone}
 use Rattle.std.specs.Prelude.{◌∷◌}
 use Rattle.std.specs.Fmt.{signed_decimal}
 use Rattle.scenetext.specs.Reading.{first_word}

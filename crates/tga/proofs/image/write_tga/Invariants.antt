@@ -1,6 +1,6 @@
 use Rattle.std.proofs.Common.{◌≡◌, ◌+◌, ◌*◌, ◌++◌, length}
 use Rattle.tileblock.specs.Surface.{pixel_of}
-use Rattle.tga.specs.Image.{header_bytes, rows_bytes}
+use Rattle.tga.proofs.ImageLemmas.{so_far}
 use Rattle.tga.proofs.image.write_tga.Given as goal
 
 abbrev pub invariant-loop-y : goal.invariant-loop-y
@@ -9,7 +9,7 @@ invariant-loop-y g l =
     record {
       sound : device.failures l.out ≡ device.failures l.fn.out;
       told : device.tells l.fn.out → device.tells l.out;
-      bytes : device.tells l.fn.out → device.written l.out ≡ device.written l.fn.out ++ (header_bytes l.target.size ++ rows_bytes l.target.size.width l.y (pixel_of l.target));
-      taken : l.taken ≡ 18 + 4 * l.target.size.width * l.y;
+      bytes : device.tells l.fn.out → device.written l.out ++ l.pieces.waiting.items ≡ device.written l.fn.out ++ so_far l.target.size (pixel_of l.target) l.y;
+      count : l.pieces.taken + length l.pieces.waiting.items ≡ 18 + 4 * l.target.size.width * l.y;
       row : length l.row ≡ 4096;
     }

@@ -1,4 +1,4 @@
-use Rattle.std.proofs.Common.{arith, ◌+◌, below_more, ℕ, rules}
+use Rattle.std.proofs.Common.{arith, below_more, ℕ}
 use Rattle.tileblock.specs.Widening.{HoldsRow}
 use Rattle.tileblock.proofs.Widening.{held_by_wider}
 use Rattle.tileblock.proofs.blocks.TileBlock.extremes.Goals as goal

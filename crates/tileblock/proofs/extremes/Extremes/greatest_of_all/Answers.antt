@@ -1,4 +1,4 @@
-use Rattle.std.proofs.Common.{◌≡◌, ℕ, arith, rules, ◌+◌, ◌≤◌, below_more, slice_index, max}
+use Rattle.std.proofs.Common.{◌≡◌, arith, rules, ◌≤◌, below_more, slice_index, max}
 use Rattle.tileblock.proofs.extremes.Extremes.greatest_of_all.Goals as goal
 
 pub loop-j-preserved : goal.loop-j-preserved
