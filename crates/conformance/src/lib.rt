@@ -1,6 +1,6 @@
 //! Tests of what no contract says, over what the crates below hand out: scripts from bytes to bytes (`scripts`), the calls
 //! of the immediate context that no script reaches (`contexts`), recorded and compiled lists (`recording`, `compiling`),
-//! the reading of scripts (`reading`), blocks, boards, ports and their threads (`blocks`, `boards`, `ports`, `meeting`),
+//! the reading of scripts (`reading`), blocks, boards, crews, ports and their threads (`blocks`, `boards`, `crews`, `ports`, `meeting`),
 //! devices (`devices`), numbers and texts of refusals (`refusals`), the command line (`words`), and the allocator that
 //! refuses a growth (`allocator`).
 //!
@@ -19,6 +19,8 @@ mod calls;
 mod compiling;
 #[cfg(test)]
 mod contexts;
+#[cfg(test)]
+mod crews;
 #[cfg(test)]
 mod devices;
 #[cfg(test)]
