@@ -1,0 +1,219 @@
+//! A crew of threads: its threads meet at a run, over many runs it answers as the caller alone, and the caller draws what no
+//! thread and no memory is there for.
+
+use crate::calls::{list_of, record_all};
+use crate::meeting::AllAtOnce;
+use cmdlist::{Call, CommandList};
+use gfxspec::{GfxError, Topology, Vertex};
+use immediate::{ImmediateContext, TileCrew};
+use refusing::Refusing;
+use std::alloc::{Allocator, Global};
+use std::sync::Wait;
+use std::sync::atomic::AtomicU64;
+use std::sync::atomic::Ordering::SeqCst;
+use std::test::Fail;
+use std::thread;
+use std::thread::Threads;
+use workers::{Gate, NoGate, start_crew};
+
+/// A corner in pixels.
+fn corner(x: i32, y: i32) -> Vertex {
+    Vertex {
+        x: x.wrapping_mul(65_536),
+        y: y.wrapping_mul(65_536),
+        z: 0,
+        rgba: [7; 4],
+    }
+}
+
+/// A list that clears the colours and counts a triangle over two of six tiles and more.
+fn clearing<A: Allocator + Copy>(alloc: A, shade: u8) -> Result<CommandList<A>, GfxError> {
+    let corners = [corner(0, 0), corner(70, 0), corner(0, 60)];
+    list_of(
+        alloc,
+        &[
+            Call::ClearColor([shade; 4]),
+            Call::SetVertices(&corners),
+            Call::SetTopology(Topology::TriangleList),
+            Call::Begin(0),
+            Call::Draw(3, 0),
+            Call::End(0),
+        ],
+    )
+}
+
+/// What a run leaves: the count of the triangle, and shades inside and outside of it.
+type Left = (u64, u8, u8);
+
+/// Executes a list alone, and asks.
+fn left_alone<A: Allocator + Copy + Send>(
+    context: &mut ImmediateContext<A>,
+    list: &CommandList<A>,
+) -> Result<Left, GfxError> {
+    context.execute_alone(list, false)?;
+    let count = context.get_data_alone(0)?;
+    let inside = context.pixel_alone(1, 1)?;
+    let outside = context.pixel_alone(95, 63)?;
+    Ok((count, inside.rgba[0], outside.rgba[0]))
+}
+
+/// Executes a list by a crew, and asks.
+fn left_by_crew<'a, A: Allocator + Copy + Send + Sync, R: Threads + Wait + Sync, G: Gate>(
+    rt: &R,
+    context: &mut ImmediateContext<A>,
+    list: &CommandList<A>,
+    crew: &TileCrew<'a, A>,
+    gate: &G,
+) -> Result<Left, GfxError> {
+    context.execute_by_crew(rt, list, false, crew, gate)?;
+    let count = context.get_data_by_crew(rt, 0, crew, gate)?;
+    let inside = context.pixel_by_crew(rt, 1, 1, crew, gate)?;
+    let outside = context.pixel_by_crew(rt, 95, 63, crew, gate)?;
+    Ok((count, inside.rgba[0], outside.rgba[0]))
+}
+
+/// Executes the lists of so many shades by a crew and alone, and says for how many the answers were the same.
+fn same_answers<'a, A: Allocator + Copy + Send + Sync, R: Threads + Wait + Sync, G: Gate>(
+    rt: &R,
+    alloc: A,
+    crew: &TileCrew<'a, A>,
+    gate: &G,
+    shades: u8,
+) -> Result<u64, GfxError> {
+    let mut one = ImmediateContext::new(alloc, 96, 64)?;
+    let mut many = ImmediateContext::new(alloc, 96, 64)?;
+    let mut same = 0_u64;
+    for shade in 0..shades {
+        let list = clearing(alloc, shade)?;
+        if left_by_crew(rt, &mut many, &list, crew, gate)? == left_alone(&mut one, &list)? {
+            same = same.wrapping_add(1);
+        }
+    }
+    Ok(same)
+}
+
+/// The same with the threads of the crew, which go home at the end.
+fn same_with_threads<
+    'a,
+    A: Allocator + Copy + Send + Sync,
+    R: Threads + Wait + Sync,
+    G: Gate + Sync,
+>(rt: &R, alloc: A, crew: &TileCrew<'a, A>, gate: &G, shades: u8) -> Result<u64, GfxError> {
+    thread::scope(thread::scope_env(), rt, |scope| {
+        start_crew(rt, scope, crew, gate);
+        let same = same_answers(rt, alloc, crew, gate, shades);
+        crew.close(rt);
+        same
+    })
+}
+
+// Three threads and the caller come to the first claim of the first run, and the crew goes on for a hundred.
+#[test]
+fn a_crew_meets_and_stays(rt: HostRuntime) -> Result<(), Fail> {
+    let alloc: Global = rt.alloc();
+    let crew = TileCrew::new(&alloc, 3);
+    let gate = AllAtOnce::new(4);
+    let same = same_with_threads(&rt, alloc, &crew, &gate, 100)?;
+    assert!(rt; same == 100);
+    assert!(rt; gate.all_came());
+    Ok(())
+}
+
+// More workers than the six tiles of a run.
+#[test]
+fn fifteen_for_six_tiles(rt: HostRuntime) -> Result<(), Fail> {
+    let alloc: Global = rt.alloc();
+    let crew = TileCrew::new(&alloc, 15);
+    let same = same_with_threads(&rt, alloc, &crew, &NoGate, 100)?;
+    assert!(rt; same == 100);
+    Ok(())
+}
+
+// Where no thread starts the caller takes back what it offered, and draws all tiles.
+#[test]
+fn no_thread_starts(rt: HostRuntime) -> Result<(), Fail> {
+    let alloc: Global = rt.alloc();
+    let crew = TileCrew::new(&alloc, 15);
+    let same = same_answers(&rt, alloc, &crew, &NoGate, 10)?;
+    assert!(rt; same == 10);
+    Ok(())
+}
+
+/// Counts the claims of all workers beside the caller.
+#[derive(Drop)]
+struct Others {
+    claims: AtomicU64,
+}
+
+impl Gate for Others {
+    fn before_claim(&self, worker: u32, _turn: u64) {
+        if worker > 0 {
+            self.claims.fetch_add(1, SeqCst);
+        }
+    }
+
+    fn after_hand_in(&self, _worker: u32, _turn: u64) {}
+}
+
+/// Clears a target of one tile so often by the threads of a crew.
+fn clear_one_tile<'a, R: Threads + Wait + Sync, G: Gate + Sync>(
+    rt: &R,
+    alloc: Global,
+    crew: &TileCrew<'a, Global>,
+    gate: &G,
+) -> Result<(), GfxError> {
+    let mut context = ImmediateContext::new(alloc, 32, 32)?;
+    thread::scope(thread::scope_env(), rt, |scope| {
+        start_crew(rt, scope, crew, gate);
+        let mut answer = Ok(());
+        for shade in 0..100u8 {
+            answer = answer.and(record_all(&mut context, &[Call::ClearColor([shade; 4])]));
+            answer = answer.and(context.flush_by_crew(rt, crew, gate));
+        }
+        crew.close(rt);
+        answer
+    })
+}
+
+// A run of one tile is the caller's alone.
+#[test]
+fn one_tile_is_offered_to_nobody(rt: HostRuntime) -> Result<(), Fail> {
+    let alloc: Global = rt.alloc();
+    let crew = TileCrew::new(&alloc, 3);
+    let gate = Others {
+        claims: AtomicU64::new(0),
+    };
+    clear_one_tile(&rt, alloc, &crew, &gate)?;
+    assert!(rt; gate.claims.load(SeqCst) == 0);
+    Ok(())
+}
+
+/// Executes three lists over an allocator that refuses a growth, and each call once more where it is refused: for how many
+/// the answers were the same.
+fn insisting<A: Allocator + Copy + Send + Sync, R: Threads + Wait + Sync>(
+    rt: &R,
+    alloc: A,
+    lent: &A,
+) -> Result<u64, GfxError> {
+    let crew = TileCrew::new(lent, 3);
+    match same_with_threads(rt, alloc, &crew, &NoGate, 3) {
+        Err(GfxError::OutOfMemory) => same_with_threads(rt, alloc, &crew, &NoGate, 3),
+        first => first,
+    }
+}
+
+// Each growth refused in turn, those of the crew and of its runs too.
+#[test]
+fn each_growth_refused_in_turn(rt: HostRuntime) -> Result<(), Fail> {
+    for n in 1..1000u64 {
+        let refusing = Refusing::new(rt.alloc(), n);
+        let alloc = &refusing;
+        let same = insisting(&rt, alloc, &alloc)?;
+        assert!(rt; same == 3, "growth {n}");
+        if !refusing.refused() {
+            assert!(rt; n > 50);
+            return Ok(());
+        }
+    }
+    panic!(rt; "three runs ask for no more than so many growths")
+}
