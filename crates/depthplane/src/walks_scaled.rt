@@ -15,7 +15,7 @@ use std::simd::prelude::*;
 
 /// So near above a whole number, in 2^40ths, a value may belong to the depth below it: no more steps than these lead to any
 /// pixel.
-const NEAR: u64 = 16_384;
+pub(crate) const NEAR: u64 = 16_384;
 
 /// Eight walks by multiples of 2^-40, over the depths before any bias. The steps stand in the walks themselves, so that a loop over rows needn't read them from
 /// the plane again. A value that lies too near above a whole number to be sure of its depth is looked at exactly.
@@ -85,7 +85,7 @@ fn stepped(lanes: &[u64; 8], step: u64) -> [u64; 8]
 }
 
 /// A depth, or the one below it if its height would be more than the height.
-fn mended(depth: u32, height: i128, area: i64) -> u32
+pub(crate) fn mended(depth: u32, height: i128, area: i64) -> u32
     requires { IsDivisor area }
     ensures { result ≡ mended_by height area depth }
 {

@@ -11,7 +11,7 @@ use Rattle.gfxspec.specs.declared.geometry.PixelRect.{PixelRect}
 use Rattle.gfxspec.specs.declared.state.Compare.{Compare}
 use Rattle.gfxspec.specs.declared.state.Compare.TheVariants.{Never, Less, Equal, LessEqual, Greater, NotEqual, GreaterEqual, Always}
 use Rattle.gfxspec.specs.DepthStencil.{DepthStencilSetting, FaceSetting, TestOutcome, tested, compares}
-use Rattle.gfxspec.specs.Depth.{weight, depth_at, biased}
+use Rattle.gfxspec.specs.Depth.{weight, depth_at}
 use Rattle.gfxspec.specs.Items.{is_in_rect}
 use Rattle.gfxspec.specs.Raster.{Triangle, Point, centre, covers, is_empty, area, edge, edge_holds}
 use Rattle.gfxspec.specs.Tiles.{IsIn}
@@ -33,7 +33,7 @@ use Rattle.binner.specs.Program as P
 use Rattle.binner.specs.Program.{lets_through, reaches_by, outcome, drawn, triangle_by}
 use Rattle.tileprog.specs.Counting.{one_if}
 use Rattle.tileprog.specs.Edges.{passes_edges}
-use Rattle.tileprog.specs.Hidden.{NonePasses, none_passes, greatest_after, IsHidden, AreAfter, IsWhole}
+use Rattle.tileprog.specs.Hidden.{NonePasses, none_passes, greatest_after, DepthsLie, IsHidden, AreAfter, IsWhole}
 use Rattle.tileprog.specs.Passing.{triangle_count, IsTile}
 use Rattle.tileprog.proofs.Lanes.{tested_depth}
 use Rattle.tileprog.proofs.Summing.{sum_over_none}
@@ -84,7 +84,7 @@ module _ (t : TriSetup) (x y : ℕ) (c : covers t.edges (centre x y) ≡ true) w
   covered_plane : covers t.plane.triangle (centre x y) ≡ true
   covered_plane = ap (λ r. covers r (centre x y)) t.same ∙ c
 
-  pub depth_least : t.least_depth ≤ depth_of t.plane x y
+  depth_least : t.least_depth ≤ depth_of t.plane x y
   depth_least =
       let p = centre x y in
       let r = t.plane.triangle in
@@ -92,13 +92,16 @@ module _ (t : TriSetup) (x y : ℕ) (c : covers t.edges (centre x y) ≡ true) w
       let below = least_mean (weight r 0 p) (weight r 1 p) (weight r 2 p) t.plane.z0 t.plane.z1 t.plane.z2 m (omega arith) (omega arith) (omega arith) (some_weight r p solid_plane covered_plane) in
       subst (λ n. n ≤ depth_of t.plane x y) (sym t.least) (biased_order t.plane.bias m (depth_at r t.plane.z0 t.plane.z1 t.plane.z2 p) below)
 
-  pub depth_greatest : depth_of t.plane x y ≤ t.greatest_depth
+  depth_greatest : depth_of t.plane x y ≤ t.greatest_depth
   depth_greatest =
       let p = centre x y in
       let r = t.plane.triangle in
       let m = max (max t.plane.z0 t.plane.z1) t.plane.z2 in
       let above = greatest_mean (weight r 0 p) (weight r 1 p) (weight r 2 p) t.plane.z0 t.plane.z1 t.plane.z2 m (omega arith) (omega arith) (omega arith) in
       subst (λ n. depth_of t.plane x y ≤ n) (sym t.greatest) (biased_order t.plane.bias (depth_at r t.plane.z0 t.plane.z1 t.plane.z2 p) m above)
+
+pub vertices_lie : (t : TriSetup) (r : PixelRect) → DepthsLie t r t.least_depth t.greatest_depth
+vertices_lie t r u v is c = (depth_least t u v c, depth_greatest t u v c)
 
 -- ---- a stored depth
 
@@ -169,17 +172,18 @@ module _ (t : TriSetup) (e : StateEntry) (m : EdgeMask) (old : Block) (class : I
       let named : P.passes_edges m t.edges (centre u v) ≡ true = first (P.passes_edges m t.edges (centre u v)) (lets_through e u v) r in
       named_covers (edge_bits m) t.edges old.rect u v t.solid class is (passes_are m t.edges (centre u v) ∙ named)
 
-  module _ (stored : Option DepthBounds) (known : IfSome stored (λ w. LieBetween old w.least w.greatest)) where
+  module _ (least greatest : ℕ) (lie : DepthsLie t old.rect least greatest) (stored : Option DepthBounds) (known : IfSome stored (λ w. LieBetween old w.least w.greatest)) where
     lies : (w : DepthBounds) → stored ≡ Some w → LieBetween old w.least w.greatest
     lies w is = subst (λ o. IfSome o (λ w. LieBetween old w.least w.greatest)) is known
 
-    module _ (h : IsHidden e.depth_stencil t.least_depth t.greatest_depth stored) where
+    module _ (h : IsHidden e.depth_stencil least greatest stored) where
       test_fails : (u v : ℕ) → IsIn old.rect u v → reaches_by m t e u v ≡ true → outcome t e u v (pixel_at old u v) ≡ record { after = (pixel_at old u v).ds; passed = false }
       test_fails u v is r =
           let c = covered u v is r in
+          let between = lie u v is c in
           let was = lies h.was h.known u v is in
           let fails : compares e.depth_stencil.func (depth_of t.plane u v) (pixel_at old u v).ds.depth ≡ false
-          = none_pass e.depth_stencil.func t.least_depth t.greatest_depth h.was.least h.was.greatest h.none (depth_of t.plane u v) (pixel_at old u v).ds.depth (depth_least t u v c) (depth_greatest t u v c) was.0 was.1 in
+          = none_pass e.depth_stencil.func least greatest h.was.least h.was.greatest h.none (depth_of t.plane u v) (pixel_at old u v).ds.depth (between.0) (between.1) was.0 was.1 in
           failed e.depth_stencil (face_of t e) e.reference (depth_of t.plane u v) (pixel_at old u v).ds h.alone.stencil h.alone.depth fails
 
       pub hidden_pixel : (u v : ℕ) → IsIn old.rect u v → pixel_at old u v ≡ triangle_by m (Some t) (Some e) u v (pixel_at old u v)
@@ -198,7 +202,7 @@ module _ (t : TriSetup) (e : StateEntry) (m : EdgeMask) (old : Block) (class : I
 
     -- what the depths lie between behind it
     module _ (new : Block) (whole : Bool) (d : DepthBounds)
-        (a : AreAfter e.depth_stencil t.least_depth t.greatest_depth whole stored d)
+        (a : AreAfter e.depth_stencil least greatest whole stored d)
         (pixels : (u v : ℕ) → IsIn old.rect u v → pixel_at new u v ≡ triangle_by m (Some t) (Some e) u v (pixel_at old u v))
         (reached : whole ≡ true → (u v : ℕ) → IsIn old.rect u v → reaches_by m t e u v ≡ true) where
       tested_depth_is : (u v : ℕ) → (outcome t e u v (pixel_at old u v)).after.depth ≡ depth_after e.depth_stencil.func (depth_of t.plane u v) (pixel_at old u v).ds.depth
@@ -210,20 +214,28 @@ module _ (t : TriSetup) (e : StateEntry) (m : EdgeMask) (old : Block) (class : I
       pub kept_between : (u v : ℕ) → IsIn old.rect u v → (d.least ≤ (pixel_at new u v).ds.depth) × ((pixel_at new u v).ds.depth ≤ d.greatest)
       kept_between u v is =
           let was = lies a.was a.known u v is in
-          bounded_by d.least (min a.was.least t.least_depth) (pixel_at new u v).ds.depth (triangle_by m (Some t) (Some e) u v (pixel_at old u v)).ds.depth d.greatest _ a.low (ap (λ (p : Pixel). p.ds.depth) (pixels u v is)) a.high
+          bounded_by d.least (min a.was.least least) (pixel_at new u v).ds.depth (triangle_by m (Some t) (Some e) u v (pixel_at old u v)).ds.depth d.greatest _ a.low (ap (λ (p : Pixel). p.ds.depth) (pixels u v is)) a.high
           (by was (reaches_by m t e u v) refl whole reached)
         where
           by : ((a.was.least ≤ (pixel_at old u v).ds.depth) × ((pixel_at old u v).ds.depth ≤ a.was.greatest)) → (r : Bool) → reaches_by m t e u v ≡ r → (all : Bool) → (all ≡ true → (u v : ℕ) → IsIn old.rect u v → reaches_by m t e u v ≡ true) →
-              (min a.was.least t.least_depth ≤ (if r then drawn t e (outcome t e u v (pixel_at old u v)) (pixel_at old u v) else pixel_at old u v).ds.depth)
-              × ((if r then drawn t e (outcome t e u v (pixel_at old u v)) (pixel_at old u v) else pixel_at old u v).ds.depth ≤ greatest_after e.depth_stencil.func all a.was.greatest t.greatest_depth)
+              (min a.was.least least ≤ (if r then drawn t e (outcome t e u v (pixel_at old u v)) (pixel_at old u v) else pixel_at old u v).ds.depth)
+              × ((if r then drawn t e (outcome t e u v (pixel_at old u v)) (pixel_at old u v) else pixel_at old u v).ds.depth ≤ greatest_after e.depth_stencil.func all a.was.greatest greatest)
           by was true r all every =
               let c = covered u v is r in
+              let between = lie u v is c in
               bounded_by _ _ (outcome t e u v (pixel_at old u v)).after.depth _ _ _ refl (tested_depth_is u v) refl
-              (after_between e.depth_stencil.func all (depth_of t.plane u v) (pixel_at old u v).ds.depth t.least_depth t.greatest_depth a.was.least a.was.greatest (depth_least t u v c) (depth_greatest t u v c) was.0 was.1)
+              (after_between e.depth_stencil.func all (depth_of t.plane u v) (pixel_at old u v).ds.depth least greatest a.was.least a.was.greatest (between.0) (between.1) was.0 was.1)
           by was false r true every = absurd (false≢true (sym r ∙ every refl u v is))
-          by was false r false every = stays e.depth_stencil.func (pixel_at old u v).ds.depth t.least_depth t.greatest_depth a.was.least a.was.greatest was.0 was.1
+          by was false r false every = stays e.depth_stencil.func (pixel_at old u v).ds.depth least greatest a.was.least a.was.greatest was.0 was.1
 
 -- ---- a triangle that reaches a whole tile
+
+-- where no edge is named it covers each pixel
+pub whole_covered : (t : TriSetup) (m : EdgeMask) (clip r : PixelRect) → IsClassOf (Cut (edge_bits m)) t.edges r → IsWhole r clip m → (u v : ℕ) → IsIn r u v → covers t.edges (centre u v) ≡ true
+whole_covered t m clip r class w u v is =
+    named_covers (edge_bits m) t.edges r u v t.solid class is
+    (passes_are m t.edges (centre u v)
+    ∙ (λ i. (not (w.edge0 i) || edge_holds (edge t.edges 0) (centre u v)) && ((not (w.edge1 i) || edge_holds (edge t.edges 1) (centre u v)) && (not (w.edge2 i) || edge_holds (edge t.edges 2) (centre u v)))))
 
 module _ (p : TriSetup) (e : StateEntry) (m : EdgeMask) (clip r : PixelRect) (tile : IsTile r) (class : IsClassOf (Cut (edge_bits m)) p.edges r) (bounded : IsBounded p e)
     (inside : (u v : ℕ) → IsIn r u v → is_in_rect clip u v ≡ is_in_rect p.bounds u v) where
@@ -241,12 +253,12 @@ module _ (p : TriSetup) (e : StateEntry) (m : EdgeMask) (clip r : PixelRect) (ti
           lies_in c u v a b d f = grind (arith, nat_tests)
 
 -- what is kept behind it
-pub kept_if : (t : TriSetup) (e : StateEntry) (m : EdgeMask) (old new : Block) (clip : PixelRect) (stored after : Option DepthBounds) (whole : Bool) → IsTile old.rect → IsClassOf (Cut (edge_bits m)) t.edges old.rect → IsBounded t e →
-    ((u v : ℕ) → IsIn old.rect u v → is_in_rect clip u v ≡ is_in_rect t.bounds u v) → IfSome stored (λ w. LieBetween old w.least w.greatest) → (whole ≡ true → IsWhole old.rect clip m) →
-    IfSome after (AreAfter e.depth_stencil t.least_depth t.greatest_depth whole stored) → new.rect ≡ old.rect →
+pub kept_if : (t : TriSetup) (e : StateEntry) (m : EdgeMask) (old new : Block) (clip : PixelRect) (least greatest : ℕ) (stored after : Option DepthBounds) (whole : Bool) → IsTile old.rect → IsClassOf (Cut (edge_bits m)) t.edges old.rect → IsBounded t e →
+    ((u v : ℕ) → IsIn old.rect u v → is_in_rect clip u v ≡ is_in_rect t.bounds u v) → DepthsLie t old.rect least greatest → IfSome stored (λ w. LieBetween old w.least w.greatest) → (whole ≡ true → IsWhole old.rect clip m) →
+    IfSome after (AreAfter e.depth_stencil least greatest whole stored) → new.rect ≡ old.rect →
     ((u v : ℕ) → IsIn old.rect u v → pixel_at new u v ≡ triangle_by m (Some t) (Some e) u v (pixel_at old u v)) → IfSome after (λ d. LieBetween new d.least d.greatest)
-kept_if t e m old new clip stored None whole tile class bounded inside known all a rect pixels = a
-kept_if t e m old new clip stored (Some d) whole tile class bounded inside known all a rect pixels = λ u v is.
-    kept_between t e m old class stored known new whole d a pixels
+kept_if t e m old new clip least greatest stored None whole tile class bounded inside lie known all a rect pixels = a
+kept_if t e m old new clip least greatest stored (Some d) whole tile class bounded inside lie known all a rect pixels = λ u v is.
+    kept_between t e m old class least greatest lie stored known new whole d a pixels
     (λ w. whole_reached t e m clip old.rect tile class bounded inside (all w))
     u v (subst (λ (r : PixelRect). IsIn r u v) rect is)

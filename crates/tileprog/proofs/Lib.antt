@@ -16,3 +16,5 @@ pub mod Totals
 pub mod Programs
 pub mod Touched
 pub mod Ordering
+pub mod Places
+pub mod AlikeLaws

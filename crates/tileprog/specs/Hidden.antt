@@ -1,9 +1,13 @@
 -- When a triangle can't pass the depth test at any pixel of a tile, by what its depths and the tile's lie between.
-use Rattle.std.specs.Prelude.{ℕ, ◌≡◌, ◌≤◌, ◌==◌, Bool, true, false, ◌&&◌, ◌||◌, nat_le, nat_lt, min, max, Option, Some, if◌then◌else◌}
+use Rattle.std.specs.Prelude.{ℕ, ◌≡◌, ◌≤◌, ◌==◌, Bool, true, false, ◌&&◌, ◌||◌, nat_le, nat_lt, min, max, Option, Some, IsTrue, if◌then◌else◌}
 use Rattle.gfxspec.specs.declared.state.Compare.{Compare}
 use Rattle.gfxspec.specs.declared.state.Compare.TheVariants.{Never, Less, Equal, LessEqual, Greater, NotEqual, GreaterEqual, Always}
 use Rattle.gfxspec.specs.DepthStencil.{DepthStencilSetting, compares}
 use Rattle.gfxspec.specs.declared.geometry.PixelRect.{PixelRect}
+use Rattle.gfxspec.specs.Raster.{centre, covers}
+use Rattle.gfxspec.specs.Tiles.{IsIn}
+use Rattle.depthplane.specs.Place.{depth_of}
+use Rattle.binner.specs.declared.setup.TriSetup.{TriSetup}
 use Rattle.tileword.specs.declared.edge_mask.EdgeMask.{EdgeMask}
 use Rattle.tileblock.specs.declared.blocks.DepthBounds.{DepthBounds}
 
@@ -27,6 +31,11 @@ none_passes Always least greatest low high = false
 pub record TestsDepthAlone (s : DepthStencilSetting) : Type 0 where
   pub stencil : s.stencil ≡ false
   pub depth : s.depth ≡ true
+
+-- the depths of a triangle at the pixels of a rectangle that it covers lie between two
+abbrev pub DepthsLie : TriSetup → PixelRect → ℕ → ℕ → Type 0
+DepthsLie t r least greatest =
+    (u v : ℕ) → IsIn r u v → IsTrue (covers t.edges (centre u v)) → (least ≤ depth_of t.plane u v) × (depth_of t.plane u v ≤ greatest)
 
 -- the triangle's depths pass against none of the stored ones
 pub record IsHidden (s : DepthStencilSetting) (least greatest : ℕ) (stored : Option DepthBounds) : Type 0 where

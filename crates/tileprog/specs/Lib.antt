@@ -12,3 +12,4 @@ pub mod Columns
 pub mod Passing
 pub mod Runs
 pub mod Programs
+pub mod Alike

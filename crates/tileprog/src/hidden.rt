@@ -9,8 +9,16 @@ use gfxspec::Compare;
 use std::alloc::Allocator;
 use tileblock::{DepthBounds, TileBlock};
 
+/// Whether a triangle's plane is asked what its depths lie between: where it reaches a whole tile, depth is tested, and
+/// something is known of the stored depths.
+pub(crate) fn asks_plane(entry: &StateEntry, stored: Option<DepthBounds>, whole: bool) -> bool
+    ensures { IsTrue result → IsTrue whole }
+{
+    whole && entry.depth_stencil.depth() && stored.is_some()
+}
+
 /// No depth from `least` to `greatest` passes against any of the stored ones.
-fn none_passes(func: Compare, least: u32, greatest: u32, stored: DepthBounds) -> bool
+pub(crate) fn none_passes(func: Compare, least: u32, greatest: u32, stored: DepthBounds) -> bool
     ensures { result ≡ none_passes func least greatest stored.least stored.greatest }
 {
     match func {

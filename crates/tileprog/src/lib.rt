@@ -7,6 +7,7 @@
 //! asked of the word.
 #![tactic(auto)]
 
+mod alike;
 mod brush;
 mod column;
 mod columns;

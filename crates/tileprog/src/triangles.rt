@@ -2,6 +2,7 @@
 
 ghost use Rattle.std.specs.Prelude.{◌≡◌, ◌≤◌, ℕ, Some, IsTrue};
 ghost use Rattle.gfxspec.specs.Items.{is_in_rect};
+ghost use Rattle.gfxspec.specs.Raster.{centre, covers};
 ghost use Rattle.gfxspec.specs.Tiles.{IsIn};
 ghost use Rattle.tileblock.specs.Block.{pixel_at};
 ghost use Rattle.tileword.specs.EdgeMask.{edge_bits};
@@ -10,13 +11,14 @@ ghost use Rattle.classify.specs.declared.Class.TheVariants.{Cut};
 ghost use Rattle.meaning.specs.Over.{sum_over};
 ghost use Rattle.binner.specs.Program.{triangle_by};
 ghost use Rattle.binner.specs.Meaning.{IsBounded};
-ghost use Rattle.tileprog.specs.Hidden.{IsWhole};
+ghost use Rattle.tileprog.specs.Hidden.{DepthsLie, IsWhole};
 ghost use Rattle.tileprog.specs.Passing.{triangle_count, IsTile};
 ghost use Rattle.tileprog.specs.Strokes.{IsWithin};
 
+use crate::alike::{alike_outcome, run_alike};
 use crate::brush::make_brush;
 use crate::draw::draw;
-use crate::hidden::{bounds_after, is_hidden, keep_after};
+use crate::hidden::{asks_plane, bounds_after, is_hidden, keep_after};
 use binner::{StateEntry, TriSetup};
 use gfxspec::PixelRect;
 use std::alloc::Allocator;
@@ -81,6 +83,20 @@ fn is_whole(rect: PixelRect, clip: PixelRect, mask: EdgeMask) -> bool
         && rect.bottom <= clip.bottom
 }
 
+/// What the depths of a triangle lie between at the pixels of a tile that it covers: by its plane where it is known to
+/// cover them all, and else by its vertices.
+fn depth_range(triangle: &TriSetup, rect: PixelRect, all: bool) -> (u32, u32)
+    requires tile { IsTile rect }
+    requires all { IsTrue all → (u v : ℕ) → IsIn rect u v → IsTrue (covers triangle.now.edges (centre u v)) }
+    ensures { DepthsLie triangle.now rect result.0 result.1 }
+{
+    if all {
+        triangle.plane.range(rect)
+    } else {
+        (triangle.least_depth, triangle.greatest_depth)
+    }
+}
+
 /// A triangle under a state entry over a tile; the answer is how many pixels pass.
 pub(crate) fn run_triangle<A: Allocator>(
     block: &mut TileBlock<A>,
@@ -102,13 +118,17 @@ pub(crate) fn run_triangle<A: Allocator>(
         return 0;
     }
     let stored = block.depth_bounds();
-    let least = triangle.least_depth;
-    let greatest = triangle.greatest_depth;
+    let whole = is_whole(rect, clip, mask);
+    let by_plane = asks_plane(entry, stored, whole);
+    let (least, greatest) = depth_range(triangle, rect, by_plane);
     let hidden = is_hidden(entry, least, greatest, stored);
     if hidden {
         return 0;
     }
-    let whole = is_whole(rect, clip, mask);
+    let outcome = alike_outcome(triangle, entry, least, greatest, whole, stored);
+    if let Some(deep) = outcome {
+        return run_alike(block, triangle, entry, deep);
+    }
     let after = bounds_after(entry, least, greatest, whole, stored);
     let passed = draw_under(block, triangle, mask, entry, clip);
     keep_after(block, after, passed);

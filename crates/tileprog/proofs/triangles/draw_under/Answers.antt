@@ -1,4 +1,4 @@
-use Rattle.std.proofs.Common.{◌∙◌, ap, sym, subst, rules, ℕ}
+use Rattle.std.proofs.Common.{◌∙◌, ap, sym, subst, ℕ}
 use Rattle.tileword.specs.EdgeMask.{edge_bits}
 use Rattle.tileblock.specs.Block.{pixel_at}
 use Rattle.meaning.specs.Over.{sum_over}

@@ -1,0 +1,17 @@
+-- The least and the greatest depth of a triangle at the four corner pixels of a rectangle.
+use Rattle.std.specs.Prelude.{ℕ, ◌-◌, min, max}
+use Rattle.gfxspec.specs.declared.geometry.PixelRect.{PixelRect}
+use Rattle.depthplane.specs.Height.{DeepTriangle}
+use Rattle.depthplane.specs.Place.{depth_of}
+
+abbrev pub least_corner : DeepTriangle → PixelRect → ℕ
+least_corner d r =
+    min
+    (min (depth_of d r.left r.top) (depth_of d (r.right - 1) r.top))
+    (min (depth_of d r.left (r.bottom - 1)) (depth_of d (r.right - 1) (r.bottom - 1)))
+
+abbrev pub greatest_corner : DeepTriangle → PixelRect → ℕ
+greatest_corner d r =
+    max
+    (max (depth_of d r.left r.top) (depth_of d (r.right - 1) r.top))
+    (max (depth_of d r.left (r.bottom - 1)) (depth_of d (r.right - 1) (r.bottom - 1)))

@@ -1,0 +1,5 @@
+use Rattle.tileprog.proofs.Places.{OperatedSoFar}
+use Rattle.tileprog.proofs.alike.operate.Given as goal
+
+abbrev pub invariant-loop-at : goal.invariant-loop-at
+invariant-loop-at g l = record { so_far : OperatedSoFar l.test l.deep l.fn.block l.block l.at }

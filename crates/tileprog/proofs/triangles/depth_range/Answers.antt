@@ -1,0 +1,14 @@
+use Rattle.std.proofs.Common.{◌∙◌}
+use Rattle.gfxspec.specs.Raster.{centre, covers}
+use Rattle.tileprog.proofs.Hiding.{vertices_lie}
+use Rattle.tileprog.proofs.triangles.depth_range.Goals as goal
+
+pub range-requires-clause-covered : goal.range-requires-clause-covered
+range-requires-clause-covered c = λ x y is.
+    (λ i. covers (c.args.triangle.now.same i) (centre x y)) ∙ c.requires.all c.if-all.true x y is
+
+pub returns-then-all : goal.returns-then-all
+returns-then-all c = λ u v is covered. c.range.ensures.between u v is
+
+pub returns-else-all : goal.returns-else-all
+returns-else-all c = vertices_lie c.args.triangle.now c.args.rect
