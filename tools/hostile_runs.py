@@ -3,7 +3,7 @@
 
     tools/hostile_runs.py [--program FILE]
 
-Standard descriptors that are closed, in all eight combinations, or can't be held, a full device, a closed pipe, files and folders that are
+Standard descriptors that are closed, in all eight combinations, or can't be held, no descriptor left, a full device, a closed pipe, files and folders that are
 missing or can't be read, threads that don't start, wrong words, `--help`, scripts with a fault or a refused line, one cut at every byte, and
 lists that are full or too full. The answers and images that are wanted come from plain_device.py. A line is printed for each run, `right NAME` or `WRONG NAME: why` (`not
 tried` where root runs this, and another user, whom files can be closed to, can't reach the program). The status is 0 where none is
@@ -166,11 +166,13 @@ def try_closed_descriptors(runs):
             runs.expect(f"{name}, {workers} workers, closed: {which}", wanted, [script, "image.tga", "--workers", workers], closed=closed)
 
 
-def try_no_descriptors(runs):
-    """No further descriptor may be opened: none can be held, and nothing is read or written."""
+def try_few_descriptors(runs):
+    """Few descriptors may be open: none is left for the image, and none to hold standard output with (the loader of the program wants one)."""
     script, _, _ = stored("four-tiles")
+    words = [script, "image.tga"]
+    runs.expect("one descriptor more", Ended(FAILED, "", IMAGE, None), words, limit=(resource.RLIMIT_NOFILE, 4))
     unheld = Ended(FAILED, "", UNHELD, None)
-    runs.expect("no further descriptor", unheld, [script, "image.tga"], limit=(resource.RLIMIT_NOFILE, 3))
+    runs.expect("no descriptor more, closed: input", unheld, words, closed=(0,), limit=(resource.RLIMIT_NOFILE, 3))
 
 
 def try_few_threads(runs):
@@ -293,7 +295,7 @@ def try_words(runs):
 
 ATTEMPTS = (
     try_closed_descriptors,
-    try_no_descriptors,
+    try_few_descriptors,
     try_few_threads,
     try_outputs,
     try_scripts,
