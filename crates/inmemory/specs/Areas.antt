@@ -3,9 +3,9 @@ use Rattle.std.specs.Prelude.{ℕ, ◌≡◌, ◌<◌, ◌≤◌, List, [], ◌+
 use Rattle.sessions.specs.declared.outcome.Ended.{Ended}
 use Rattle.sessions.specs.declared.outcome.Ended.TheVariants as ended
 use Rattle.sessions.specs.Writing.{Output, Writes}
-use Rattle.inmemory.specs.declared.draw.Report.{Report}
-use Rattle.inmemory.specs.declared.draw.Status.{Status}
-use Rattle.inmemory.specs.declared.draw.Status.TheVariants.{Done, Refused, LinesTooSmall, ImageTooSmall, NoMemory}
+use Rattle.inmemory.specs.declared.areas.Report.{Report}
+use Rattle.inmemory.specs.declared.areas.Status.{Status}
+use Rattle.inmemory.specs.declared.areas.Status.TheVariants.{Done, Refused, LinesTooSmall, ImageTooSmall, NoMemory}
 
 abbrev pub output_of : List ℕ → List ℕ → Ended → Output
 output_of lines image end = record { lines = lines; image = image; ended = end }
@@ -38,5 +38,5 @@ pub data Drew (text : List ℕ) (lines lines_after image image_after : List ℕ)
 
 -- What the report may say of a script that was not drawn into any area.
 pub data Sized (text : List ℕ) (report : Report) : Type 0 where
-  whole : (o : Output) → Writes text o → report ≡ measured o (status_of o.ended) → Sized text report
-  no_memory : report ≡ unmeasured → Sized text report
+  known : (o : Output) → Writes text o → report ≡ measured o (status_of o.ended) → Sized text report
+  unknown : report ≡ unmeasured → Sized text report

@@ -5,9 +5,9 @@
 //! tells its bytes, and a reader of it never fails.
 #![tactic(auto)]
 
-mod draw;
+mod areas;
 mod kept;
 mod play;
 mod script;
 
-pub use draw::{Report, Status, draw, sizes};
+pub use areas::{Report, Status, draw, sizes};

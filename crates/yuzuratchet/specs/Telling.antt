@@ -1,8 +1,8 @@
 -- What a C caller is told.
 use Rattle.std.specs.Prelude.{ℕ, ◌≡◌, List}
-use Rattle.inmemory.specs.declared.draw.Report.{Report as Plain}
-use Rattle.inmemory.specs.declared.draw.Status.{Status}
-use Rattle.inmemory.specs.declared.draw.Status.TheVariants.{Done, Refused, LinesTooSmall, ImageTooSmall, NoMemory}
+use Rattle.inmemory.specs.declared.areas.Report.{Report as Plain}
+use Rattle.inmemory.specs.declared.areas.Status.{Status}
+use Rattle.inmemory.specs.declared.areas.Status.TheVariants.{Done, Refused, LinesTooSmall, ImageTooSmall, NoMemory}
 use Rattle.inmemory.specs.Areas.{Drew, Sized}
 use Rattle.yuzuratchet.specs.declared.areas.Misfit.{Misfit}
 use Rattle.yuzuratchet.specs.declared.areas.Misfit.TheVariants as misfits

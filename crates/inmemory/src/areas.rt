@@ -48,7 +48,7 @@ fn status_of(ended: Ended) -> Status
 }
 
 /// The sizes of what a session wrote, with a status.
-fn report<A: Allocator>(played: &Played<A>, status: Status) -> Report
+fn measured<A: Allocator>(played: &Played<A>, status: Status) -> Report
     ensures { result ≡ measured (output_of played.now.lines.items played.now.image.items played.now.ended) status }
 {
     Report {
@@ -80,14 +80,14 @@ pub fn draw<A: Allocator + Copy + Send>(
         return NO_MEMORY;
     };
     if lines.len() < played.lines.len() {
-        return report(&played, Status::LinesTooSmall);
+        return measured(&played, Status::LinesTooSmall);
     }
     if image.len() < played.image.len() {
-        return report(&played, Status::ImageTooSmall);
+        return measured(&played, Status::ImageTooSmall);
     }
     fill(lines, played.lines.as_slice());
     fill(image, played.image.as_slice());
-    report(&played, status_of(played.ended))
+    measured(&played, status_of(played.ended))
 }
 
 /// How a script ends, and how many bytes its answer lines and its image have.
@@ -95,7 +95,7 @@ pub fn sizes<A: Allocator + Copy + Send>(alloc: A, script: &[u8]) -> Report
     ensures { Sized script.now result }
 {
     match play(alloc, script) {
-        Some(played) => report(&played, status_of(played.ended)),
+        Some(played) => measured(&played, status_of(played.ended)),
         None => NO_MEMORY,
     }
 }
