@@ -6,8 +6,8 @@
  *
  * Memory. The caller owns all four areas that a call names: script, lines, image and report. They lie apart, and stay where
  * they are until the call returns. The script is read and never written. Beyond an area's told size nothing is read or
- * written. What else a call needs it takes from malloc, and frees it before it returns. Where malloc refuses memory, the call
- * says so and never ends the process.
+ * written. What else a call needs it takes from malloc, or from the functions that yuzuratchet_use_memory names, and gives it
+ * back before it returns. Where memory is refused, the call says so and never ends the process.
  *
  * Threads. A call starts none and shares nothing with others: calls on different areas may run side by side.
  *
@@ -74,6 +74,19 @@ uint32_t yuzuratchet_draw(const uint8_t *script, size_t script_size, uint8_t *li
  * area doesn't fit.
  */
 uint32_t yuzuratchet_sizes(const uint8_t *script, size_t script_size, struct yuzuratchet_report *report);
+
+/* Three functions over one store of memory, which keep to what C says of malloc, realloc and free. */
+struct yuzuratchet_memory {
+    void *(*take)(size_t size);
+    void *(*resize)(void *block, size_t size);
+    void (*give)(void *block);
+};
+
+/*
+ * From now on calls take memory by these functions, or, where `memory` is null, by malloc, realloc and free again. It counts
+ * for all threads: call it while no other call of this library runs.
+ */
+void yuzuratchet_use_memory(const struct yuzuratchet_memory *memory);
 
 /* The version of this library: 10,000 times the first number, 100 times the second and the third, 200 for 0.2.0. */
 uint32_t yuzuratchet_version(void);
