@@ -1,0 +1,71 @@
+#!/usr/bin/env python3
+"""Builds the page that draws in a browser: one file with the device, the scripts of the gallery and all code in it.
+
+    tools/make_page.py [--module FILE.wasm] [-o PAGE.html]
+
+It wants the WebAssembly module, which `tools/make_library.sh` builds where the toolchain is, and Python alone. The page opens from a file, and
+from any host that serves files.
+"""
+
+import argparse
+import pathlib
+import sys
+
+import package_path
+from yuzuratchet import page
+
+TOP = package_path.TOP
+MODULE = TOP / "crates" / "webmodule" / "out" / "webmodule.wasm"
+GALLERY = TOP / "crates" / "gallery" / "data"
+EXAMPLES = TOP / "python" / "examples"
+OPENING = "shadow-volumes"
+MAGIC = b"\0asm"
+
+
+def group_of(name):
+    """The heading under which a script of the gallery stands in the menu, or None where it has no place there."""
+    if "-cut-behind-" in name or name.startswith("width-"):
+        return None
+    if name.startswith("rows/"):
+        return "worked rows"
+    if name.startswith("refused/"):
+        return "refused calls"
+    if (TOP / "docs" / "pictures" / f"{name}.png").is_file():
+        return "pictures"
+    return "random scenes" if name.startswith("scene-") else "more"
+
+
+def menu():
+    """The scripts of the menu: the package's examples, and those of the gallery in the order of their headings."""
+    found = [page.Entry("first steps", it.stem, it.read_text(encoding="ascii")) for it in sorted(EXAMPLES.glob("*.txt"))]
+    names = [it.removesuffix(".txt") for it in (GALLERY / "index").read_text(encoding="ascii").split()]
+    for group in ("pictures", "more", "worked rows", "refused calls", "random scenes"):
+        for name in names:
+            if group_of(name) == group:
+                found.append(page.Entry(group, name, (GALLERY / f"{name}.txt").read_text(encoding="ascii")))
+    return found
+
+
+def built(module):
+    """The page with a module's bytes."""
+    return page.build_page(TOP / "web", module, menu(), OPENING)
+
+
+def main():
+    parser = argparse.ArgumentParser(description=__doc__, formatter_class=argparse.RawDescriptionHelpFormatter)
+    parser.add_argument("--module", metavar="FILE.wasm", type=pathlib.Path, default=MODULE, help=f"({MODULE.relative_to(TOP)})")
+    parser.add_argument("-o", metavar="PAGE.html", dest="page", type=pathlib.Path, default=TOP / page.BUILT, help=f"({page.BUILT})")
+    given = parser.parse_args()
+    try:
+        module = given.module.read_bytes()
+        if not module.startswith(MAGIC):
+            sys.exit(f"make_page.py: {given.module} is no WebAssembly module")
+        given.page.parent.mkdir(parents=True, exist_ok=True)
+        size = given.page.write_text(built(module), encoding="utf-8")
+    except OSError as error:
+        sys.exit(f"make_page.py: {error.filename}: {error.strerror}")
+    print(f"{given.page}: {size} bytes, to be opened in a browser")
+
+
+if __name__ == "__main__":
+    main()
