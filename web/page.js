@@ -22,7 +22,7 @@ async function unpacked(id) {
 
 class Page {
     constructor(module, gallery, opening) {
-        const code = ["code-script", "code-targa", "code-device", "code-worker"].map((id) => part(id).textContent).join("\n");
+        const code = ["code-script", "code-targa", "code-planes", "code-device", "code-worker"].map((id) => part(id).textContent).join("\n");
         this.jobs = new Jobs(code, module, (state) => this.showWork(state));
         this.editor = new Editor(part("editor"), {
             onEdit: () => this.edited(), onLine: (line) => this.playTo(line), onCaret: () => this.showWord(),
@@ -113,7 +113,7 @@ class Page {
         part("position").textContent = `line ${this.last} of ${this.whole}`;
         this.editor.mark({ last: this.last, touched: [], fault: this.fault ? this.faultLine : null });
         document.documentElement.dataset.state = "playing";
-        this.jobs.ask("play", { last: this.last, isOpaque: part("opaque").checked })
+        this.jobs.ask("play", { last: this.last, what: part("what").value })
             .then((told) => this.played(told), (error) => this.failed(error));
         if (this.last < this.whole && !this.fault) {
             this.jobs.ask("check", {}).then(({ refused }) => this.showVerdict(refused), (error) => this.failed(error));
@@ -266,7 +266,7 @@ class Page {
         on("slider", "input", () => this.goTo(Number(part("slider").value)));
         on("back", "click", () => this.goTo(this.last - 1));
         on("on", "click", () => this.goTo(this.last + 1));
-        on("opaque", "change", () => this.playTo(this.last));
+        on("what", "change", () => this.playTo(this.last));
         on("stop", "click", () => this.jobs.stop());
         on("smaller", "click", () => this.view.step(-1));
         on("larger", "click", () => this.view.step(1));

@@ -46,12 +46,6 @@ function colourShown([red, green, blue, alpha]) {
     return [swatch, [red, green, blue, alpha].join(" ")];
 }
 
-/** A value before and after, or the one value that it stays. */
-function changeShown(before, after, shown = (value) => [String(value)]) {
-    if (String(before) === String(after)) return [element("span", { className: "quiet" }, ...shown(after))];
-    return [...shown(before), " \u2192 ", ...shown(after)];
-}
-
 /** What a pixel holds. */
 function pixelShown({ x, y, colour, depth, stencil }) {
     const facts = [["colour", colourShown(colour)], ["depth", [`${depth} (${(depth / 16777215).toFixed(4)})`]], ["stencil", [String(stencil)]]];
@@ -61,17 +55,26 @@ function pixelShown({ x, y, colour, depth, stencil }) {
     return list;
 }
 
-/** The table of the lines that changed a pixel. */
+/** The table of the lines that changed a pixel, with what it held behind each. */
 function changesShown(changes, onLine) {
     if (!changes.length) return element("p", { className: "quiet" }, "No line changed it.");
     const head = ["line", "call", "colour", "depth", "stencil"].map((name) => element("th", { scope: "col" }, name));
     const rows = changes.map(({ line, by, text, before, after }) => element("tr", {},
         element("td", {}, lineButton(line, onLine), ...(by ? [" by ", lineButton(by, onLine)] : [])),
         element("td", { className: "call", title: text }, text.length > 60 ? `${text.slice(0, 58)}..` : text),
-        element("td", {}, ...changeShown(before.colour, after.colour, colourShown)),
-        element("td", {}, ...changeShown(before.depth, after.depth)),
-        element("td", {}, ...changeShown(before.stencil, after.stencil))));
-    return element("table", { className: "changes" }, element("thead", {}, element("tr", {}, ...head)), element("tbody", {}, ...rows));
+        ...heldShown(before, after)));
+    const first = element("tr", {}, element("td"), element("td", { className: "call quiet" }, "a new target"),
+        ...heldShown(changes[0].before, changes[0].before));
+    const body = element("tbody", {}, first, ...rows);
+    return element("table", { className: "changes" }, element("thead", {}, element("tr", {}, ...head)), body);
+}
+
+/** Colour, depth and stencil in a row; quiet where they are as before. */
+function heldShown(before, after) {
+    return ["colour", "depth", "stencil"].map((name) => {
+        const shown = name === "colour" ? colourShown(after.colour) : [String(after[name])];
+        return element("td", { className: String(before[name]) === String(after[name]) ? "quiet" : "" }, ...shown);
+    });
 }
 
 /** The number of a line, which leads to it. */

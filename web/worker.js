@@ -14,10 +14,14 @@ const JOBS = {
         return { version: device.version };
     },
 
-    play({ last, isOpaque }) {
+    play({ number, last, what }) {
         const { image, ...told } = play(draw, script, last);
         if (!image.length) return { ...told, width: 0, height: 0, pixels: null };
-        return { ...told, ...decodeTarga(image, isOpaque) };
+        const decoded = decodeTarga(image, what === "opaque");
+        if (what === "opaque" || what === "alpha") return { ...told, ...decoded };
+        const planes = planesBehind(draw, script, told.shown, decoded, (done, all) => postMessage({ number, done, all }));
+        const pixels = what === "depth" ? depthPicture(planes.depth) : stencilPicture(planes.stencil);
+        return { ...told, ...decoded, pixels };
     },
 
     check() {

@@ -24,7 +24,7 @@ from .words import TARGET, WORDS, Word
 VARIABLE: Final = "YUZURATCHET_PAGE"
 BUILT: Final = Path("web", "out", "index.html")
 
-FOR_THE_WORKER: Final = ("script", "targa", "device", "worker")
+FOR_THE_WORKER: Final = ("script", "targa", "planes", "device", "worker")
 """Sources that run in the page's worker: the page has them as text."""
 
 FOR_THE_PAGE: Final = ("tables", "jobs", "editor", "view", "page")
