@@ -59,10 +59,21 @@ class Page {
         this.name = name;
         this.editor.text = text;
         this.textChanged();
+        this.note(text);
         part("menu").value = name;
         this.setPinned(null);
         this.playTo(this.editor.count);
         this.showWord();
+    }
+
+    /** Says what a page can't keep of a text, and the program would refuse. */
+    note(text) {
+        const notes = [
+            /\r/.test(text) && "Its carriage returns are left out here: the program takes none.",
+            text && !/[\r\n]$/.test(text) && "Its last line is ended by a line feed here: the program takes no line without one.",
+        ].filter(Boolean);
+        part("note").hidden = !notes.length;
+        part("note").textContent = notes.join(" ");
     }
 
     /** A text of the menu; one that was edited is kept there. */

@@ -140,8 +140,8 @@ const DEFAULT_STATE = "raster 3 0 0|scissor 0 0 0 0|ds 1 1 2 0 255 255 1 1 1 8 1
  * The lines that changed a pixel, up to a line, in order: [{line, by, text, before, after}].
  *
  * The script is played with a question behind each line that draws, which changes no pixel. While a query of the immediate
- * context is open the device answers no question, and a list is executed whole; what lies within is asked by `within`. `by` is
- * the line that executed a list, or null. `progress(done, all)` is called on the way.
+ * context is open the device answers no question, and a list is executed whole; what lies within is asked by `within`, of lists
+ * that leave the pixel changed. `by` is the line that executed a list, or null. `progress(done, all)` is called on the way.
  */
 function pixelHistory(draw, script, last, x, y, progress = () => {}) {
     const groups = probed(script, last);
@@ -150,7 +150,7 @@ function pixelHistory(draw, script, last, x, y, progress = () => {}) {
     for (const group of groups) pieces.push(...group.pieces, question);
     const answers = ask(draw, pieces);
     const changed = groups.map((group, at) => ({ ...group, before: answers[at], after: answers[at + 1] }))
-        .filter(({ before, after }) => differs(before, after));
+        .filter(({ before, after, lines, list }) => differs(before, after) || (lines.length > 1 && !list));
     const found = [];
     changed.forEach((group, at) => {
         progress(at, changed.length);

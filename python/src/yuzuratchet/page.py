@@ -76,9 +76,15 @@ def build_page(sources: Path, module: bytes, gallery: list[Entry], opening: str)
         _packed("gallery", menu),
         _packed("module", module),
     ]
-    code = [_script(sources, name, f' type="text/plain" id="code-{name}"') for name in FOR_THE_WORKER]
+    code = [
+        _script(sources, name, f' type="text/plain" id="code-{name}"') for name in FOR_THE_WORKER
+    ]
     code += [_script(sources, name, "") for name in FOR_THE_PAGE]
-    for mark, text in (("style.css", style), ("data", "\n".join(data)), ("scripts", "\n".join(code))):
+    for mark, text in (
+        ("style.css", style),
+        ("data", "\n".join(data)),
+        ("scripts", "\n".join(code)),
+    ):
         page = page.replace(f"<!-- {mark} -->", text)
     return page
 
