@@ -329,8 +329,7 @@ def with_a_script(tests, folder):
     """The page of `yuzuratchet view` shows its script first."""
     text = "target 3 2\ni clearc 1 2 3 255\ni draw 3 0\n"
     built = (folder / "index.html").read_text(encoding="utf-8")
-    path = folder / "of </script> & a script.html"
-    path = path.with_name("with-a-script.html")
+    path = folder / "with-a-script.html"
     path.write_text(with_script(built, "a </script> & more.txt", text), encoding="utf-8")
     tests.browser.open("about:blank")
     tests.browser.open(path.as_uri())

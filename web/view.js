@@ -15,10 +15,16 @@ class View {
         this.zoom = 1;
         this.size = { width: 0, height: 0 };
         this.hears = hears;
-        this.canvas.addEventListener("pointermove", (event) => hears.onHover(this.pixelAt(event)));
-        this.canvas.addEventListener("pointerleave", () => hears.onHover(null));
-        this.canvas.addEventListener("click", (event) => hears.onPin(this.pixelAt(event)));
+        // (a click tells whole numbers alone, which may lie on the pixel beside)
+        for (const event of ["pointermove", "pointerdown"]) this.canvas.addEventListener(event, (it) => this.point(this.pixelAt(it)));
+        this.canvas.addEventListener("pointerleave", () => this.point(null));
+        this.canvas.addEventListener("click", () => this.pointed && hears.onPin(this.pointed));
         new ResizeObserver(() => this.fit()).observe(root);
+    }
+
+    point(pixel) {
+        this.pointed = pixel;
+        this.hears.onHover(pixel);
     }
 
     /** Shows an image: {width, height, pixels}. */
@@ -62,8 +68,17 @@ class View {
         this.zoom = this.chosen || this.fitting;
         this.canvas.style.width = `${this.size.width * this.zoom}px`;
         this.canvas.style.height = `${this.size.height * this.zoom}px`;
+        this.align();
         this.markPixel(this.marked);
         this.stage.dispatchEvent(new CustomEvent("zoom"));
+    }
+
+    /** Puts the canvas on whole pixels of the window, so that all squares are alike. */
+    align() {
+        this.canvas.style.translate = "none";
+        const { left, top } = this.canvas.getBoundingClientRect();
+        this.shift = { x: Math.round(left) - left, y: Math.round(top) - top };
+        this.canvas.style.translate = `${this.shift.x}px ${this.shift.y}px`;
     }
 
     /** The pixel under the pointer. */
@@ -89,8 +104,8 @@ class View {
         const side = Math.max(this.zoom, 5);
         const offset = (side - this.zoom) / 2;
         Object.assign(this.frame.style, {
-            left: `${this.canvas.offsetLeft + pixel.x * this.zoom - offset}px`,
-            top: `${this.canvas.offsetTop + pixel.y * this.zoom - offset}px`,
+            left: `${this.canvas.offsetLeft + this.shift.x + pixel.x * this.zoom - offset}px`,
+            top: `${this.canvas.offsetTop + this.shift.y + pixel.y * this.zoom - offset}px`,
             width: `${side}px`,
             height: `${side}px`,
         });
