@@ -3,19 +3,21 @@
 
     tools/make_page.py [--module FILE.wasm] [-o PAGE.html]
 
-It wants the WebAssembly module, which `tools/make_library.sh` builds where the toolchain is, and Python alone. The page opens from a file, and
-from any host that serves files.
+The WebAssembly module is built by tools/build_module.py where it isn't there yet; that wants the toolchain, and all else Python alone. The
+page opens from a file, and from any host that serves files.
 """
 
 import argparse
 import pathlib
+import subprocess
 import sys
 
 import package_path
 from yuzuratchet import page
 
 TOP = package_path.TOP
-MODULE = TOP / "crates" / "webmodule" / "out" / "webmodule.wasm"
+MODULE = TOP / "web" / "out" / "yuzuratchet.wasm"
+BUILD_MODULE = pathlib.Path(__file__).resolve().parent / "build_module.py"
 GALLERY = TOP / "crates" / "gallery" / "data"
 EXAMPLES = TOP / "python" / "examples"
 OPENING = "shadow-volumes"
@@ -51,12 +53,24 @@ def built(module):
     return page.build_page(TOP / "web", module, menu(), OPENING)
 
 
+def build_module():
+    """Builds the module at its place, where it isn't there."""
+    if MODULE.is_file():
+        return
+    MODULE.parent.mkdir(parents=True, exist_ok=True)
+    print(f"{BUILD_MODULE.name} builds {MODULE.relative_to(TOP)}", flush=True)
+    if subprocess.run([sys.executable, BUILD_MODULE, MODULE], check=False).returncode:
+        sys.exit("make_page.py: there is no module, and so no page; --module names one that is built elsewhere")
+
+
 def main():
     parser = argparse.ArgumentParser(description=__doc__, formatter_class=argparse.RawDescriptionHelpFormatter)
     parser.add_argument("--module", metavar="FILE.wasm", type=pathlib.Path, default=MODULE, help=f"({MODULE.relative_to(TOP)})")
     parser.add_argument("-o", metavar="PAGE.html", dest="page", type=pathlib.Path, default=TOP / page.BUILT, help=f"({page.BUILT})")
     given = parser.parse_args()
     try:
+        if given.module == MODULE:
+            build_module()
         module = given.module.read_bytes()
         if not module.startswith(MAGIC):
             sys.exit(f"make_page.py: {given.module} is no WebAssembly module")

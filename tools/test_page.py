@@ -24,6 +24,7 @@ import time
 
 import make_page
 import package_path
+import plain_device
 from browser import Browser, BrowserError, find_browser
 from yuzuratchet.page import with_script
 
@@ -39,6 +40,8 @@ ASKED_BY_LINES = [
     "rows/around-a-list.txt", "rows/back-face.txt", "rows/biased-depths.txt", "scene-0.txt", "scene-4.txt",
 ]
 KEYSTROKE_MOST = 50
+# scripts whose lines are all played one after the other
+SLID = 40
 SIZE = 512
 
 
@@ -82,6 +85,25 @@ def split(stored):
     """Answer lines and digest of what is stored of a script."""
     answers, _, digest = stored.rstrip("\n").rpartition("image ")
     return answers, digest
+
+
+def cut(script, line):
+    """The lines of a script up to one, with those that end the queries that are open there."""
+    open_queries = {}
+    for text in script[:line]:
+        words = text.split()
+        if words[:2] == ["i", "begin"]:
+            open_queries[words[2]] = f"i end {words[2]}\n"
+        elif words[:2] == ["i", "end"]:
+            del open_queries[words[2]]
+    return [*script[:line], *open_queries.values()]
+
+
+def opaque(image):
+    """The digest of an image's pixels as a canvas has them: red first, and opaque."""
+    pixels = bytearray(image[18:])
+    pixels[0::4], pixels[2::4], pixels[3::4] = pixels[2::4], pixels[0::4], b"\xff" * (len(pixels) // 4)
+    return hashlib.sha256(pixels).hexdigest()
 
 
 def check(is_so, text):
@@ -221,23 +243,28 @@ class PageTests:
         check("refusal 11" in self.text("#verdict .where"), self.text("#verdict"))
 
     def slider(self):
-        """The script played up to each line has the image of the script that is cut there."""
-        cut = {}
-        for name in expected():
-            before, is_cut, line = name.removesuffix(".txt").partition("-cut-behind-")
-            if is_cut:
-                cut.setdefault(before, []).append((int(line), name))
-        for before, lines in cut.items():
-            self.open(before)
-            text = json.dumps((DATA / f"{before}.txt").read_text(encoding="ascii"))
-            for line, name in lines:
+        """The script played up to each line shows what the plain evaluation gives for these lines."""
+        lines = 0
+        names = [it for it in expected() if it.startswith("rows/") and "-cut-behind-" not in it][:SLID]
+        self.open()
+        for name in names:
+            script = (DATA / name).read_text(encoding="ascii").splitlines(keepends=True)
+            self.act("text", "input", "".join(script))
+            for line in range(1, len(script) + 1):
                 self.act("slider", "input", str(line))
-                count = self.browser.value("page.editor.count")
-                check(self.text("#position") == f"line {line} of {count}", self.text("#position"))
-                wanted = split(expected()[name])
-                drawn = self.browser.value(f"{DRAWN}({text}, {line})")
-                check("refused" in wanted[0] or drawn[:2] == list(wanted), f"{name}: {drawn}, and not {wanted}")
-        return f"{sum(map(len, cut.values()))} lines of {len(cut)} scripts"
+                check(self.text("#position") == f"line {line} of {len(script)}", self.text("#position"))
+                answers, image = plain_device.evaluate("".join(cut(script, line)).encode("ascii"))
+                shown = self.browser.value("Array.from(document.querySelectorAll('#answers td:last-child'), (it) => it.textContent)")
+                check(shown == answers.splitlines(), f"{name}, line {line}: {shown}, and not {answers}")
+                check(self.canvas() == opaque(image), f"{name}, line {line}: another image is shown")
+                lines += 1
+        return f"{lines} lines of {len(names)} scripts"
+
+    def canvas(self):
+        """The digest of the pixels that are shown."""
+        pixels = "page.view.context.getImageData(0, 0, page.view.size.width, page.view.size.height).data"
+        hexed = "(it) => Array.from(new Uint8Array(it), (byte) => byte.toString(16).padStart(2, '0')).join('')"
+        return self.browser.value(f"crypto.subtle.digest('SHA-256', {pixels}).then({hexed})")
 
     def pointer(self):
         """The pixel under the pointer, and the lines that changed it, as the package explains them."""
@@ -359,7 +386,7 @@ class QuietHandler(http.server.SimpleHTTPRequestHandler):
 
 def take_picture(tests, path):
     """The picture of the page, for the README."""
-    tests.browser.resize(1240, 780)
+    tests.browser.resize(1240, 820)
     tests.open()
     tests.browser.press(*tests.place(88, 113))
     tests.browser.wait("document.documentElement.dataset.changes === '88 113'")
@@ -394,7 +421,7 @@ def main():
     given = parser.parse_args()
     results = Results()
     if not given.module.is_file():
-        results.skip("all", f"there is no {given.module}; tools/make_library.sh builds it where the toolchain is")
+        results.skip("all", f"there is no {given.module}; tools/make_page.py builds it where the toolchain is")
         return 0
     words, why = node_words(given.node)
     for name, run in (("gallery", node_gallery), ("history", node_history)):

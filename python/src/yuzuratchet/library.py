@@ -14,11 +14,13 @@ from typing import Final
 
 from .errors import LibraryMissing, ProgramFailed
 from .limits import TARGET_SIDE
-from .program import Ran, repository
+from .program import Ran
 
 NAME: Final = "yuzuratchet"
 VARIABLE: Final = "YUZURATCHET_LIBRARY"
-BUILT: Final = Path("crates", NAME, "out", f"lib{NAME}.so")
+FOLDERS: Final = (Path.home() / ".local" / "lib", Path("/usr/local/lib"))
+"""Where it is looked for before the system's loader is asked."""
+
 OLDEST: Final = 200
 
 DONE, REFUSED, LINES_TOO_SMALL, IMAGE_TOO_SMALL, NO_MEMORY = range(5)
@@ -35,9 +37,9 @@ HEADER_SIZE: Final = 18
 LINE_SIZE: Final = 64
 
 HOW_TO_BUILD: Final = f"""\
-The library is built in a clone of the repository, where the toolchain is:
-    tools/make_library.sh
-It is then {BUILT}; name another by library, or in the environment by {VARIABLE}."""
+The library is built in a clone of the repository, where the toolchain is, and installed into a folder:
+    tools/install_library.py ~/.local
+It is then ~/.local/lib/lib{NAME}.so; name one elsewhere by library, or in the environment by {VARIABLE}."""
 
 
 class Report(ctypes.Structure):
@@ -53,8 +55,8 @@ class Report(ctypes.Structure):
 
 
 def find_library(library: str | Path | None = None) -> Path | str:
-    """The library: the one that is named here, or else by the environment, or else the one that was
-    built in this clone of the repository, or else the one that the system's loader finds.
+    """The library: the one that is named here, or else by the environment, or else the one that is
+    installed for this user, or for all.
 
     Raises :class:`~yuzuratchet.errors.LibraryMissing`, whose text says how to build it.
     """
@@ -66,9 +68,6 @@ def find_library(library: str | Path | None = None) -> Path | str:
             if Path(named).is_file():
                 return Path(named).resolve()
             raise LibraryMissing(f"there is no library {named} ({by}).\n{HOW_TO_BUILD}")
-    top = repository()
-    if top and (top / BUILT).is_file():
-        return top / BUILT
     found = _installed()
     if found:
         return found
@@ -76,9 +75,10 @@ def find_library(library: str | Path | None = None) -> Path | str:
 
 
 @lru_cache(maxsize=1)
-def _installed() -> str | None:
-    # (once a process, since the loader's list is asked for by other programs)
-    return ctypes.util.find_library(NAME)
+def _installed() -> Path | str | None:
+    # (once a process, since other programs are started to ask for the loader's list)
+    places = (folder / f"lib{NAME}.so" for folder in FOLDERS)
+    return next((it for it in places if it.is_file()), None) or ctypes.util.find_library(NAME)
 
 
 @lru_cache(maxsize=8)
