@@ -172,7 +172,7 @@ class Page {
         const place = refused.line > this.whole ? "Behind the last line" : `Line ${refused.line}`;
         part("verdict").replaceChildren(
             element("p", {}, element("span", { className: "where" }, `${place}: ${kind} ${refused.number}. `), ...withCode(when)),
-            element("p", { className: "advice" }, ...withCode(advice)));
+            element("p", { className: "advice" }, "What to do (docs/SCRIPT.md): ", ...withCode(advice)));
     }
 
     /** Goes to a line: the script is played up to it, and it is brought into view. */
