@@ -3,12 +3,13 @@
 
     tools/make_page.py [--module FILE.wasm] [-o PAGE.html]
 
-The WebAssembly module is built by tools/build_module.py where it isn't there yet; that wants the toolchain, and all else Python alone. The
-page opens from a file, and from any host that serves files.
+The WebAssembly module is built by tools/build_module.py where the toolchain is: some seconds behind a gate run, and as long as that on a fresh
+clone. Elsewhere the module that was built last, or FILE, is taken, and Python alone is wanted. The page opens from a file, and from any host that serves files.
 """
 
 import argparse
 import pathlib
+import shutil
 import subprocess
 import sys
 
@@ -53,27 +54,30 @@ def built(module):
     return page.build_page(TOP / "web", module, menu(), OPENING)
 
 
-def build_module():
-    """Builds the module at its place, where it isn't there."""
+def find_module():
+    """The module at its place: built anew where the toolchain is, else the one that is there; or None, and why."""
+    if shutil.which("rt") and BUILD_MODULE.is_file():
+        MODULE.parent.mkdir(parents=True, exist_ok=True)
+        print(f"{BUILD_MODULE.name} builds {MODULE.relative_to(TOP)}", flush=True)
+        if subprocess.run([sys.executable, BUILD_MODULE, MODULE], check=False).returncode:
+            return None, f"{BUILD_MODULE.name} failed"
     if MODULE.is_file():
-        return
-    MODULE.parent.mkdir(parents=True, exist_ok=True)
-    print(f"{BUILD_MODULE.name} builds {MODULE.relative_to(TOP)}", flush=True)
-    if subprocess.run([sys.executable, BUILD_MODULE, MODULE], check=False).returncode:
-        sys.exit("make_page.py: there is no module, and so no page; --module names one that is built elsewhere")
+        return MODULE, ""
+    return None, f"{MODULE.relative_to(TOP)} isn't built, and the command rt, which comes with the toolchain, is missing"
 
 
 def main():
     parser = argparse.ArgumentParser(description=__doc__, formatter_class=argparse.RawDescriptionHelpFormatter)
-    parser.add_argument("--module", metavar="FILE.wasm", type=pathlib.Path, default=MODULE, help=f"({MODULE.relative_to(TOP)})")
+    parser.add_argument("--module", metavar="FILE.wasm", type=pathlib.Path, help="the module (built where the toolchain is)")
     parser.add_argument("-o", metavar="PAGE.html", dest="page", type=pathlib.Path, default=TOP / page.BUILT, help=f"({page.BUILT})")
     given = parser.parse_args()
+    path, why = (given.module, "") if given.module else find_module()
+    if path is None:
+        sys.exit(f"make_page.py: there is no module, and so no page: {why}")
     try:
-        if given.module == MODULE:
-            build_module()
-        module = given.module.read_bytes()
+        module = path.read_bytes()
         if not module.startswith(MAGIC):
-            sys.exit(f"make_page.py: {given.module} is no WebAssembly module")
+            sys.exit(f"make_page.py: {path} is no WebAssembly module")
         given.page.parent.mkdir(parents=True, exist_ok=True)
         size = given.page.write_text(built(module), encoding="utf-8")
     except OSError as error:

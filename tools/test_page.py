@@ -413,24 +413,24 @@ def test_in_browser(results, program, module, picture):
 
 def main():
     parser = argparse.ArgumentParser(description=__doc__, formatter_class=argparse.RawDescriptionHelpFormatter)
-    default = make_page.MODULE
-    parser.add_argument("--module", metavar="FILE.wasm", type=pathlib.Path, default=default, help=f"({default.relative_to(TOP)})")
+    parser.add_argument("--module", metavar="FILE.wasm", type=pathlib.Path, help="the module (built where the toolchain is)")
     parser.add_argument("--node", metavar="FILE", default=shutil.which("node"), help="(that of the path)")
     parser.add_argument("--browser", metavar="FILE", default=find_browser(), help="Chromium or Chrome (that of the path)")
     parser.add_argument("--picture", metavar="FILE.png", type=pathlib.Path, help="writes a picture of the page too")
     given = parser.parse_args()
     results = Results()
-    if not given.module.is_file():
-        results.skip("all", f"there is no {given.module}; tools/make_page.py builds it where the toolchain is")
-        return 0
+    module, why = (given.module, "it isn't there") if given.module else make_page.find_module()
+    if module is None or not module.is_file():
+        results.skip("all", why)
+        return 1 if given.module else 0
     words, why = node_words(given.node)
     for name, run in (("gallery", node_gallery), ("history", node_history)):
         if words:
-            results.test(f"node {name}", lambda run=run: run(words, given.module))
+            results.test(f"node {name}", lambda run=run: run(words, module))
         else:
             results.skip(f"node {name}", why)
     if given.browser:
-        results.test("browser starts", lambda: test_in_browser(results, given.browser, given.module, given.picture))
+        results.test("browser starts", lambda: test_in_browser(results, given.browser, module, given.picture))
     else:
         results.skip("browser", "there is no Chromium or Chrome on the path (Debian: apt-get install chromium)")
     print(f"{results.passed} passed, {results.failed} failed, {results.skipped} skipped")
