@@ -23,6 +23,7 @@ GALLERY = TOP / "crates" / "gallery" / "data"
 EXAMPLES = TOP / "python" / "examples"
 OPENING = "shadow-volumes"
 MAGIC = b"\0asm"
+FAILED = f"{BUILD_MODULE.name} failed"
 
 
 def group_of(name):
@@ -60,7 +61,7 @@ def find_module():
         MODULE.parent.mkdir(parents=True, exist_ok=True)
         print(f"{BUILD_MODULE.name} builds {MODULE.relative_to(TOP)}", flush=True)
         if subprocess.run([sys.executable, BUILD_MODULE, MODULE], check=False).returncode:
-            return None, f"{BUILD_MODULE.name} failed"
+            return None, FAILED
     if MODULE.is_file():
         return MODULE, ""
     return None, f"{MODULE.relative_to(TOP)} isn't built, and the command rt, which comes with the toolchain, is missing"

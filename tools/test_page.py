@@ -241,6 +241,9 @@ class PageTests:
         check(self.browser.value("document.getElementById('menu').value") == "first_triangle, edited", "the edited script isn't in the menu")
         self.act("menu", "change", "refused/begin-64")
         check("refusal 11" in self.text("#verdict .where"), self.text("#verdict"))
+        for text, where in (("", "Line 1: fault 102. "), ("target 1 1\ni begin 0", "Behind the last line: refusal 9. ")):
+            self.act("text", "input", text)
+            check(self.text("#verdict .where") == where, self.text("#verdict"))
 
     def slider(self):
         """The script played up to each line shows what the plain evaluation gives for these lines."""
@@ -422,7 +425,7 @@ def main():
     module, why = (given.module, "it isn't there") if given.module else make_page.find_module()
     if module is None or not module.is_file():
         results.skip("all", why)
-        return 1 if given.module else 0
+        return 1 if given.module or why == make_page.FAILED else 0
     words, why = node_words(given.node)
     for name, run in (("gallery", node_gallery), ("history", node_history)):
         if words:

@@ -110,7 +110,9 @@ class Page {
     textChanged() {
         this.whole = this.editor.count;
         this.fault = null;
-        this.jobs.setText(new TextEncoder().encode(this.editor.text));
+        this.isJudged = false;
+        const text = this.editor.text;
+        this.jobs.setText(new TextEncoder().encode(text && !text.endsWith("\n") ? `${text}\n` : text));
     }
 
     // ---- playing
@@ -126,7 +128,7 @@ class Page {
         document.documentElement.dataset.state = "playing";
         this.jobs.ask("play", { last: this.last, what: part("what").value })
             .then((told) => this.played(told), (error) => this.failed(error));
-        if (this.last < this.whole && !this.fault) {
+        if (this.last < this.whole && !this.isJudged) {
             this.jobs.ask("check", {}).then(({ refused }) => this.showVerdict(refused), (error) => this.failed(error));
         }
     }
@@ -136,7 +138,7 @@ class Page {
         this.shown = told.pixels ? told.shown : 0;
         if (told.pixels) this.view.show(told);
         else this.view.clear();
-        if (told.refused || this.last === this.whole) this.showVerdict(told.refused);
+        if (told.refused || this.last >= this.whole) this.showVerdict(told.refused);
         const partly = told.refused && told.pixels ? `, lines 1 to ${told.shown}` : "";
         part("size").textContent = told.pixels ? `${told.width} \u00d7 ${told.height}${partly}` : "no image";
         part("size").title = `drawn in ${told.milliseconds.toFixed(1)} ms`;
@@ -162,6 +164,7 @@ class Page {
     /** Says whether the whole script is taken, and marks the line that isn't. */
     showVerdict(refused) {
         this.fault = refused;
+        this.isJudged = true;
         this.editor.mark({ fault: this.faultLine });
         part("verdict").className = refused ? "verdict bad" : "verdict";
         if (!refused) {
