@@ -9,7 +9,7 @@ import pytest
 
 from yuzuratchet.difference import MARK, compare, marked
 from yuzuratchet.errors import ImageError
-from yuzuratchet.images import decode, encode, load, opaque, save, scaled
+from yuzuratchet.images import Picture, decode, encode, load, opaque, save, scaled
 
 # two pixels, blue first, as the image's format says
 TGA = bytes.fromhex("000002000000000000000000020001002028" + "0302010407060508")
@@ -80,3 +80,14 @@ def test_difference() -> None:
 def test_other_sizes() -> None:
     with pytest.raises(ImageError, match="2 by 1 and 1 by 2 pixels"):
         compare(np.zeros((1, 2, 4), np.uint8), np.zeros((2, 1, 4), np.uint8))
+
+
+def test_an_image_shows_itself_in_a_notebook() -> None:
+    pixels = decode(TGA)
+    assert isinstance(pixels, Picture) and isinstance(pixels[:, :1], Picture)
+    shown = decode(pixels._repr_png_() or b"")
+    # opaque, and in squares that can be seen
+    assert shown.shape == (128, 256, 4)
+    assert shown[0, 0].tolist() == [1, 2, 3, 255] and shown[0, 255].tolist() == [5, 6, 7, 255]
+    for other in (pixels[..., 0], pixels == pixels, pixels.astype(np.uint32), pixels[:0]):
+        assert other._repr_png_() is None

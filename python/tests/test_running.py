@@ -66,6 +66,15 @@ def test_a_refusal_is_raised_or_given(program: Path) -> None:
         result.image  # noqa: B018
 
 
+def test_a_result_shows_its_image_in_a_notebook(program: Path) -> None:
+    from yuzuratchet.images import decode
+
+    shown = run("target 2 1\ni clearc 1 2 3 4\n", program=program)._repr_png_()
+    assert shown and decode(shown)[0, 0].tolist() == [1, 2, 3, 255]
+    refused = run("target 1 1\ni draw 3 0\n", program=program, check=False)
+    assert refused._repr_png_() is None
+
+
 def test_save(program: Path, tmp_path: Path) -> None:
     from yuzuratchet.images import load
 

@@ -21,7 +21,7 @@ TOOLS = sorted(
     for path in (TOP / folder).glob("*.py")
     if os.access(path, os.X_OK)
 )
-MODULES = {"package_path", "random_scenes", "mutated_scripts"}
+MODULES = {"browser", "package_path", "random_scenes", "mutated_scripts"}
 
 
 def run_tool(name: str, *words: str, **environment: str) -> subprocess.CompletedProcess[str]:
@@ -72,6 +72,10 @@ def test_each_file_is_a_tool_or_a_module() -> None:
         ("tools/first_picture.py", "/no/such/script"),
         ("tools/draw_pictures.py", "--program", "/no/such/program"),
         ("tools/draw_pictures.py", "nothing"),
+        ("tools/make_page.py", "--module", "/no/such/module"),
+        ("tools/make_page.py", "--module", "/dev/null"),
+        ("tools/make_page.py", "-o", "/no/such/folder/page.html", "--module", "README.md"),
+        ("tools/test_page.py", "--no-such-option"),
         ("bench/scenes.py", "nothing"),
         ("bench/scenes.py", "clear", "0"),
         ("bench/run.py", "nothing"),

@@ -14,6 +14,8 @@ from .errors import (
     ArgumentError,
     CallRefused,
     ImageError,
+    LibraryMissing,
+    PageMissing,
     ProgramFailed,
     ProgramMissing,
     ScriptFault,
@@ -37,7 +39,7 @@ from .states import (
     StencilOp,
 )
 
-__version__ = "0.2.0"
+__version__ = "0.3.0"
 
 __all__ = [
     "ArgumentError",
@@ -51,8 +53,10 @@ __all__ = [
     "DepthStencilState",
     "ImageError",
     "ImmediateContext",
+    "LibraryMissing",
     "Line",
     "LogicOp",
+    "PageMissing",
     "PixelAnswer",
     "PrimitiveTopology",
     "ProgramFailed",

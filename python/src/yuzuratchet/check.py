@@ -11,9 +11,9 @@ import textwrap
 from dataclasses import dataclass
 from pathlib import Path
 
+from .backends import draw
 from .errors import CallRefused, ScriptFault
 from .messages import message_of
-from .program import run_program
 from .reader import lines_of, parse
 from .session import Session
 
@@ -47,12 +47,12 @@ class Finding:
 def check_script(
     text: bytes, *, program: str | Path | None = None, workers: int | None = None
 ) -> Finding | None:
-    """What the program finds in a script, or None where it draws it.
+    """What the device finds in a script, or None where it draws it.
 
     Raises :class:`~yuzuratchet.errors.ProgramMissing` and
     :class:`~yuzuratchet.errors.ProgramFailed`.
     """
-    refused = run_program(text, program=program, workers=workers).refused
+    refused = draw(text, program=program, workers=workers).refused
     return located(text, *refused) if refused else None
 
 

@@ -74,6 +74,14 @@ class ProgramMissing(YuzuratchetError):
     """The program ``tiledraw`` isn't built, or isn't where it was said to be."""
 
 
+class LibraryMissing(YuzuratchetError):
+    """The library isn't built, isn't where it was said to be, or is another."""
+
+
+class PageMissing(YuzuratchetError):
+    """The page isn't built, or isn't where it was said to be."""
+
+
 class ProgramFailed(YuzuratchetError):
     """The program ended as it never should: by a signal, with another status, or too late."""
 

@@ -9,6 +9,7 @@ from __future__ import annotations
 
 import io
 from pathlib import Path
+from typing import Any, Final
 
 import numpy as np
 import numpy.typing as npt
@@ -17,6 +18,18 @@ from PIL import Image, UnidentifiedImageError
 from .errors import ImageError
 
 Pixels = npt.NDArray[np.uint8]
+
+NOTEBOOK_SIDE: Final = 256
+"""How long the longer side of an image is at least where a notebook shows it, in whole squares."""
+
+
+class Picture(np.ndarray[Any, np.dtype[np.uint8]]):
+    """An image as an array like any other, which a notebook shows as a picture."""
+
+    def _repr_png_(self) -> bytes | None:
+        is_image = self.ndim == 3 and self.shape[2] == 4 and self.size and self.dtype == np.uint8
+        return notebook_png(self) if is_image else None
+
 
 EMPTY = (
     "it is empty, as the program leaves it where a line of the script is refused or has a fault; "
@@ -33,7 +46,7 @@ def decode(data: bytes, name: str = "the image") -> Pixels:
         raise ImageError(f"{name}: {EMPTY}")
     try:
         with Image.open(io.BytesIO(data)) as image:
-            return np.asarray(image.convert("RGBA"))
+            return np.asarray(image.convert("RGBA")).view(Picture)
     except UnidentifiedImageError as error:
         raise ImageError(f"{name} is no image that can be read") from error
     except (OSError, SyntaxError, ValueError) as error:
@@ -50,6 +63,13 @@ def encode(pixels: Pixels) -> bytes:
     out = io.BytesIO()
     Image.fromarray(pixels).save(out, "PNG", optimize=True)
     return out.getvalue()
+
+
+def notebook_png(pixels: Pixels) -> bytes:
+    """A PNG of the pixels to be looked at: opaque, and of a small image in squares."""
+    shown = opaque(pixels)
+    scale = NOTEBOOK_SIDE // max(shown.shape[:2])
+    return encode(scaled(shown, scale) if scale > 1 else shown)
 
 
 def opaque(pixels: Pixels) -> Pixels:

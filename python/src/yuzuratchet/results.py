@@ -8,9 +8,10 @@ from functools import cached_property
 from pathlib import Path
 from typing import TYPE_CHECKING, Any, Union
 
+from .backends import Backend, draw
 from .errors import ImageError, ProgramFailed, ScriptRefused
 from .messages import message_of
-from .program import Ran, run_program
+from .program import Ran
 from .scene import Scene
 
 if TYPE_CHECKING:  # (numpy is asked for by whoever looks at an array)
@@ -105,6 +106,12 @@ class Result:
 
         save(self.image, path, keep_alpha=keep_alpha, scale=scale)
 
+    def _repr_png_(self) -> bytes | None:
+        """The image as notebooks show it; None where a line was refused."""
+        from .images import notebook_png
+
+        return None if self.refused else notebook_png(self.image)
+
 
 def script_bytes(scene: Scene | str | bytes) -> bytes:
     """The script of a scene, or the text of one."""
@@ -116,6 +123,8 @@ def script_bytes(scene: Scene | str | bytes) -> bytes:
 def run(
     scene: Scene | str | bytes,
     *,
+    backend: Backend | None = None,
+    library: str | Path | None = None,
     workers: int | None = None,
     program: str | Path | None = None,
     check: bool = True,
@@ -123,14 +132,23 @@ def run(
 ) -> Result:
     """Draws a scene, or the text of a script, and gives its answers and its image.
 
-    ``workers``, 0 to 15, is how many threads draw beside the program's own, and changes no byte.
-    ``program`` names the built program, which else is looked for (:mod:`yuzuratchet.program`).
-    ``seconds`` ends a run that takes longer. Raises :class:`~yuzuratchet.errors.ScriptRefused`
-    where a line was refused, unless ``check`` is False.
+    It is drawn by the library where there is one, in this process, and else by the program;
+    ``backend``, ``"library"`` or ``"program"``, says which it has to be, and changes no byte.
+    ``library`` and ``program`` name the built files, which else are looked for
+    (:mod:`yuzuratchet.library`, :mod:`yuzuratchet.program`). ``workers``, 0 to 15, is how many
+    threads draw beside the program's own, and changes no byte. ``seconds`` ends a run that takes
+    longer. Both ask for the program. Raises :class:`~yuzuratchet.errors.ScriptRefused` where a line
+    was refused, unless ``check`` is False.
     """
-    result = Result(
-        run_program(script_bytes(scene), workers=workers, program=program, seconds=seconds)
+    ran = draw(
+        script_bytes(scene),
+        backend=backend,
+        library=library,
+        workers=workers,
+        program=program,
+        seconds=seconds,
     )
+    result = Result(ran)
     refused, given = result.refused, len(result.answers)
     if isinstance(scene, Scene) and not refused and given != scene.questions:
         raise ProgramFailed(f"the program told {given} answers to {scene.questions} questions")
@@ -163,7 +181,7 @@ def depth_and_stencil(
 def _asked_rows(scene: Scene, rows: range, **how: Any) -> str:
     """The answer lines for each pixel of some rows, behind those of the scene."""
     asked = [f"i pixel {x} {y}\n" for y in rows for x in range(scene.width)]
-    ran = run_program(script_bytes(scene) + "".join(asked).encode("ascii"), **how)
+    ran = draw(script_bytes(scene) + "".join(asked).encode("ascii"), **how)
     if ran.refused:
         line, number = ran.refused
         # (what the end of the scene is refused for is told at the first question)

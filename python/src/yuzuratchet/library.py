@@ -1,0 +1,143 @@
+"""Finds the library ``libyuzuratchet.so``, and draws scripts with it, in this process.
+
+The calls are those of yuzuratchet.h. A call starts no thread, and lets other threads of Python run.
+"""
+
+from __future__ import annotations
+
+import ctypes
+import ctypes.util
+import os
+from functools import lru_cache
+from pathlib import Path
+from typing import Final
+
+from .errors import LibraryMissing, ProgramFailed
+from .limits import TARGET_SIDE
+from .program import Ran
+
+NAME: Final = "yuzuratchet"
+VARIABLE: Final = "YUZURATCHET_LIBRARY"
+FOLDERS: Final = (Path.home() / ".local" / "lib", Path("/usr/local/lib"))
+"""Where it is looked for before the system's loader is asked."""
+
+OLDEST: Final = 200
+
+DONE, REFUSED, LINES_TOO_SMALL, IMAGE_TOO_SMALL, NO_MEMORY = range(5)
+STATUSES: Final = {
+    NO_MEMORY: "memory for the answer lines or the image was refused",
+    5: "a pointer is null",
+    6: "an area is empty",
+    7: "an area is too large",
+    8: "two areas overlap",
+}
+
+HEADER_SIZE: Final = 18
+# the longest answer line, `pixel` with its numbers, has 46 bytes
+LINE_SIZE: Final = 64
+
+HOW_TO_BUILD: Final = f"""\
+The library is built in a clone of the repository, where the toolchain is, and installed into a folder:
+    tools/install_library.py ~/.local
+It is then ~/.local/lib/lib{NAME}.so; name one elsewhere by library, or in the environment by {VARIABLE}."""
+
+
+class Report(ctypes.Structure):
+    """What a call tells: ``struct yuzuratchet_report``."""
+
+    _fields_ = (
+        ("lines_size", ctypes.c_uint64),
+        ("image_size", ctypes.c_uint64),
+        ("refused_line", ctypes.c_uint64),
+        ("refusal", ctypes.c_uint32),
+        ("status", ctypes.c_uint32),
+    )
+
+
+def find_library(library: str | Path | None = None) -> Path | str:
+    """The library: the one that is named here, or else by the environment, or else the one that is
+    installed for this user, or for all.
+
+    Raises :class:`~yuzuratchet.errors.LibraryMissing`, whose text says how to build it.
+    """
+    for named, by in (
+        (library, "it was named"),
+        (os.environ.get(VARIABLE), f"{VARIABLE} names it"),
+    ):
+        if named:
+            if Path(named).is_file():
+                return Path(named).resolve()
+            raise LibraryMissing(f"there is no library {named} ({by}).\n{HOW_TO_BUILD}")
+    found = _installed()
+    if found:
+        return found
+    raise LibraryMissing(f"no built library {NAME} is found.\n{HOW_TO_BUILD}")
+
+
+@lru_cache(maxsize=1)
+def _installed() -> Path | str | None:
+    # (once a process, since other programs are started to ask for the loader's list)
+    places = (folder / f"lib{NAME}.so" for folder in FOLDERS)
+    return next((it for it in places if it.is_file()), None) or ctypes.util.find_library(NAME)
+
+
+@lru_cache(maxsize=8)
+def load_library(path: Path | str) -> ctypes.CDLL:
+    """The library at a path, with its calls declared.
+
+    Raises :class:`~yuzuratchet.errors.LibraryMissing` where it can't be loaded, or is another.
+    """
+    try:
+        loaded = ctypes.CDLL(str(path))
+        version = loaded.yuzuratchet_version
+        draw = loaded.yuzuratchet_draw
+    except (OSError, AttributeError) as error:
+        raise LibraryMissing(
+            f"{path} is no library of this device: {error}\n{HOW_TO_BUILD}"
+        ) from error
+    version.restype, version.argtypes = ctypes.c_uint32, []
+    if version() < OLDEST:
+        raise LibraryMissing(
+            f"{path} has version {version()}, and {OLDEST} is the oldest that is known"
+        )
+    area = [ctypes.c_void_p, ctypes.c_size_t]
+    draw.restype, draw.argtypes = ctypes.c_uint32, [*area, *area, *area, ctypes.POINTER(Report)]
+    return loaded
+
+
+def run_library(script: bytes, *, library: str | Path | None = None) -> Ran:
+    """Draws the bytes of a script with the library.
+
+    It gives what :func:`yuzuratchet.program.run_program` gives. Raises
+    :class:`~yuzuratchet.errors.LibraryMissing` and :class:`~yuzuratchet.errors.ProgramFailed`.
+    """
+    loaded = load_library(find_library(library))
+    if not script:  # (the library takes no empty area; an empty script has this fault)
+        return Ran(REFUSED, "refused 1 102\n", b"")
+    lines_size, image_size = LINE_SIZE * (script.count(b"\n") + 2), _image_size(script)
+    while True:
+        lines, image = ctypes.create_string_buffer(lines_size), ctypes.create_string_buffer(
+            image_size
+        )
+        report = Report()
+        status = loaded.yuzuratchet_draw(
+            script, len(script), lines, lines_size, image, image_size, ctypes.byref(report)
+        )
+        if status in (DONE, REFUSED):
+            answers = ctypes.string_at(lines, report.lines_size).decode("ascii")
+            return Ran(status, answers, ctypes.string_at(image, report.image_size))
+        if status not in (LINES_TOO_SMALL, IMAGE_TOO_SMALL):
+            raise ProgramFailed(
+                f"the library draws nothing: {STATUSES.get(status, f'status {status}')}"
+            )
+        lines_size = max(lines_size, report.lines_size)
+        image_size = max(image_size, report.image_size)
+
+
+def _image_size(script: bytes) -> int:
+    """The size of the image by the first line; where that says nothing, the report will."""
+    words = script[:64].split(b"\n", 1)[0].split(b" ")
+    sides = [int(it) if it.isdigit() and len(it) <= 4 else 0 for it in words[1:]]
+    if words[0] != b"target" or len(sides) != 2 or max(sides) > TARGET_SIDE:
+        return HEADER_SIZE
+    return HEADER_SIZE + 4 * sides[0] * sides[1]

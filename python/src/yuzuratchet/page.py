@@ -1,0 +1,133 @@
+"""The page that draws in a browser: built of its sources and the WebAssembly module, and given a script.
+
+The built page is one file. :func:`build_page` writes it, as tools/make_page.py and the tests call it;
+:func:`with_script` puts a script into a built page, as ``yuzuratchet view`` does.
+"""
+
+from __future__ import annotations
+
+import base64
+import gzip
+import html
+import json
+import os
+import re
+from dataclasses import asdict, dataclass
+from pathlib import Path
+from typing import Final
+
+from .errors import PageMissing
+from .messages import FAULTS, REFUSALS
+from .program import repository
+from .words import TARGET, WORDS, Word
+
+VARIABLE: Final = "YUZURATCHET_PAGE"
+BUILT: Final = Path("web", "out", "index.html")
+
+FOR_THE_WORKER: Final = ("script", "targa", "planes", "device", "worker")
+"""Sources that run in the page's worker: the page has them as text."""
+
+FOR_THE_PAGE: Final = ("tables", "jobs", "editor", "view", "page")
+"""Sources that run in the page, in this order."""
+
+HOW_TO_BUILD: Final = f"""\
+The page is built in a clone of the repository, of its sources and the WebAssembly module:
+    tools/make_page.py
+It is then {BUILT}; name another by --page, or in the environment by {VARIABLE}."""
+
+
+@dataclass(frozen=True)
+class Entry:
+    """A script of the page's menu: under which heading it stands, its name and its text."""
+
+    group: str
+    name: str
+    text: str
+
+
+def find_page(page: str | Path | None = None) -> Path:
+    """The built page: the one that is named here, or else by the environment, or else this clone's.
+
+    Raises :class:`~yuzuratchet.errors.PageMissing`, whose text says how to build it.
+    """
+    for named, by in (
+        (page, "it was named"),
+        (os.environ.get(VARIABLE), f"{VARIABLE} names it"),
+    ):
+        if named:
+            if Path(named).is_file():
+                return Path(named)
+            raise PageMissing(f"there is no page {named} ({by}).\n{HOW_TO_BUILD}")
+    top = repository()
+    if top and (top / BUILT).is_file():
+        return top / BUILT
+    raise PageMissing(f"no built page is found.\n{HOW_TO_BUILD}")
+
+
+def build_page(sources: Path, module: bytes, gallery: list[Entry], opening: str) -> str:
+    """The page of the sources in a folder, with the module, a menu of scripts, and the name of the one
+    that is shown first."""
+    page = (sources / "index.html").read_text(encoding="utf-8")
+    style = f"<style>\n{(sources / 'style.css').read_text(encoding='utf-8')}</style>"
+    menu = json.dumps([asdict(entry) for entry in gallery]).encode("ascii")
+    data = [
+        _json("tables", {"messages": message_table(), "words": word_table()}),
+        _json("opening", {"name": opening, "text": ""}),
+        _packed("gallery", menu),
+        _packed("module", module),
+    ]
+    code = [
+        _script(sources, name, f' type="text/plain" id="code-{name}"') for name in FOR_THE_WORKER
+    ]
+    code += [_script(sources, name, "") for name in FOR_THE_PAGE]
+    for mark, text in (
+        ("style.css", style),
+        ("data", "\n".join(data)),
+        ("scripts", "\n".join(code)),
+    ):
+        page = page.replace(f"<!-- {mark} -->", text)
+    return page
+
+
+def with_script(page: str, name: str, text: str) -> str:
+    """A built page that shows this script first, under its name.
+
+    Raises :class:`~yuzuratchet.errors.PageMissing` where the text is no built page.
+    """
+    opening = re.compile(r'<script type="application/json" id="opening">.*?</script>', re.S)
+    if len(opening.findall(page)) != 1:
+        raise PageMissing(f"this is no built page.\n{HOW_TO_BUILD}")
+    title = f"<title>{html.escape(name)} - Yuzuratchet</title>"
+    page = re.sub(r"<title>.*?</title>", lambda _: title, page, count=1)
+    return opening.sub(lambda _: _json("opening", {"name": name, "text": text}), page)
+
+
+def message_table() -> dict[str, dict[str, str]]:
+    """What the numbers of a refused line mean, for the page."""
+    return {str(number): asdict(message) for number, message in {**FAULTS, **REFUSALS}.items()}
+
+
+def word_table() -> dict[str, dict[str, object]]:
+    """The words of a script with their arguments, for the page."""
+    return {word.name: _word(word) for word in (TARGET, *WORDS.values())}
+
+
+def _word(word: Word) -> dict[str, object]:
+    arguments = [{"name": it.name, "range": it.range} for it in word.arguments]
+    return {"name": word.name, "arguments": arguments, "repeats": word.counts is None}
+
+
+def _json(name: str, value: object) -> str:
+    # (a text within a script element ends at `</script`, wherever that stands)
+    text = json.dumps(value).replace("<", "\\u003c")
+    return f'<script type="application/json" id="{name}">{text}</script>'
+
+
+def _packed(name: str, data: bytes) -> str:
+    text = base64.b64encode(gzip.compress(data, 9, mtime=0)).decode("ascii")
+    return f'<script type="text/plain" id="{name}">{text}</script>'
+
+
+def _script(sources: Path, name: str, attributes: str) -> str:
+    text = (sources / f"{name}.js").read_text(encoding="utf-8")
+    return f"<script{attributes}>\n{text}</script>"

@@ -1,0 +1,69 @@
+// Runs the page's device in node, as tools/test_page.py asks: what the worker runs, and no page.
+//
+//     node page_in_node.js MODULE.wasm WEB gallery FOLDER NAME ..     answers and digests, as crates/gallery/stdout has them
+//     node page_in_node.js MODULE.wasm WEB history FOLDER NAME ..     the lines that changed some pixels, asked in two ways
+
+"use strict";
+
+const fs = require("fs");
+const path = require("path");
+const vm = require("vm");
+const { createHash } = require("crypto");
+
+const [module_, web, task, folder, ...names] = process.argv.slice(2);
+for (const name of ["script", "targa", "planes", "device"]) {
+    const file = path.join(web, `${name}.js`);
+    vm.runInThisContext(fs.readFileSync(file, "utf8"), { filename: file });
+}
+const page = vm.runInThisContext("({ Script, Device, pixelHistory, pixelsBehind, planesBehind, decodeTarga, play })");
+
+function gallery(device, name, bytes) {
+    const { status, answers, image } = device.draw(bytes);
+    if ((status === 1) !== /(^|\n)refused /.test(answers)) throw new Error(`${name}: status ${status} beside ${answers}`);
+    console.log(`${name}\n${answers}image ${createHash("sha256").update(image).digest("hex")}`);
+}
+
+/** What each of some pixels holds behind each line: the script is played anew for each. */
+function heldBehind(draw, script, pixel) {
+    const area = { left: pixel.x, top: pixel.y, width: 1, height: 1 };
+    return Array.from({ length: script.count }, (_, at) => page.pixelsBehind(draw, script, at + 1, area)[0]);
+}
+
+function same(a, b) {
+    return JSON.stringify(a) === JSON.stringify(b);
+}
+
+/** Compares the lines that pixelHistory tells with those behind which the pixel holds something else than before. */
+function history(device, name, bytes) {
+    const draw = (text) => device.draw(text);
+    const script = new page.Script(bytes);
+    const played = page.play(draw, script, script.count);
+    if (played.refused) return;
+    const { width, height } = page.decodeTarga(played.image, false);
+    const planes = page.planesBehind(draw, script, script.count, { width, height }, () => {});
+    let changes = 0;
+    for (let at = 0; at < 12; at++) {
+        const pixel = { x: (at * 7919 + 3) % width, y: (at * 104729 + 5) % height };
+        const held = heldBehind(draw, script, pixel);
+        const told = page.pixelHistory(draw, script, script.count, pixel.x, pixel.y);
+        const plain = held.map((_, line) => line + 1).filter((line) => line > 1 && !same(held[line - 1], held[line - 2]));
+        const lines = [...new Set(told.map(({ line, by }) => by || line))];
+        const end = told.length ? told[told.length - 1].after : held[held.length - 1];
+        const isChain = told.every(({ before }, place) => place === 0 || same(before, told[place - 1].after));
+        const place = pixel.y * width + pixel.x;
+        if (!plain.every((line) => lines.includes(line)) || !same(end, held[held.length - 1]) || !isChain) {
+            throw new Error(`${name} (${pixel.x}, ${pixel.y}): ${JSON.stringify({ lines, plain, end, told })}`);
+        }
+        if (planes.depth[place] !== end.depth || planes.stencil[place] !== end.stencil) throw new Error(`${name}: planes differ`);
+        changes += told.length;
+    }
+    console.log(`${name} ${changes}`);
+}
+
+(async () => {
+    const device = await page.Device.of(fs.readFileSync(module_));
+    for (const name of names) ({ gallery, history })[task](device, name, new Uint8Array(fs.readFileSync(path.join(folder, name))));
+})().catch((error) => {
+    console.error(String(error.stack || error));
+    process.exitCode = 1;
+});
