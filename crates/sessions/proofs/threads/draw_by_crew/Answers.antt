@@ -7,7 +7,7 @@ use Rattle.sessions.specs.Owning.{HasPlayed, missing_in}
 use Rattle.sessions.specs.Writing.{stopped_output, Draws}
 use Rattle.sessions.proofs.Endings.{no_target}
 use Rattle.sessions.proofs.Drawing.{sized}
-use Rattle.sessions.proofs.threads.draw_in_threads.Goals as goal
+use Rattle.sessions.proofs.threads.draw_by_crew.Goals as goal
 
 pub returns-in-Err : goal.returns-in-Err
 returns-in-Err g c =
@@ -18,18 +18,18 @@ returns-in-Err g c =
 pub settle-deferred-requires-clause-back : goal.settle-deferred-requires-clause-back
 settle-deferred-requires-clause-back g c p low = let h = c.run_in_scope-round.ensures.handed p low in (h.queue_is, h.port_is)
 
-pub end_in_threads-requires-clause-sized : goal.end_in_threads-requires-clause-sized
-end_in_threads-requires-clause-sized g c κs within = sized c.args.scene.now.size c.in-Ok.ensures.answer
+pub end_by_crew-requires-clause-sized : goal.end_by_crew-requires-clause-sized
+end_by_crew-requires-clause-sized g c κs within = sized c.args.scene.now.size c.in-Ok.ensures.answer
 
-pub end_in_threads-requires-clause-recorded : goal.end_in_threads-requires-clause-recorded
-end_in_threads-requires-clause-recorded g c κs within =
+pub end_by_crew-requires-clause-recorded : goal.end_by_crew-requires-clause-recorded
+end_by_crew-requires-clause-recorded g c κs within =
     let ls = map line_value c.as_slice-lines.result.now in
     let round = c.run_in_scope-round in
     let missing = missing_in round.result.own.pause in
     subst (λ l. AreRecorded l c.settle-deferred.result missing) c.as_slice-lines.ensures (c.settle-deferred.ensures.stop ls missing round.ensures.handed round.ensures.missing)
 
-pub end_in_threads-requires-clause-played : goal.end_in_threads-requires-clause-played
-end_in_threads-requires-clause-played g c κs within =
+pub end_by_crew-requires-clause-played : goal.end_by_crew-requires-clause-played
+end_by_crew-requires-clause-played g c κs within =
     let ls = map line_value c.as_slice-lines.result.now in
     let handed = c.run_in_scope-round.ensures.handed in
     let own = c.run_in_scope-round.result.own in

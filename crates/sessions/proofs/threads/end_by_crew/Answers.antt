@@ -3,7 +3,7 @@ use Rattle.scenetext.specs.SeenScene.{scene_value}
 use Rattle.sessions.specs.Writing.{stopped_output, Draws}
 use Rattle.sessions.proofs.Ends.{no_stop}
 use Rattle.sessions.proofs.Drawing.{stopped_last, finished}
-use Rattle.sessions.proofs.threads.end_in_threads.Goals as goal
+use Rattle.sessions.proofs.threads.end_by_crew.Goals as goal
 
 pub end_at-requires-clause-stop : goal.end_at-requires-clause-stop
 end_at-requires-clause-stop g c = (c.args.deferred, c.requires.recorded, c.in-Some.ensures)
@@ -14,7 +14,7 @@ returns-in-Ok g c =
     let own = c.args.own in
     let text = own.answers.text.items in
     let all = no_stop scene c.requires.sized c.requires.scene.1 c.args.deferred own.pause own.immediate text own.answers.marks.items c.requires.recorded c.requires.played c.in_default.ensures in
-    finished scene c.requires.sized c.requires.scene.1 own.immediate text own.answers.marks.items all c.flush.new.context c.in-Ok.ensures.answer c.in-Ok.ensures.ok
+    finished scene c.requires.sized c.requires.scene.1 own.immediate text own.answers.marks.items all c.flush_by_crew.new.immediate c.in-Ok.ensures.answer c.in-Ok.ensures.ok
 
 pub returns-in-Err : goal.returns-in-Err
 returns-in-Err g c =

@@ -2,7 +2,7 @@ use Rattle.std.proofs.Common.{subst, sym, map}
 use Rattle.std.proofs.lemmas.List.{length-map}
 use Rattle.scenetext.specs.Seen.{line_value}
 use Rattle.sessions.specs.Owning.{OwnReached}
-use Rattle.sessions.proofs.crewed.play_with_workers.Goals as goal
+use Rattle.sessions.proofs.crewed.play_by_crew.Goals as goal
 
 pub returns-in-Ok-clause-played : goal.returns-in-Ok-clause-played
 returns-in-Ok-clause-played g c agrees =
