@@ -18,7 +18,7 @@ use crate::counts::some_begins;
 use crate::drawing::TileCrew;
 use crate::output::Output;
 use cmdlist::{Call, CommandList, DeferredContext, DeviceContext};
-use gfxspec::{GfxError, Pixel, QUERY_LIMIT, Size, WORKER_LIMIT};
+use gfxspec::{GfxError, Pixel, QUERY_LIMIT, WORKER_LIMIT};
 use port::{DrainPass, Ports, Submission};
 use std::alloc::Allocator;
 use std::marker::Model;
@@ -127,13 +127,6 @@ impl<A: Allocator + Copy + Send> ImmediateContext<A> {
             output,
             pending: DeferredContext::new(alloc),
         })
-    }
-
-    /// The size of the target in pixels.
-    pub fn size(&self) -> Size
-        ensures { result ≡ self.now.surface.size }
-    {
-        self.output.target().size()
     }
 
     /// The stored pixels: what the pixels hold, where no draw or clear is pending.

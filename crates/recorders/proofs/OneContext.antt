@@ -46,7 +46,3 @@ module _ (ls : List Line) (k i : ℕ) (l : Line) (here : l ≡ line_at ls i) (be
 
 pub all_taken : (ls : List Line) (k n : ℕ) (lists : List (List Command)) (current : List Command) → at_hand lists current ≡ recording_of k (take n ls) → AcceptsTo ls k n → ContextTaken ls k n None lists
 all_taken ls k n lists current r accepted = record { finished = ap (λ (q : Recording). q.lists) r; accepted = accepted; stop_is = tt }
-
-pub on_err_refl : {T E X : Type 0} (x : X) (r : Result T E) → OnErr r (x ≡ x)
-on_err_refl x (Ok y) = tt
-on_err_refl x (Err e) = refl
