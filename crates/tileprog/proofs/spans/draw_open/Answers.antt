@@ -1,5 +1,5 @@
 use Rattle.std.proofs.Common.{rules}
-use Rattle.tileprog.proofs.spans.blend_open.Goals as goal
+use Rattle.tileprog.proofs.spans.draw_open.Goals as goal
 
 pub paint_span-requires-clause-span : goal.paint_span-requires-clause-span
 paint_span-requires-clause-span g c = search rules
