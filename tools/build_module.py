@@ -20,7 +20,7 @@ import package_path
 from install_library import CRATE, LIBRARY, NotBuilt, run
 
 EXPORTS = ("yuzuratchet_draw", "yuzuratchet_sizes", "yuzuratchet_version", "malloc", "free", "__heap_base")
-TARGET = ("--target=wasm64-unknown-unknown", "-O3", "-msimd128", "-mbulk-memory", "-msign-ext", "-mnontrapping-fptoint")
+TARGET = ("--target=wasm64-unknown-unknown", "-O3", "-msimd128", "-mbulk-memory", "-msign-ext", "-mnontrapping-fptoint", "-mllvm", "-expand-div-rem-bits=64")
 STACK = 8 << 20
 # stands before the toolchain's clang, and keeps what it is given to compile
 KEEPS = """#!/bin/sh
@@ -84,7 +84,7 @@ def build(out):
         program.write_text(for_module(program.read_text()))
         run([clang, *TARGET, "-x", "ir", program, "-c", "-o", folder / "program.o"])
         objects = [folder / "program.o"]
-        for source in (LIBRARY / "yuzuratchet.c", LIBRARY / "module" / "heap.c"):
+        for source in (LIBRARY / "yuzuratchet.c", LIBRARY / "module" / "heap.c", LIBRARY / "module" / "wide.c"):
             objects.append(folder / f"{source.stem}.o")
             words = ["-std=c11", "-ffreestanding", "-nostdinc", "-isystem", LIBRARY / "module" / "include", "-Wall", "-Wextra", "-Werror"]
             run([clang, *TARGET, *words, "-c", source, "-o", objects[-1]])

@@ -88,13 +88,3 @@ struct tried rattle_realloc(void *block, size_t kept, size_t size, size_t align)
 }
 
 void rattle_dealloc(void *block) { free(block); }
-
-/* The product of two numbers of 128 bits, for which the target has no instruction. */
-__int128 __multi3(__int128 one, __int128 other) {
-    const uint64_t a = (uint64_t)one, b = (uint64_t)other, low = 0xffffffff;
-    const uint64_t least = (a & low) * (b & low), left = (a >> 32) * (b & low), right = (a & low) * (b >> 32);
-    const uint64_t middle = (least >> 32) + (left & low) + (right & low);
-    const uint64_t high = (a >> 32) * (b >> 32) + (left >> 32) + (right >> 32) + (middle >> 32) +
-                          (uint64_t)((unsigned __int128)one >> 64) * b + a * (uint64_t)((unsigned __int128)other >> 64);
-    return (__int128)((unsigned __int128)high << 64 | (middle << 32 | (least & low)));
-}
