@@ -433,7 +433,7 @@ def main():
         else:
             results.skip(f"node {name}", why)
     if given.browser:
-        results.test("browser starts", lambda: test_in_browser(results, given.browser, module, given.picture))
+        results.test("browser, from its start to its end", lambda: test_in_browser(results, given.browser, module, given.picture))
     else:
         results.skip("browser", "there is no Chromium or Chrome on the path (Debian: apt-get install chromium)")
     print(f"{results.passed} passed, {results.failed} failed, {results.skipped} skipped")
