@@ -36,7 +36,7 @@ HAS_MEMORY64 = "process.exit(WebAssembly.validate(new Uint8Array([0,97,115,109,1
 FLAG = "--experimental-wasm-memory64"
 # scripts whose pixels are asked for behind each line, anew for each: short ones
 ASKED_BY_LINES = [
-    "shadow-volumes.txt", "lamps.txt", "eight-contexts.txt", "two-faced-count.txt", "lists.txt", "decals.txt", "cut-in-a-list.txt",
+    "shadow-volumes.txt", "lamps.txt", "eight-contexts.txt", "two-faced-count.txt", "lists.txt", "decals.txt", "bowl.txt",
     "rows/around-a-list.txt", "rows/back-face.txt", "rows/biased-depths.txt", "scene-0.txt", "scene-4.txt",
 ]
 KEYSTROKE_MOST = 50
@@ -433,7 +433,7 @@ def main():
         else:
             results.skip(f"node {name}", why)
     if given.browser:
-        results.test("browser starts", lambda: test_in_browser(results, given.browser, module, given.picture))
+        results.test("browser, from its start to its end", lambda: test_in_browser(results, given.browser, module, given.picture))
     else:
         results.skip("browser", "there is no Chromium or Chrome on the path (Debian: apt-get install chromium)")
     print(f"{results.passed} passed, {results.failed} failed, {results.skipped} skipped")

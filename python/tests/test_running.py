@@ -141,7 +141,7 @@ def test_a_missing_program_tells_how_to_build_it(
     monkeypatch.setattr("yuzuratchet.program.repository", lambda: None)
     monkeypatch.setenv("PATH", str(tmp_path))
     with pytest.raises(ProgramMissing, match="rt all check"):
-        run("target 1 1\n")
+        run("target 1 1\n", backend="program")
     with pytest.raises(ProgramMissing, match="there is no program /no/where"):
         find_program("/no/where")
     (tmp_path / "text").write_text("no program")
