@@ -88,7 +88,7 @@ struct yuzuratchet_memory {
  */
 void yuzuratchet_use_memory(const struct yuzuratchet_memory *memory);
 
-/* The version of this library: 10,000 times the first number, 100 times the second and the third, 200 for 0.2.0. */
+/* The version of this library: 10,000 times the first number, 100 times the second and the third, 300 for 0.3.0. */
 uint32_t yuzuratchet_version(void);
 
 #ifdef __cplusplus
