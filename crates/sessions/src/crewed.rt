@@ -190,15 +190,7 @@ pub(crate) fn play_by_crew<
         mut answers,
         pause: _,
     } = own;
-    match take_lines(
-        rt,
-        crew,
-        gate,
-        &mut immediate,
-        shelves,
-        lines,
-        &mut answers,
-    ) {
+    match take_lines(rt, crew, gate, &mut immediate, shelves, lines, &mut answers) {
         Ok(()) => Own {
             immediate,
             answers,

@@ -20,7 +20,7 @@ use immediate::{ImmediateContext, TileCrew};
 use port::{DrainPass, PortPass, Ports};
 use recorders::{Four, Handed, Opened, Stop, open_ports, receive, settle};
 use scenetext::{Line, Scene, read};
-use std::alloc::{AllocError, Allocator};
+use std::alloc::Allocator;
 use std::sync::Wait;
 use std::thread;
 use std::thread::{Scope, Threads};
@@ -69,12 +69,7 @@ fn run<
 }
 
 /// The same, in a scope of its own.
-fn run_in_scope<
-    'a,
-    A: Allocator + Copy + Send + Sync,
-    R: Threads + Wait + Sync,
-    G: Gate + Sync,
->(
+fn run_in_scope<'a, A: Allocator + Copy + Send + Sync, R: Threads + Wait + Sync, G: Gate + Sync>(
     rt: &R,
     alloc: A,
     ports: &Ports<CommandList<A>, A>,
@@ -150,37 +145,32 @@ fn end_by_crew<'a, A: Allocator + Copy + Send + Sync, R: Threads + Wait + Sync, 
 
 /// Draws a scene: records the deferred contexts in up to four threads, while this one takes the lines of the immediate
 /// context, with a crew beside it.
-///
-/// Refused with want of memory for the ports.
-fn draw_by_crew<
-    'a,
-    A: Allocator + Copy + Send + Sync,
-    R: Threads + Wait + Sync,
-    G: Gate + Sync,
->(
+fn draw_by_crew<'a, A: Allocator + Copy + Send + Sync, R: Threads + Wait + Sync, G: Gate + Sync>(
     rt: &R,
     alloc: A,
     crew: &TileCrew<'a, A>,
     gate: &G,
     scene: &Scene<A>,
-) -> Result<Performance<A>, AllocError>
+    opened: Opened<A>,
+) -> Performance<A>
     requires scene { IsScene (scene_value scene.now) }
-    ensures { IfOk result (λ p. Draws (scene_value scene.now) (output_by p.answers.items p.end)) }
+    requires opened { AreNew opened.ports.queue opened.passes opened.drain }
+    ensures { Draws (scene_value scene.now) (output_by result.answers.items result.end) }
 {
     let immediate = match ImmediateContext::new(alloc, scene.size.width, scene.size.height) {
         Ok(context) => context,
-        Err(refusal) => return Ok(stopped(alloc, 1, refusal.number())),
+        Err(refusal) => return stopped(alloc, 1, refusal.number()),
     };
     let Opened {
         ports,
         passes,
         drain,
-    } = open_ports(alloc)?;
+    } = opened;
     let lines = scene.lines.as_slice();
     let own = Own::new(alloc, immediate, lines);
     let round = run_in_scope(rt, alloc, &ports, crew, gate, passes, drain, lines, own);
     let deferred = settle(rt, ports, round.handed, round.drain);
-    Ok(end_by_crew(rt, crew, gate, scene, deferred, round.own))
+    end_by_crew(rt, crew, gate, scene, deferred, round.own)
 }
 
 /// The same with the threads of the crew, which go home at the end.
@@ -195,19 +185,21 @@ fn draw_with_threads<
     crew: &TileCrew<'a, A>,
     gate: &G,
     scene: &Scene<A>,
-) -> Result<Performance<A>, AllocError>
+    opened: Opened<A>,
+) -> Performance<A>
     requires scene { IsScene (scene_value scene.now) }
-    ensures { IfOk result (λ p. Draws (scene_value scene.now) (output_by p.answers.items p.end)) }
+    requires opened { AreNew opened.ports.queue opened.passes opened.drain }
+    ensures { Draws (scene_value scene.now) (output_by result.answers.items result.end) }
 {
     thread::scope(
         thread::scope_env(),
         rt,
-        |scope| -> Result<Performance<A>, AllocError>
-            requires { IsScene (scene_value scene.now) }
-            ensures { IfOk result (λ p. Draws (scene_value scene.entry.now) (output_by p.answers.items p.end)) }
+        |scope| -> Performance<A>
+            requires { IsScene (scene_value scene.now) × AreNew opened.ports.queue opened.passes opened.drain }
+            ensures { Draws (scene_value scene.entry.now) (output_by result.answers.items result.end) }
         {
             start_crew(rt, scope, crew, gate);
-            let drawn = draw_by_crew(rt, alloc, crew, gate, scene);
+            let drawn = draw_by_crew(rt, alloc, crew, gate, scene, opened);
             crew.close(rt);
             drawn
         },
@@ -227,9 +219,10 @@ pub(crate) fn perform_in_threads<
         Err((line, number)) => return stopped(alloc, line, number),
     };
     drop(text);
+    let opened = match open_ports(alloc) {
+        Ok(opened) => opened,
+        Err(_) => return stopped(alloc, 0, 1),
+    };
     let crew = TileCrew::new(&alloc, workers);
-    match draw_with_threads(rt, alloc, &crew, gate, &scene) {
-        Ok(performance) => performance,
-        Err(_) => stopped(alloc, 0, 1),
-    }
+    draw_with_threads(rt, alloc, &crew, gate, &scene, opened)
 }

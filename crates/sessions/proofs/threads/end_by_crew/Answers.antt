@@ -14,7 +14,7 @@ returns-in-Ok g c =
     let own = c.args.own in
     let text = own.answers.text.items in
     let all = no_stop scene c.requires.sized c.requires.scene.1 c.args.deferred own.pause own.immediate text own.answers.marks.items c.requires.recorded c.requires.played c.in_default.ensures in
-    finished scene c.requires.sized c.requires.scene.1 own.immediate text own.answers.marks.items all c.flush_by_crew.new.immediate c.in-Ok.ensures.answer c.in-Ok.ensures.ok
+    finished scene c.requires.sized c.requires.scene.1 own.immediate text own.answers.marks.items all c.flush_by_crew.new.self c.in-Ok.ensures.answer c.in-Ok.ensures.ok
 
 pub returns-in-Err : goal.returns-in-Err
 returns-in-Err g c =
