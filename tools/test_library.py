@@ -44,8 +44,8 @@ FLAGS = ("-std=c11", "-D_POSIX_C_SOURCE=199309L", "-O1", "-g", "-Wall", "-Wextra
 SANITIZED = ("-fsanitize=address,undefined", "-fno-sanitize-recover=all")
 VALGRIND = ("valgrind", "--quiet", "--error-exitcode=9", "--leak-check=full", "--errors-for-leak-kinds=all")
 SECONDS = 1200
-# each request for memory is refused in turn in scripts of so many bytes at most, and in these; others ask too often
-SHORT = 2000
+# each request for memory is refused in turn in scripts of so many bytes and pixels at most, and in these; others ask too often
+SHORT, SMALL = 2000, 128 * 128
 REFUSED_IN = ("decals.txt", "two-faced-count.txt", "eight-contexts.txt")
 # that is done with each compiler in one script, and under valgrind in some
 FIRST = "lists.txt"
@@ -191,6 +191,13 @@ class Tests:
         return f"{library:.0f} microseconds of processor time a call, {process:.0f} a process"
 
 
+def is_short(name):
+    """Whether a script asks for memory so seldom that each request can be refused."""
+    text = (DATA / name).read_text(encoding="ascii")
+    sides = [int(word) for word in text.split("\n", 1)[0].split()[1:]]
+    return len(text) <= SHORT and len(sides) == 2 and sides[0] * sides[1] <= SMALL
+
+
 def children_seconds():
     """The processor time of all processes that ended."""
     used = resource.getrusage(resource.RUSAGE_CHILDREN)
@@ -220,8 +227,7 @@ def test_drawing(tests, compiler):
     """What takes longer, with one compiler alone."""
     program = program_or_none()
     tests.run("gallery", tests.gallery, compiler)
-    names = [name for name in INDEX.read_text(encoding="ascii").splitlines() if (DATA / name).stat().st_size <= SHORT]
-    tests.run("memory", tests.memory, compiler, [*names, *REFUSED_IN])
+    tests.run("memory", tests.memory, compiler, [*filter(is_short, INDEX.read_text(encoding="ascii").splitlines()), *REFUSED_IN])
     if shutil.which("valgrind"):
         tests.run("refusals under valgrind", tests.refusals, compiler, "", VALGRIND)
         tests.run("example under valgrind", tests.example, compiler, VALGRIND)
