@@ -9,7 +9,7 @@ It installs the library into a folder of its own (or takes the one in FOLDER), a
   under valgrind and the address sanitizer too;
 - draws all scripts of the gallery, worked rows and refused calls through C, and holds answers and digests against crates/gallery/stdout;
 - draws random scenes (10,000) through C and holds each byte against the built program or, where there is none, against plain_device.py;
-- refuses each request for memory in turn in drawings of the gallery;
+- refuses each request for memory in turn in drawings of the gallery's shorter scripts;
 - prints what a call costs, beside a process.
 
 A line is printed for each: `ok NAME`, `WRONG NAME: why`, or `skipped NAME: why`. The status is 0 where none is wrong.
@@ -20,6 +20,7 @@ import hashlib
 import os
 import pathlib
 import random
+import resource
 import shutil
 import subprocess
 import sys
@@ -37,14 +38,17 @@ from yuzuratchet.program import find_program
 
 TESTS = install_library.LIBRARY / "tests"
 DATA = package_path.TOP / "crates" / "gallery" / "data"
+INDEX = DATA / "index"
 STORED = package_path.TOP / "crates" / "gallery" / "stdout"
 FLAGS = ("-std=c11", "-D_POSIX_C_SOURCE=199309L", "-O1", "-g", "-Wall", "-Wextra", "-Werror")
 SANITIZED = ("-fsanitize=address,undefined", "-fno-sanitize-recover=all")
 VALGRIND = ("valgrind", "--quiet", "--error-exitcode=9", "--leak-check=full", "--errors-for-leak-kinds=all")
 SECONDS = 1200
-# scripts in which each request for memory is refused; others ask too often
-REFUSED_IN = ("clear.txt", "slope.txt", "lists.txt", "default-state.txt", "strip.txt", "cut-in-a-list.txt", "decals.txt", "two-faced-count.txt", "eight-contexts.txt")
-# those that are drawn under valgrind too
+# each request for memory is refused in turn in scripts of so many bytes and pixels at most, and in these; others ask too often
+SHORT, SMALL = 2000, 128 * 128
+REFUSED_IN = ("decals.txt", "two-faced-count.txt", "eight-contexts.txt")
+# that is done with each compiler in one script, and under valgrind in some
+FIRST = "lists.txt"
 SLOWLY = ("clear.txt", "lists.txt", "default-state.txt")
 
 
@@ -119,8 +123,11 @@ class Tests:
     def header_in_cpp(self, compiler):
         install_library.run([compiler, "-x", "c++", "-std=c++11", "-Wall", "-Wextra", "-Werror", "-fsyntax-only", self.prefix / "include" / "yuzuratchet.h"])
 
-    def memory(self, compiler, name, kind="", before=()):
-        return self.output([*before, self.folder / f"{compiler}-memory{kind}"], (DATA / name).read_bytes()).decode().strip()
+    def memory(self, compiler, names, kind="", before=()):
+        requests = 0
+        for name in names:
+            requests += int(self.output([*before, self.folder / f"{compiler}-memory{kind}"], (DATA / name).read_bytes()).split()[0])
+        return f"{requests} requests in {len(names)} script{'s' if len(names) > 1 else ''}"
 
     # ---- drawing
 
@@ -140,7 +147,7 @@ class Tests:
                 batch.wait()
 
     def gallery(self, compiler):
-        names = (DATA / "index").read_text(encoding="ascii").splitlines()
+        names = INDEX.read_text(encoding="ascii").splitlines()
         told = []
         for name, (answers, image) in zip(names, self.drawn(compiler, ((DATA / name).read_bytes() for name in names))):
             told.append(f"{name}\n{answers}image {hashlib.sha256(image).hexdigest()}\n")
@@ -174,14 +181,27 @@ class Tests:
     def costs(self, compiler, program):
         library = float(self.output([self.folder / f"{compiler}-calls"]))
         if program is None:
-            return f"{library:.0f} microseconds a call"
+            return f"{library:.0f} microseconds of processor time a call"
         script, image = self.folder / "small.txt", self.folder / "small.tga"
         script.write_text("target 64 64\ni clearc 1 2 3 4\n", encoding="ascii")
-        begun, count = time.monotonic(), 200
+        begun, count = children_seconds(), 200
         for _ in range(count):
             subprocess.run([program, script, image], stdout=subprocess.DEVNULL, check=True)
-        process = (time.monotonic() - begun) / count * 1e6
-        return f"{library:.0f} microseconds a call, {process:.0f} a process"
+        process = (children_seconds() - begun) / count * 1e6
+        return f"{library:.0f} microseconds of processor time a call, {process:.0f} a process"
+
+
+def is_short(name):
+    """Whether a script asks for memory so seldom that each request can be refused."""
+    text = (DATA / name).read_text(encoding="ascii")
+    sides = [int(word) for word in text.split("\n", 1)[0].split()[1:]]
+    return len(text) <= SHORT and len(sides) == 2 and sides[0] * sides[1] <= SMALL
+
+
+def children_seconds():
+    """The processor time of all processes that ended."""
+    used = resource.getrusage(resource.RUSAGE_CHILDREN)
+    return used.ru_utime + used.ru_stime
 
 
 def program_or_none():
@@ -197,8 +217,9 @@ def test_compiler(tests, compiler):
         return False
     for kind in ("", "-shared", "-sanitized"):
         tests.run(f"{compiler} refusals{kind}", tests.refusals, compiler, kind)
-        tests.run(f"{compiler} memory{kind} {REFUSED_IN[2]}", tests.memory, compiler, REFUSED_IN[2], kind)
+        tests.run(f"{compiler} memory{kind}", tests.memory, compiler, [FIRST], kind)
     tests.run(f"{compiler} example", tests.example, compiler)
+    tests.run(f"{compiler} numbers of 128 bits", tests.output, [tests.folder / f"{compiler}-wide-sanitized"])
     return True
 
 
@@ -206,13 +227,11 @@ def test_drawing(tests, compiler):
     """What takes longer, with one compiler alone."""
     program = program_or_none()
     tests.run("gallery", tests.gallery, compiler)
-    for name in REFUSED_IN:
-        tests.run(f"memory {name}", tests.memory, compiler, name)
+    tests.run("memory", tests.memory, compiler, [*filter(is_short, INDEX.read_text(encoding="ascii").splitlines()), *REFUSED_IN])
     if shutil.which("valgrind"):
         tests.run("refusals under valgrind", tests.refusals, compiler, "", VALGRIND)
         tests.run("example under valgrind", tests.example, compiler, VALGRIND)
-        for name in SLOWLY:
-            tests.run(f"memory {name} under valgrind", tests.memory, compiler, name, "", VALGRIND)
+        tests.run("memory under valgrind", tests.memory, compiler, SLOWLY, "", VALGRIND)
     else:
         tests.skip("valgrind", "the command is missing")
     tests.run("random scenes", tests.random_scenes, compiler, program)

@@ -1,5 +1,5 @@
 -- Whether the areas that a C caller names fit.
-use Rattle.std.specs.Prelude.{ℕ, ◌+◌, ◌^◌, Bool, true, false, not, ◌&&◌, ◌||◌, nat_lt, List, [], ◌∷◌, if◌then◌else◌}
+use Rattle.std.specs.Prelude.{◌+◌, ◌^◌, Bool, false, not, ◌&&◌, ◌||◌, nat_lt, List, [], ◌∷◌, if◌then◌else◌}
 use Rattle.std.specs.List.{list_any}
 use Rattle.yuzuratchet.specs.declared.areas.Area.{Area}
 use Rattle.yuzuratchet.specs.declared.areas.Misfit.{Misfit}

@@ -14,10 +14,9 @@ mod report;
 
 use crate::areas::misfit_of;
 use crate::report::told;
-use std::alloc::Global;
-
 pub use areas::Area;
 pub use report::Report;
+use std::alloc::Global;
 
 /// The version: 10,000 times the first number, 100 times the second and the third.
 #[unsafe(no_mangle)]

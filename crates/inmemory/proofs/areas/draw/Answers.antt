@@ -1,6 +1,6 @@
-use Rattle.std.proofs.Common.{rules, ◌≡◌, ◌≤◌, ◌<◌, length, subst, refl}
+use Rattle.std.proofs.Common.{rules, ◌≡◌, ◌≤◌, ◌<◌, length, refl}
 use Rattle.sessions.specs.Writing.{Output}
-use Rattle.inmemory.specs.Areas.{Drew, filled, measured, output_of, status_of, whole, few_lines, small_image}
+use Rattle.inmemory.specs.Areas.{filled, measured, output_of, status_of, whole, few_lines, small_image}
 use Rattle.inmemory.proofs.areas.draw.Goals as goal
 
 pub returns-then-lines-len : goal.returns-then-lines-len
