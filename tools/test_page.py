@@ -147,6 +147,11 @@ def node_history(words, module):
     return f"12 pixels of {len(ASKED_BY_LINES)} scripts, {sum(int(it.split()[-1]) for it in printed.splitlines())} changes"
 
 
+def node_areas(words, module):
+    names = ["lists.txt", "two-faced-count.txt", "rows/four-tiles-cut-behind-14.txt"]
+    check(in_node(words, module, "areas", names).split() == names, "something else was printed")
+
+
 # ---- the browser
 
 PLAYED = "document.documentElement.dataset.state === 'played'"
@@ -427,7 +432,7 @@ def main():
         results.skip("all", why)
         return 1 if given.module or why == make_page.FAILED else 0
     words, why = node_words(given.node)
-    for name, run in (("gallery", node_gallery), ("history", node_history)):
+    for name, run in (("gallery", node_gallery), ("areas", node_areas), ("history", node_history)):
         if words:
             results.test(f"node {name}", lambda run=run: run(words, module))
         else:
