@@ -2,6 +2,7 @@
 //
 //     node page_in_node.js MODULE.wasm WEB gallery FOLDER NAME ..     answers and digests, as crates/gallery/stdout has them
 //     node page_in_node.js MODULE.wasm WEB history FOLDER NAME ..     the lines that changed some pixels, asked in two ways
+//     node page_in_node.js MODULE.wasm WEB areas FOLDER NAME ..       the same with areas that are too small at first, and again and again
 
 "use strict";
 
@@ -60,9 +61,25 @@ function history(device, name, bytes) {
     console.log(`${name} ${changes}`);
 }
 
+/** Draws with areas that are too small, which the report tells, and so often that what isn't given back would be seen. */
+function areas(device, name, bytes) {
+    const drawn = JSON.stringify(device.draw(bytes));
+    const { status, lines, image } = device.drawInto(bytes, { lines: 1, image: 1 });
+    const [wanted, header] = [JSON.parse(drawn), vm.runInThisContext("HEADER_SIZE")];
+    if (status !== 2 || lines !== wanted.answers.length || image < header) throw new Error(`${name}: ${status} ${lines} ${image}`);
+    const guess = vm.runInThisContext("imageSize");
+    globalThis.imageSize = () => 1;
+    if (JSON.stringify(device.draw(bytes)) !== drawn) throw new Error(`${name}: another answer`);
+    globalThis.imageSize = guess;
+    const size = device.calls.memory.buffer.byteLength;
+    for (let times = 0; times < 200; times++) device.draw(bytes);
+    if (device.calls.memory.buffer.byteLength !== size) throw new Error(`${name}: the memory has grown`);
+    console.log(name);
+}
+
 (async () => {
     const device = await page.Device.of(fs.readFileSync(module_));
-    for (const name of names) ({ gallery, history })[task](device, name, new Uint8Array(fs.readFileSync(path.join(folder, name))));
+    for (const name of names) ({ gallery, history, areas })[task](device, name, new Uint8Array(fs.readFileSync(path.join(folder, name))));
 })().catch((error) => {
     console.error(String(error.stack || error));
     process.exitCode = 1;

@@ -14,6 +14,7 @@ import hashlib
 import http.server
 import json
 import pathlib
+import random
 import shutil
 import statistics
 import subprocess
@@ -25,6 +26,7 @@ import time
 import make_page
 import package_path
 import plain_device
+import random_scenes
 from browser import Browser, BrowserError, find_browser
 from yuzuratchet.page import with_script
 
@@ -42,6 +44,8 @@ ASKED_BY_LINES = [
 KEYSTROKE_MOST = 50
 # scripts whose lines are all played one after the other
 SLID = 40
+# scenes in which it is asked in two ways which lines changed a pixel
+RANDOM_SCENES = 40
 SIZE = 512
 
 
@@ -124,9 +128,9 @@ def node_words(node):
     return None, f"{node} has no memory64 (version 20 or later has)"
 
 
-def in_node(words, module, task, names):
+def in_node(words, module, task, names, folder=DATA):
     """What page_in_node.js prints."""
-    command = [*words, IN_NODE, module, TOP / "web", task, DATA, *names]
+    command = [*words, IN_NODE, module, TOP / "web", task, folder, *names]
     ran = subprocess.run(command, capture_output=True, encoding="utf-8", timeout=1800, check=False)
     check(ran.returncode == 0, ran.stderr.strip()[-600:])
     return ran.stdout
@@ -142,9 +146,20 @@ def node_gallery(words, module):
 
 
 def node_history(words, module):
-    printed = in_node(words, module, "history", ASKED_BY_LINES)
-    check(len(printed.splitlines()) == len(ASKED_BY_LINES), printed)
-    return f"12 pixels of {len(ASKED_BY_LINES)} scripts, {sum(int(it.split()[-1]) for it in printed.splitlines())} changes"
+    with tempfile.TemporaryDirectory(prefix="page-") as room:
+        chance, scenes = random.Random(1), [f"{number}.txt" for number in range(RANDOM_SCENES)]
+        for number, name in enumerate(scenes):
+            scene = random_scenes.random_scene(chance, number, kinds=random_scenes.KINDS)
+            pathlib.Path(room, name).write_text(scene.script(), encoding="ascii")
+        printed = in_node(words, module, "history", ASKED_BY_LINES) + in_node(words, module, "history", scenes, room)
+    found = [int(it.split()[-1]) for it in printed.splitlines()]
+    check(len(found) >= len(ASKED_BY_LINES), printed)
+    return f"12 pixels of {len(found)} scripts, {sum(found)} changes"
+
+
+def node_areas(words, module):
+    names = ["lists.txt", "two-faced-count.txt", "rows/four-tiles-cut-behind-14.txt"]
+    check(in_node(words, module, "areas", names).split() == names, "something else was printed")
 
 
 # ---- the browser
@@ -427,7 +442,7 @@ def main():
         results.skip("all", why)
         return 1 if given.module or why == make_page.FAILED else 0
     words, why = node_words(given.node)
-    for name, run in (("gallery", node_gallery), ("history", node_history)):
+    for name, run in (("gallery", node_gallery), ("areas", node_areas), ("history", node_history)):
         if words:
             results.test(f"node {name}", lambda run=run: run(words, module))
         else:

@@ -29,7 +29,7 @@ class Jobs {
         this.worker.onmessage = ({ data }) => this.heard(data);
         this.worker.onerror = (event) => this.failed(event.message || "the worker didn't start");
         this.sent = null;
-        this.run({ kind: "start", module: this.module, resolve: () => {}, reject: () => {} });
+        this.run({ kind: "start", module: this.module, resolve: () => {}, reject: (error) => this.refuse(error) });
     }
 
     /** Takes another text: what was asked of the old one is dropped. */
@@ -113,10 +113,18 @@ class Jobs {
 
     /** Stops what runs and what waits, as somebody asks for it. */
     stop() {
-        const jobs = [this.running, ...this.waiting.values()];
-        this.waiting.clear();
+        const { running } = this;
+        const error = new Error("stopped");
+        this.refuse(error);
         this.restart();
-        for (const job of jobs) if (job) job.reject(new Error("stopped"));
+        if (running && running.kind !== "start") running.reject(error);
+    }
+
+    /** Answers what waits with an error. */
+    refuse(error) {
+        const jobs = [...this.waiting.values()];
+        this.waiting.clear();
+        for (const job of jobs) job.reject(error);
     }
 
     tellTime() {

@@ -176,9 +176,11 @@ function differs(a, b) {
     return a.depth !== b.depth || a.stencil !== b.stencil || a.colour.some((channel, at) => channel !== b.colour[at]);
 }
 
-/** Whether a line is a question of the script's own, which changes no pixel and answers too much here. */
-function asks([actor, word]) {
-    return actor === "i" && (word === "query" || word === "pixel");
+/** A line as it is played on the way to a question: one of the script's own asks nothing, but what is pending runs as it does there. */
+function played(script, line) {
+    const [actor, word] = script.words(line);
+    const asks = actor === "i" && (word === "query" || word === "pixel");
+    return asks ? Script.bytesOf("i flush\n") : script.slice(line, line);
 }
 
 /**
@@ -200,8 +202,8 @@ function probed(script, last) {
         const [actor, word] = words;
         group.first = group.first || line;
         if (word === "finish") counts[actor] = [...(counts[actor] || []), line];
-        if (asks(words) || (actor === "i" && !isPredicated && isQuery(word))) continue;
-        group.pieces.push(script.slice(line, line));
+        if (actor === "i" && !isPredicated && isQuery(word)) continue;
+        group.pieces.push(played(script, line));
         if (actor !== "i") continue;
         if (word === "begin") open.add(words[2]);
         if (word === "end") open.delete(words[2]);
@@ -226,7 +228,7 @@ function usesPredicate(script, last) {
 /** The changes within a group: of the lines of the list that it executes, or of those between `begin` and `end`. */
 function within(draw, script, group, question) {
     const before = [];
-    for (let line = 1; line < group.first; line++) if (!asks(script.words(line))) before.push(script.slice(line, line));
+    for (let line = 1; line < group.first; line++) before.push(played(script, line));
     const inner = group.list ? listLines(script, group) : groupLines(script, group);
     const pieces = [...before, ...inner.setup, question];
     for (const { piece, draws } of inner.lines) pieces.push(piece, ...(draws ? [question] : []));
@@ -243,8 +245,8 @@ function groupLines(script, group) {
     const last = group.lines[group.lines.length - 1];
     for (let line = group.first; line <= last; line++) {
         const words = script.words(line);
-        if (asks(words) || (words[0] === "i" && isQuery(words[1]))) continue;
-        lines.push({ line, piece: script.slice(line, line), draws: words[0] === "i" && DRAWING.has(words[1]) });
+        if (words[0] === "i" && isQuery(words[1])) continue;
+        lines.push({ line, piece: played(script, line), draws: words[0] === "i" && DRAWING.has(words[1]) });
     }
     return { setup: [], lines };
 }
@@ -256,10 +258,9 @@ function groupLines(script, group) {
 function listLines(script, group) {
     const { context, finish } = group.list;
     const setup = [];
-    for (let line = group.first; line < group.lines[0]; line++) {
-        if (!asks(script.words(line))) setup.push(script.slice(line, line));
-    }
-    setup.push(Script.bytesOf(DEFAULT_STATE));
+    for (let line = group.first; line < group.lines[0]; line++) setup.push(played(script, line));
+    // (what is pending may have begun a query that the kept state names in a predicate)
+    setup.push(Script.bytesOf(`i flush\n${DEFAULT_STATE}`));
     let kept = [];
     let lines = [];
     for (let line = 2; line < finish; line++) {

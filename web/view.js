@@ -2,7 +2,7 @@
 
 "use strict";
 
-const ZOOMS = [0.125, 0.25, 0.5, 1, 2, 3, 4, 6, 8, 12, 16, 24, 32];
+const ZOOMS = [0.125, 0.25, 0.5, 1, 2, 3, 4, 6, 8, 12, 16, 24, 32, 48, 64, 96, 128];
 
 class View {
     /** @param {{onHover: (pixel: {x: number, y: number} | null) => void, onPin: (pixel: {x: number, y: number}) => void}} hears */

@@ -66,7 +66,7 @@ def find_library(library: str | Path | None = None) -> Path | str:
     ):
         if named:
             if Path(named).is_file():
-                return Path(named).resolve()
+                return Path(named).absolute()
             raise LibraryMissing(f"there is no library {named} ({by}).\n{HOW_TO_BUILD}")
     found = _installed()
     if found:
