@@ -29,7 +29,7 @@ use Rattle.tileprog.specs.Kinds.{tests_of}
 use Rattle.tileprog.specs.Strokes.{Stroke, stroked}
 use Rattle.tileprog.specs.Within.{in_box}
 use Rattle.tileprog.proofs.AlikeLaws.{otherwise}
-use Rattle.tileprog.proofs.Lanes.{rule_of, deep_enough, stencil_lane, stencil_passes_both, both_lanes, depth_only, tested_depth}
+use Rattle.tileprog.proofs.Lanes.{rule_of, deep_enough, stencil_lane, stencil_passes_both, both_lanes}
 
 -- ---- the nearest depth
 
@@ -125,22 +125,6 @@ rows_told c s d mask k old new x row y n h drew y_is =
 
 -- ---- lanes
 
--- a covered lane whose depth test fails under a brush that tests depth alone
-pub failed_lane : (b : Brush) (func : Compare) (write : Bool) → tests_of b.state ≡ Depth func write → (z : ℕ) (p : Pixel) → depth_passes b.state z p.ds.depth ≡ false → tested_by b z p.ds ≡ record { after = p.ds; passed = false }
-failed_lane b func write kind z p fails =
-    let only = depth_only b.state func write kind in
-    let none : compares func z p.ds.depth ≡ false = (λ i. not (sym only.depth i) || compares (sym only.func_is i) z p.ds.depth) ∙ fails in
-    tested_depth b.state (if b.front then b.state.front else b.state.back) b.reference z p.ds func write only
-    ∙ ap (λ c. record { after = record { depth = if c && write then z else p.ds.depth; stencil = p.ds.stencil }; passed = c }) none
-
-pub failed_drawn : (b : Brush) (z : ℕ) (t : Bool) (p : Pixel) → (t ≡ true → tested_by b z p.ds ≡ record { after = p.ds; passed = false }) → p ≡ (if t then drawn_by b z p else p)
-failed_drawn b z true p fails = ap (λ (o : TestOutcome). record { rgba = if o.passed then written_color b.blend b.rgba p.rgba else p.rgba; ds = o.after }) (sym (fails refl))
-failed_drawn b z false p fails = refl
-
-pub failed_bit : (b : Brush) (z : ℕ) (t : Bool) (p : Pixel) → (t ≡ true → tested_by b z p.ds ≡ record { after = p.ds; passed = false }) → false ≡ (t && (tested_by b z p.ds).passed)
-failed_bit b z true p fails = ap (λ (o : TestOutcome). o.passed) (sym (fails refl))
-failed_bit b z false p fails = refl
-
 -- a lane of which the depth test's outcome is known, and whose depth stays
 module _ (b : Brush) (kind : tests_of b.state ≡ Stencil) (z : ℕ) (p : Pixel) (passing deep : Bool) (after : ℕ)
     (ep : passing ≡ reference_passes (rule_of b) p.ds.stencil) (ea : after ≡ stencil_after (rule_of b) passing deep p.ds.stencil) (stays : IsUnwritten b.state deep) where
@@ -170,13 +154,6 @@ module _ (b : Brush) (kind : tests_of b.state ≡ Stencil) (z : ℕ) (p : Pixel)
   alike_bit false ed = refl
 
 -- ---- edges
-
--- where no edge is named each holds
-pub open_passes : (mask : ℕ) (t : Triangle) (p : Point) → mask ≡ 0 → passes_edges mask t p ≡ true
-open_passes mask t p none = ap (λ m. passes_edges m t p) none ∙ plain
-  where
-    plain : passes_edges 0 t p ≡ true
-    plain = refl
 
 -- where all edges hold the named ones do
 pub all_pass : (mask : ℕ) (t : Triangle) (p : Point) → ((i : ℕ) → i < 3 → edge_holds (edge t i) p ≡ true) → passes_edges mask t p ≡ true

@@ -6,17 +6,11 @@ use Rattle.gfxspec.specs.Raster.{Triangle, centre}
 use Rattle.edges.specs.Walk.{EdgePlace}
 use Rattle.gfxspec.specs.Tiles.{IsIn}
 use Rattle.gfxspec.specs.DepthStencil.{depth_passes}
-use Rattle.gfxspec.specs.declared.state.Compare.{Compare}
 use Rattle.lanes.specs.Stencil.{has}
 use Rattle.tileblock.specs.Block.{Block, pixel_at}
 use Rattle.tileblock.specs.SpanStored.{SpanStored, lane_pixel}
-use Rattle.tileprog.specs.declared.kind.Tests.TheVariants.{Depth}
-use Rattle.tileprog.specs.Brushes.{tested_by}
 use Rattle.tileprog.specs.Cells.{AllHave}
 use Rattle.tileprog.specs.Columns.{RowDrew}
-use Rattle.tileprog.specs.Kinds.{tests_of}
-use Rattle.tileprog.proofs.CellLaws.{failed_lane, failed_drawn, failed_bit}
-use Rattle.tileprog.proofs.Lanes.{has_none}
 use Rattle.tileprog.specs.Counting.{eight, one_if, stroke_count}
 use Rattle.tileprog.specs.Edges.{passes_edges}
 use Rattle.tileprog.specs.SpanDrawn.{drawn_lane, ArePassed}
@@ -74,16 +68,3 @@ module _ (s : Stroke) (old : Block) (span row x y cover : ℕ) (x_is : old.rect.
         let is = in_rect s old.rect x y cover sound lanes top bottom within j reach in
         (λ i. depth_passes s.brush.state (eight_are s old.rect x y cover sound lanes top bottom j h i) (pixel_at old (x_is i + j) (y_is i)).ds.depth)
         ∙ all (x + j) y is (record { left = omega arith; right = omega (arith, h); top = omega (arith, y_is); bottom = omega (arith, y_is) })
-
-    -- where it fails under a brush that tests depth alone, nothing is drawn
-    pub row_hidden : (func : Compare) (write : Bool) → tests_of s.brush.state ≡ Depth func write → deep ≡ false → RowDrew s old old x y 0
-    row_hidden func write kind fails =
-        let zs = eight_depths s old.rect x y cover sound lanes top bottom in
-        let test : (j : ℕ) → j < 8 → has cover j ≡ true → tested_by s.brush (slice_index zs j) (lane_pixel old span row j).ds ≡ record { after = (lane_pixel old span row j).ds; passed = false } =
-        λ j h here. failed_lane s.brush func write kind (slice_index zs j) (lane_pixel old span row j) (lanes_have j h here ∙ fails) in
-        row_drawn old zs 0 0
-        (λ j h is reach. eight_are s old.rect x y cover sound lanes top bottom j h)
-        (unchanged old span row (drawn_lane s.brush cover zs) (λ j h. failed_drawn s.brush (slice_index zs j) (has cover j) (lane_pixel old span row j) (test j h)))
-        (record { each = λ j h. has_none 0 j refl ∙ failed_bit s.brush (slice_index zs j) (has cover j) (lane_pixel old span row j) (test j h) })
-        (sym (eight_none (λ j. one_if (has 0 j)) (λ j h. ap one_if (has_none 0 j refl))))
-        (omega arith)

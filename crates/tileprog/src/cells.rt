@@ -10,9 +10,7 @@ ghost use Rattle.depthplane.specs.Place.{depth_of};
 ghost use Rattle.tileblock.specs.SpanStored.{lane_pixel};
 ghost use Rattle.tileprog.specs.Cells.{nearest, InRows, AllHave, AreOpen, IsUnwritten, Tells, IsCell};
 ghost use Rattle.tileprog.specs.Columns.{IsColumn};
-ghost use Rattle.tileprog.specs.Kinds.{tests_of};
 ghost use Rattle.tileprog.specs.Strokes.{IsNamed};
-ghost use Rattle.tileprog.specs.declared.kind.Tests.TheVariants.{Depth};
 
 use crate::alike::opposite;
 use crate::brush::Brush;
@@ -167,32 +165,6 @@ fn cell_range(plane: &Plane, rect: PixelRect, column: &Column, row: u32) -> Dept
     DepthBounds { least, greatest }
 }
 
-/// Whether a triangle under a brush that tests depth alone passes at no pixel of the eight rows of a column from `row` on: then the
-/// answer is false.
-#[inline(always)]
-fn hidden_from<A: Allocator>(
-    block: &TileBlock<A>,
-    plane: &Plane,
-    column: &Column,
-    row: u32,
-    func: Compare,
-    write: bool,
-    brush: &Brush,
-) -> Option<bool>
-    requires column { IsColumn column.now plane.now.triangle block.now.rect }
-    requires row { row < 32 }
-    requires named { IsNamed plane.now column.now.mask block.now.rect }
-    requires cell { IsCell column.now plane.now.triangle block.now.rect row }
-    requires kind { tests_of brush.now.state ≡ Depth func write }
-    ensures deep { IfSome result (λ deep. AllHave deep brush.now.state plane.now block.now column.now.x row (row + 8)) }
-    ensures unwritten { IfSome result (IsUnwritten brush.now.state) }
-{
-    let rect = block.rect();
-    let range = cell_range(plane, rect, column, row);
-    let fails = all_fail(block, column.span, row, func, range);
-    if fails { Some(false) } else { None }
-}
-
 /// Whether the depth test of a brush passes at all pixels of the eight rows of a column from `row` on, or at none. Where depths would
 /// be stored, that all pass is not told.
 #[inline(always)]
@@ -234,45 +206,6 @@ fn unknown(row: u32, deep: Option<bool>) -> Cell
     Cell {
         until: row + 8,
         covered: false,
-        deep,
-    }
-}
-
-/// The cell of a row under a brush that tests depth alone: the one before it, or where that has ended the next.
-#[inline(always)]
-pub(crate) fn depth_cell<A: Allocator>(
-    cell: Cell,
-    block: &TileBlock<A>,
-    set: &EdgeSet,
-    plane: &Plane,
-    column: &Column,
-    mask: u8,
-    row: u32,
-    func: Compare,
-    write: bool,
-    brush: &Brush,
-) -> Cell
-    requires same { mask ≡ column.now.mask }
-    requires set { set.now ≡ plane.now.triangle }
-    requires column { IsColumn column.now plane.now.triangle block.now.rect }
-    requires row { row < 32 }
-    requires named { IsNamed plane.now column.now.mask block.now.rect }
-    requires kind { tests_of brush.now.state ≡ Depth func write }
-    requires told { Tells cell brush.now.state plane.now column.now.mask block.now column.now.x row }
-    ensures told { Tells result brush.now.state plane.now column.now.mask block.now column.now.x row }
-    ensures now { row < result.until }
-{
-    if row < cell.until {
-        return cell;
-    }
-    let inside = is_cell(set, block.rect(), column, mask, row);
-    if !inside {
-        return unknown(row, None);
-    }
-    let deep = hidden_from(block, plane, column, row, func, write, brush);
-    Cell {
-        until: row + 8,
-        covered: true,
         deep,
     }
 }

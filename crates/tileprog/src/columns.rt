@@ -7,7 +7,7 @@ ghost use Rattle.tileprog.specs.declared.kind.Tests.TheVariants.{Open, Depth, St
 ghost use Rattle.tileprog.specs.Columns.{IsColumn, ColumnDrew};
 
 use crate::brush::Brush;
-use crate::cells::{Cell, depth_cell, stencil_cell};
+use crate::cells::{Cell, stencil_cell};
 use crate::column::Column;
 use crate::kind::Tests;
 use crate::rows::{depth_row, open_row, stencil_row};
@@ -74,8 +74,6 @@ fn depth_spans<A: Allocator, W: Walks>(
     block: &mut TileBlock<A>,
     column: &Column,
     mask: u8,
-    set: &EdgeSet,
-    plane: &Plane,
     mut edges: EdgeWalk<'_>,
     mut walk: W,
     func: Compare,
@@ -86,8 +84,6 @@ fn depth_spans<A: Allocator, W: Walks>(
     requires column { IsColumn column.now (W.place walk).plane.triangle block.old.rect }
     requires edges { edges ≡ record { triangle = (W.place walk).plane.triangle; x = column.now.x; y = column.now.clip.top } }
     requires walk { W.place walk ≡ record (W.place walk) { x = column.now.x; y = column.now.clip.top } }
-    requires plane { (W.place walk).plane ≡ plane.now }
-    requires set { set.now ≡ plane.now.triangle }
     requires left { block.old.rect.left ≤ (W.place walk).left }
     requires top { block.old.rect.top ≤ (W.place walk).top }
     requires named { IsNamed (W.place walk).plane column.now.mask block.old.rect }
@@ -96,30 +92,11 @@ fn depth_spans<A: Allocator, W: Walks>(
 {
     let column = *column;
     let rect = block.rect();
-    let mut cell = Cell {
-        until: 0,
-        covered: false,
-        deep: None,
-    };
     let mut passed = 0u32;
     for row in column.clip.top - rect.top..column.clip.bottom - rect.top {
-        let now = depth_cell(
-            cell, block, set, plane, &column, mask, row, func, write, &brush,
-        );
         let more = depth_row(
-            block,
-            &column,
-            mask,
-            row,
-            &edges,
-            &walk,
-            now.covered,
-            now.deep,
-            func,
-            write,
-            &brush,
+            block, &column, mask, row, &edges, &walk, func, write, &brush,
         );
-        cell = now;
         passed += more;
         edges.down();
         walk.next();
@@ -132,8 +109,6 @@ fn depth_spans<A: Allocator, W: Walks>(
 fn depth_rows<A: Allocator, W: Walks>(
     block: &mut TileBlock<A>,
     column: &Column,
-    set: &EdgeSet,
-    plane: &Plane,
     edges: EdgeWalk<'_>,
     walk: W,
     func: Compare,
@@ -143,8 +118,6 @@ fn depth_rows<A: Allocator, W: Walks>(
     requires column { IsColumn column.now (W.place walk).plane.triangle block.old.rect }
     requires edges { edges ≡ record { triangle = (W.place walk).plane.triangle; x = column.now.x; y = column.now.clip.top } }
     requires walk { W.place walk ≡ record (W.place walk) { x = column.now.x; y = column.now.clip.top } }
-    requires plane { (W.place walk).plane ≡ plane.now }
-    requires set { set.now ≡ plane.now.triangle }
     requires left { block.old.rect.left ≤ (W.place walk).left }
     requires top { block.old.rect.top ≤ (W.place walk).top }
     requires named { IsNamed (W.place walk).plane column.now.mask block.old.rect }
@@ -152,22 +125,9 @@ fn depth_rows<A: Allocator, W: Walks>(
     ensures { ColumnDrew (record { brush = brush; plane = (W.place walk).plane; mask = column.now.mask; clip = column.now.clip }) block.old block.new column.now.x result }
 {
     if column.mask == 0 {
-        depth_spans(
-            block, column, 0, set, plane, edges, walk, func, write, brush,
-        )
+        depth_spans(block, column, 0, edges, walk, func, write, brush)
     } else {
-        depth_spans(
-            block,
-            column,
-            column.mask,
-            set,
-            plane,
-            edges,
-            walk,
-            func,
-            write,
-            brush,
-        )
+        depth_spans(block, column, column.mask, edges, walk, func, write, brush)
     }
 }
 
@@ -176,8 +136,6 @@ fn depth_rows<A: Allocator, W: Walks>(
 fn depth_column<A: Allocator, W: Walks>(
     block: &mut TileBlock<A>,
     column: &Column,
-    set: &EdgeSet,
-    plane: &Plane,
     edges: EdgeWalk<'_>,
     walk: W,
     func: Compare,
@@ -187,8 +145,6 @@ fn depth_column<A: Allocator, W: Walks>(
     requires column { IsColumn column.now (W.place walk).plane.triangle block.old.rect }
     requires edges { edges ≡ record { triangle = (W.place walk).plane.triangle; x = column.now.x; y = column.now.clip.top } }
     requires walk { W.place walk ≡ record (W.place walk) { x = column.now.x; y = column.now.clip.top } }
-    requires plane { (W.place walk).plane ≡ plane.now }
-    requires set { set.now ≡ plane.now.triangle }
     requires left { block.old.rect.left ≤ (W.place walk).left }
     requires top { block.old.rect.top ≤ (W.place walk).top }
     requires named { IsNamed (W.place walk).plane column.now.mask block.old.rect }
@@ -196,82 +152,20 @@ fn depth_column<A: Allocator, W: Walks>(
     ensures { ColumnDrew (record { brush = brush; plane = (W.place walk).plane; mask = column.now.mask; clip = column.now.clip }) block.old block.new column.now.x result }
 {
     match func {
-        Compare::Never => depth_rows(
-            block,
-            column,
-            set,
-            plane,
-            edges,
-            walk,
-            Compare::Never,
-            write,
-            brush,
-        ),
-        Compare::Less => depth_rows(
-            block,
-            column,
-            set,
-            plane,
-            edges,
-            walk,
-            Compare::Less,
-            write,
-            brush,
-        ),
-        Compare::Equal => depth_rows(
-            block,
-            column,
-            set,
-            plane,
-            edges,
-            walk,
-            Compare::Equal,
-            write,
-            brush,
-        ),
+        Compare::Never => depth_rows(block, column, edges, walk, Compare::Never, write, brush),
+        Compare::Less => depth_rows(block, column, edges, walk, Compare::Less, write, brush),
+        Compare::Equal => depth_rows(block, column, edges, walk, Compare::Equal, write, brush),
         Compare::LessEqual => {
-            depth_rows(
-                block,
-                column,
-                set,
-                plane,
-                edges,
-                walk,
-                Compare::LessEqual,
-                write,
-                brush,
-            )
+            depth_rows(block, column, edges, walk, Compare::LessEqual, write, brush)
         }
-        Compare::Greater => depth_rows(
-            block,
-            column,
-            set,
-            plane,
-            edges,
-            walk,
-            Compare::Greater,
-            write,
-            brush,
-        ),
+        Compare::Greater => depth_rows(block, column, edges, walk, Compare::Greater, write, brush),
         Compare::NotEqual => {
-            depth_rows(
-                block,
-                column,
-                set,
-                plane,
-                edges,
-                walk,
-                Compare::NotEqual,
-                write,
-                brush,
-            )
+            depth_rows(block, column, edges, walk, Compare::NotEqual, write, brush)
         }
         Compare::GreaterEqual => {
             depth_rows(
                 block,
                 column,
-                set,
-                plane,
                 edges,
                 walk,
                 Compare::GreaterEqual,
@@ -279,17 +173,7 @@ fn depth_column<A: Allocator, W: Walks>(
                 brush,
             )
         }
-        Compare::Always => depth_rows(
-            block,
-            column,
-            set,
-            plane,
-            edges,
-            walk,
-            Compare::Always,
-            write,
-            brush,
-        ),
+        Compare::Always => depth_rows(block, column, edges, walk, Compare::Always, write, brush),
     }
 }
 
@@ -399,7 +283,7 @@ pub(crate) fn draw_column<A: Allocator, W: Walks>(
     match brush.tests {
         Tests::Open => open_column(block, column, edges, plane, *brush),
         Tests::Depth(func, write) => {
-            depth_column(block, column, set, plane, edges, walk, func, write, *brush)
+            depth_column(block, column, edges, walk, func, write, *brush)
         }
         Tests::Stencil => stencil_column(block, column, set, plane, edges, walk, *brush),
     }

@@ -1,6 +1,6 @@
 //! The spans of a column, one by one.
 
-ghost use Rattle.std.specs.Prelude.{◌≡◌, ◌<◌, ◌≤◌, ◌+◌, ◌&&◌, nat_le, nat_lt, ℕ, Some, true, false, IsTrue, IfSome, if◌then◌else◌};
+ghost use Rattle.std.specs.Prelude.{◌≡◌, ◌<◌, ◌≤◌, ◌+◌, ◌&&◌, nat_le, nat_lt, ℕ, true, IsTrue, IfSome, if◌then◌else◌};
 ghost use Rattle.gfxspec.specs.Limits.{side_bound};
 ghost use Rattle.gfxspec.specs.Raster.{centre};
 ghost use Rattle.edges.specs.Walk.{StepRight};
@@ -68,16 +68,8 @@ pub(crate) fn open_row<A: Allocator>(
     lanes_in(cover)
 }
 
-/// Whether depth is known to pass at no pixel.
-#[inline(always)]
-fn fails_everywhere(known: Option<bool>) -> bool
-    ensures { IsTrue result → known ≡ Some false }
-{
-    matches!(known, Some(false))
-}
-
 /// A span under a brush that tests depth alone; the answer is how many pixels pass. It stands in the loop over rows
-/// itself, so that the comparison is decided before the loop. Where depth is known to pass at none of its pixels, nothing is done.
+/// itself, so that the comparison is decided before the loop.
 #[inline(always)]
 pub(crate) fn depth_row<A: Allocator, W: Walks>(
     block: &mut TileBlock<A>,
@@ -86,8 +78,6 @@ pub(crate) fn depth_row<A: Allocator, W: Walks>(
     row: u32,
     edges: &EdgeWalk<'_>,
     walk: &W,
-    covered: bool,
-    known: Option<bool>,
     func: Compare,
     write: bool,
     brush: &Brush,
@@ -101,16 +91,10 @@ pub(crate) fn depth_row<A: Allocator, W: Walks>(
     requires top { block.old.rect.top ≤ (W.place walk.now).top }
     requires named { IsNamed (W.place walk.now).plane column.now.mask block.old.rect }
     requires kind { tests_of brush.now.state ≡ Depth func write }
-    requires covered { IsTrue covered → AreOpen column.now.mask (W.place walk.now).plane.triangle block.old.rect column.now.x row (row + 1) }
-    requires known { IfSome known (λ deep. AllHave deep brush.now.state (W.place walk.now).plane block.old column.now.x row (row + 1)) }
     ensures { RowDrew (record { brush = brush.now; plane = (W.place walk.now).plane; mask = column.now.mask; clip = column.now.clip }) block.old block.new column.now.x (block.old.rect.top + row) result }
 {
-    let cover = lanes_left(column, mask, edges, covered);
+    let cover = lanes_left(column, mask, edges, false);
     if cover == 0 {
-        return 0;
-    }
-    let hidden = fails_everywhere(known);
-    if hidden {
         return 0;
     }
     let depths = walk.depths();

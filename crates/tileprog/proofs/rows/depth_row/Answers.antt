@@ -1,9 +1,7 @@
-use Rattle.std.proofs.Common.{sym, subst, refl, ◌+◌, Bool, false, Option}
-use Rattle.std.specs.Prelude.{IfSome}
-use Rattle.tileprog.specs.Cells.{AllHave}
+use Rattle.std.proofs.Common.{sym, refl, ◌+◌}
 use Rattle.tileprog.specs.Strokes.{Stroke}
 use Rattle.tileprog.proofs.Reaching.{depths_at, walked_depth}
-use Rattle.tileprog.proofs.Rowing.{lanes_at, row_missed, row_drawn, row_hidden}
+use Rattle.tileprog.proofs.Rowing.{lanes_at, row_missed, row_drawn}
 use Rattle.tileprog.proofs.rows.depth_row.Goals as goal
 
 pub returns-then-cover-eq0 : goal.returns-then-cover-eq0
@@ -31,17 +29,3 @@ returns g c =
     c.draw_depths-bits.new.block c.depths-depths.result c.draw_depths-bits.result c.lanes_in.result
     (walked_depth s old.rect k.x y cover c.requires.named lanes c.requires.row.top c.requires.row.bottom c.depths-depths.result deep)
     c.draw_depths-bits.ensures.block c.draw_depths-bits.ensures.bits c.lanes_in.ensures.value c.lanes_in.ensures.few
-
-pub returns-then-hidden : goal.returns-then-hidden
-returns-then-hidden g c =
-    let k = c.args.column.now in
-    let old = c.args.block.now in
-    let at = (g.W.Walks.place c.args.walk.now).plane in
-    let y = old.rect.top + c.args.row in
-    let s : Stroke = record { brush = c.args.brush.now; plane = at; mask = k.mask; clip = k.clip } in
-    let cover = c.lanes_left-cover.result in
-    let lanes = lanes_at c.args.edges.now at.triangle k.x y k.mask k.clip.left k.clip.right cover c.requires.edges c.lanes_left-cover.ensures in
-    let P : Option Bool → Type 0 = λ o. IfSome o (λ deep. AllHave deep s.brush.state at old k.x c.args.row (c.args.row + 1)) in
-    let all : AllHave false s.brush.state at old k.x c.args.row (c.args.row + 1) = subst P (c.fails_everywhere-hidden.ensures c.if-hidden.true) c.requires.known in
-    row_hidden s old k.span c.args.row k.x y cover (sym c.requires.column.x) refl c.requires.named c.requires.column.within lanes c.requires.row.top c.requires.row.bottom
-    false all c.args.func c.args.write c.requires.kind refl
