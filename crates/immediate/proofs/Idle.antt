@@ -1,6 +1,6 @@
 -- A list that draws, clears and begins nothing changes nothing.
 use Rattle.std.proofs.Common.{◌≡◌, ◌∙◌, sym, ap, refl, ℕ, List, [], ◌∷◌, map}
-use Rattle.std.specs.Prelude.{Bool, true, false, ◌||◌}
+use Rattle.std.specs.Prelude.{Bool, false, ◌||◌}
 use Rattle.std.specs.List.{list_any}
 use Rattle.gfxspec.specs.Commands.{Command, SetVertices, SetIndices, SetTopology, SetRaster, SetScissor, SetDepthStencil, SetBlend, SetPredication, Draw, DrawIndexed, ClearColor, ClearDepthStencil, Begin, End, Kept}
 use Rattle.gfxspec.specs.Recorded.{items, is_drawing}
@@ -9,7 +9,6 @@ use Rattle.gfxspec.specs.Items.{after_items}
 use Rattle.gfxspec.specs.Predication.{result_of}
 use Rattle.meaning.specs.Contexts.{counted_or, result_after, result_at}
 use Rattle.tileblock.specs.Surface.{pixel_of}
-use Rattle.cmdlist.specs.Recorder.{is_kept_alone}
 use Rattle.immediate.specs.Issues.{acts}
 use Rattle.immediate.specs.Outputs.{Outputs, performed_over, HasRun}
 use Rattle.immediate.proofs.Settled.{first_false, second_false, nothing_drawn, none_withheld}

@@ -1,5 +1,5 @@
 -- One for each of four ports.
-use Rattle.std.proofs.Common.{◌≡◌, ◌≢◌, refl, ℕ, zero, suc, ◌<◌, ◌⊎◌, inl, inr, arith, true, false, eqb}
+use Rattle.std.proofs.Common.{◌≡◌, refl, ℕ, zero, suc, ◌<◌, ◌⊎◌, inl, inr, arith, true, false, eqb}
 use Rattle.recorders.specs.declared.four.Four.{Four}
 use Rattle.recorders.specs.Fours.{at_port, with_port}
 

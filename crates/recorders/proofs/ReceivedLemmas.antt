@@ -1,7 +1,7 @@
 -- One more list came.
 use Rattle.std.proofs.Common.{◌≡◌, ◌∙◌, ap, sym, subst, refl, ℕ, zero, suc, ◌<◌, ⊎_elim, arith, Bool, true, false, true≢false, eqb, List, [], ◌∷◌, ◌++◌, length, take, Some, None, Option}
-use Rattle.std.specs.Prelude.{slice_index_or, unwrap_or, MatchOption, All}
-use Rattle.std.proofs.lemmas.List.{append-nil, take_all, take-append-le, length-append, length-take, get_or-take, map-append}
+use Rattle.std.specs.Prelude.{unwrap_or, MatchOption, All}
+use Rattle.std.proofs.lemmas.List.{append-nil, take_all, take-append-le, length-append, map-append}
 use Rattle.atomic_table.specs.Seated.{TableId}
 use Rattle.gfxspec.specs.Commands.{Command}
 use Rattle.scenetext.specs.Scene.{Line}
@@ -12,7 +12,7 @@ use Rattle.recorders.specs.declared.pair.Handed.{Handed}
 use Rattle.recorders.specs.Fours.{at_port, with_port}
 use Rattle.recorders.specs.Apart.{listed}
 use Rattle.recorders.specs.Pairs.{lists_of_sent, shelf_of, IsBeyond}
-use Rattle.recorders.specs.Desks.{Desked, IsHanded, IsSameDesk, AreSameDesks, LacksBy, SentAgrees}
+use Rattle.recorders.specs.Desks.{Desked, IsHanded, LacksBy, SentAgrees}
 use Rattle.recorders.specs.Asking.{Asked}
 use Rattle.recorders.specs.Receiving.{Receipts, IsDeskOf, AreDesks, AreHanded, AreBack, TakenAgrees, ReceiptAgrees, receipt_frame, receipt_right}
 use Rattle.recorders.proofs.Fours.{same_or_other, each_of_four}

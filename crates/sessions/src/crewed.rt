@@ -1,12 +1,10 @@
 //! The lines of the immediate context, taken while a crew runs the tiles beside the caller.
 
-ghost use Rattle.std.specs.Prelude.{true, ◌≡◌, ◌<◌, ◌≤◌, length, map, OnOk, IfOk, IfErr, MatchOption, [], None, Some};
-ghost use Rattle.gfxspec.specs.Recorded.{queries_open};
-ghost use Rattle.gfxspec.specs.Refusals.{first_row, flush_rows, pixel_rows, query_rows};
-ghost use Rattle.scenetext.specs.Seen.{actor_value, verb_value, line_value};
+ghost use Rattle.std.specs.Prelude.{true, ◌≡◌, ◌<◌, length, map, OnOk, IfOk, IfErr, MatchOption, [], None, Some};
+ghost use Rattle.gfxspec.specs.Refusals.{first_row};
+ghost use Rattle.scenetext.specs.Seen.{verb_value, line_value};
 ghost use Rattle.scenetext.specs.Scene.{Execute};
 ghost use Rattle.scenetext.specs.Spelling.{AreLines};
-ghost use Rattle.immediate.specs.Held.{shown, answered, Runs};
 ghost use Rattle.sessions.specs.Telling.{replied};
 ghost use Rattle.sessions.specs.Owning.{NamesContext, own_rows, OwnTaken, own_answers, Paused, missing_of, OwnReached, OwnPaused, ListsOf, MayPlay, HasPlayed, missing_in};
 
@@ -18,7 +16,7 @@ use gfxspec::GfxError;
 use immediate::{ImmediateContext, TileCrew};
 use recorders::{Shelves, take_call};
 use scenetext::{Actor, Line, Verb};
-use std::alloc::{AllocError, Allocator};
+use std::alloc::Allocator;
 use std::sync::Wait;
 use std::thread::Threads;
 use workers::Gate;

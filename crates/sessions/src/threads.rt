@@ -1,6 +1,6 @@
 //! A script, performed in threads as far as to what there is to write.
 
-ghost use Rattle.std.specs.Prelude.{true, ◌≡◌, ◌≤◌, ◌<◌, map, IfOk, MatchOption};
+ghost use Rattle.std.specs.Prelude.{true, ◌≡◌, ◌<◌, map, MatchOption};
 ghost use Rattle.gfxspec.specs.Limits.{is_size};
 ghost use Rattle.scenetext.specs.Seen.{line_value};
 ghost use Rattle.scenetext.specs.SeenScene.{scene_value};
