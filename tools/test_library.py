@@ -40,7 +40,7 @@ TESTS = install_library.LIBRARY / "tests"
 DATA = package_path.TOP / "crates" / "gallery" / "data"
 INDEX = DATA / "index"
 STORED = package_path.TOP / "crates" / "gallery" / "stdout"
-FLAGS = ("-std=c11", "-D_POSIX_C_SOURCE=199309L", "-O1", "-g", "-Wall", "-Wextra", "-Werror")
+FLAGS = ("-std=c11", "-D_POSIX_C_SOURCE=199309L", "-O1", "-g", "-pthread", "-Wall", "-Wextra", "-Werror")
 SANITIZED = ("-fsanitize=address,undefined", "-fno-sanitize-recover=all")
 VALGRIND = ("valgrind", "--quiet", "--error-exitcode=9", "--leak-check=full", "--errors-for-leak-kinds=all")
 SECONDS = 1200
@@ -217,6 +217,7 @@ def test_compiler(tests, compiler):
         return False
     for kind in ("", "-shared", "-sanitized"):
         tests.run(f"{compiler} refusals{kind}", tests.refusals, compiler, kind)
+        tests.run(f"{compiler} threads{kind}", tests.output, [tests.folder / f"{compiler}-threads{kind}"])
         tests.run(f"{compiler} memory{kind}", tests.memory, compiler, [FIRST], kind)
     tests.run(f"{compiler} example", tests.example, compiler)
     tests.run(f"{compiler} numbers of 128 bits", tests.output, [tests.folder / f"{compiler}-wide-sanitized"])
