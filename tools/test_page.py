@@ -318,6 +318,20 @@ class PageTests:
         self.browser.key("Escape", 27)
         check(self.browser.value("page.pinned === null"), "Escape doesn't leave the pixel")
 
+    def words(self):
+        """What the caret is on is said: what a number means, and the word's arguments."""
+        self.open()
+        for line, column, wanted in (
+            (8, 9, "depth_func: 1 NEVER, 2 LESS, 3 EQUAL"), (4, 8, "x: 5595794 is 85.385 pixels"), (1, 8, "width is 0 to 4294967295"),
+            (20, 10, "x is 0 to 4294967295"),
+        ):
+            self.browser.value(
+                f"page.editor.goTo({line}); (() => {{ const area = page.editor.area, at = area.selectionStart + {column};"
+                "area.setSelectionRange(at, at); area.dispatchEvent(new Event('click')) })()"
+            )
+            check(self.text("#word").startswith(wanted), f"{self.text('#word')}, and not {wanted}")
+        check(self.text("#words").count("i, d0 to d7") == 14, self.text("#words"))
+
     def planes(self):
         """Depth and stencil as pictures."""
         self.open()
@@ -419,7 +433,7 @@ def test_in_browser(results, program, module, picture):
         (folder / "index.html").write_text(make_page.built(module.read_bytes()), encoding="utf-8")
         browser.resize(1240, 780)
         tests = PageTests(browser, (folder / "index.html").as_uri())
-        for name in ("answers", "menu", "fault", "slider", "pointer", "keys", "planes", "keystroke", "stop", "gallery"):
+        for name in ("answers", "menu", "fault", "slider", "pointer", "keys", "words", "planes", "keystroke", "stop", "gallery"):
             results.test(f"browser {name}", getattr(tests, name))
         results.test("browser view", lambda: with_a_script(tests, folder))
         results.test("browser host", lambda: from_a_host(tests, folder))

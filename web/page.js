@@ -35,6 +35,7 @@ class Page {
         this.hover = null;
         this.values = new Map();
         this.listen();
+        part("words").append(wordsShown());
         this.fillMenu(opening);
     }
 
@@ -152,7 +153,7 @@ class Page {
 
     failed(error) {
         document.documentElement.dataset.state = "failed";
-        part("verdict").className = "verdict bad";
+        Object.assign(part("verdict"), { className: "verdict bad" }).dataset.key = "";
         const text = error.message === "stopped" ? "Stopped: the image is that of the script before." : `The device stopped: ${error.message}.`;
         part("verdict").replaceChildren(element("p", {}, text));
     }
@@ -166,6 +167,10 @@ class Page {
         this.fault = refused;
         this.isJudged = true;
         this.editor.mark({ fault: this.faultLine });
+        // (what is said again as it was would be read aloud again)
+        const key = refused ? `${refused.line} ${refused.number} ${this.whole}` : "taken";
+        if (part("verdict").dataset.key === key) return;
+        part("verdict").dataset.key = key;
         part("verdict").className = refused ? "verdict bad" : "verdict";
         if (!refused) {
             part("verdict").replaceChildren(element("p", { className: "quiet" }, "Every line is taken."));
@@ -211,6 +216,8 @@ class Page {
         this.jobs.drop(["history"]);
         this.view.markPixel(pixel);
         if (!pixel || !this.shown) return;
+        const isOther = !this.asked || pixel.x !== this.asked.x || pixel.y !== this.asked.y;
+        if (isOther) part("changes").replaceChildren();
         this.asked = pixel;
         this.askValue(pixel);
         document.documentElement.dataset.changes = "asked";
@@ -228,7 +235,7 @@ class Page {
         this.jobs.ask("pixels", { last: this.shown, area }).then(({ values }) => {
             this.values.set(key, new Map(values.map((value) => [`${value.x} ${value.y}`, value])));
             this.showValue();
-        }, (error) => this.failed(error));
+        }, (error) => this.pixelFailed(error));
     }
 
     showValue() {
@@ -243,7 +250,11 @@ class Page {
             part("changes").replaceChildren(changesShown(changes, (line) => this.goTo(line)));
             this.editor.mark({ touched: changes.flatMap(({ line, by }) => (by ? [line, by] : [line])) });
             document.documentElement.dataset.changes = `${x} ${y}`;
-        }, (error) => this.failed(error));
+        }, (error) => this.pixelFailed(error));
+    }
+
+    pixelFailed(error) {
+        part("changes").replaceChildren(element("p", { className: "quiet" }, error.message === "stopped" ? "Stopped." : `${error.message}.`));
     }
 
     movePixel(event) {

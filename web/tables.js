@@ -24,7 +24,7 @@ function withCode(text) {
     return text.split("`").map((piece, at) => (at % 2 ? element("code", {}, piece) : piece));
 }
 
-/** What stands in the line of the caret: its word, with the argument at the caret in bold. */
+/** What stands in the line of the caret: the number there, and the word with all its arguments. */
 function wordHelp({ text, column, line }) {
     const words = text.split(" ");
     const first = line === 1 ? 0 : 1;
@@ -35,8 +35,32 @@ function wordHelp({ text, column, line }) {
     const shown = [element("code", {}, word.name)];
     word.arguments.forEach((argument, place) => shown.push(" ", element(place === named ? "b" : "span", {}, argument.name)));
     if (word.repeats) shown.push(" and so on");
-    if (named >= 0) shown.push(`: ${word.arguments[named].name} is ${word.arguments[named].range}`);
-    return shown;
+    const value = named < 0 ? [] : [element("div", {}, ...valueHelp(word, named, words[at + 1 + first]))];
+    return [...value, element("div", {}, ...shown)];
+}
+
+/** What an argument may be, and what the one that stands there is. */
+function valueHelp(word, named, text) {
+    const { name, range, values } = word.arguments[named];
+    const shown = Object.entries(values).map(([value, meaning]) => element(value === text ? "b" : "span", {}, `${value} ${meaning}`));
+    if (shown.length) return [`${name}: `, ...shown.flatMap((it, at) => (at ? [", ", it] : [it]))];
+    // (the arguments of `pixel` are whole pixels)
+    const [unit, of] = (word.name !== "pixel" && TABLES.units[name]) || [];
+    if (!unit || !/^-?[0-9]+$/.test(text || "")) return [`${name} is ${range}`];
+    return [`${name}: ${text} is ${(Number(text) / unit).toFixed(4).replace(/\.?0+$/, "")} ${of}`];
+}
+
+/** All words, with what stands behind each. */
+function wordsShown() {
+    const rows = Object.values(TABLES.words).map((word) => element("tr", {},
+        element("td", {}, element("code", {}, word.name)),
+        element("td", {}, word.actors),
+        element("td", {}, word.arguments.map(({ name, range }, at, all) => {
+            const next = all[at + 1];
+            return next && next.range === range ? name : `${name} (${range})`;
+        }).join(", ") + (word.repeats ? " and so on" : ""))));
+    const head = ["word", "of", "behind it"].map((name) => element("th", { scope: "col" }, name));
+    return element("table", {}, element("thead", {}, element("tr", {}, ...head)), element("tbody", {}, ...rows));
 }
 
 /** A colour as a swatch and four numbers. */

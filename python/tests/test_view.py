@@ -70,7 +70,27 @@ def test_numbers_and_words_are_those_of_the_package(built: str) -> None:
         assert tables["messages"][str(number)] == {"when": message.when, "advice": message.advice}
     assert set(tables["words"]) == {"target", *WORDS}
     assert tables["words"]["vb"]["repeats"] and not tables["words"]["draw"]["repeats"]
-    assert tables["words"]["clearc"]["arguments"][3] == {"name": "alpha", "range": "0 to 255"}
+    alpha = {"name": "alpha", "range": "0 to 255", "values": {}}
+    assert tables["words"]["clearc"]["arguments"][3] == alpha
+    named = {
+        (word["name"], it["name"].split(".")[-1]): it["values"]
+        for word in tables["words"].values()
+        for it in word["arguments"]
+        if it["values"]
+    }
+    assert named["ds", "depth_func"]["2"] == named["ds", "stencil_func"]["2"] == "LESS"
+    assert (
+        named["ds", "stencil_pass_op"]["8"] == "DECR" and named["blend", "logic_op"]["10"] == "XOR"
+    )
+    assert (
+        named["raster", "cull_mode"]["3"] == "BACK" and named["blend", "write_mask"]["4"] == "BLUE"
+    )
+    assert named["topology", "topology"] == {"4": "TRIANGLELIST", "5": "TRIANGLESTRIP"}
+    assert len(named) == 9
+    assert tables["units"]["x"] == [65_536, "pixels"]
+    actors = {name: word["actors"] for name, word in tables["words"].items()}
+    assert (actors["target"], actors["vb"]) == ("line 1", "i, d0 to d7")
+    assert (actors["finish"], actors["exec"]) == ("d0 to d7", "i")
 
 
 def test_the_menu(built: str) -> None:

@@ -13,13 +13,23 @@ import json
 import os
 import re
 from dataclasses import asdict, dataclass
+from enum import IntEnum, IntFlag
 from pathlib import Path
 from typing import Final
 
 from .errors import PageMissing
+from .limits import DEEPEST, SUBPIXELS
 from .messages import FAULTS, REFUSALS
 from .program import repository
-from .words import TARGET, WORDS, Word
+from .states import (
+    ColorWriteEnable,
+    ComparisonFunc,
+    CullMode,
+    LogicOp,
+    PrimitiveTopology,
+    StencilOp,
+)
+from .words import TARGET, WORDS, Argument, Word
 
 VARIABLE: Final = "YUZURATCHET_PAGE"
 BUILT: Final = Path("web", "out", "index.html")
@@ -29,6 +39,12 @@ FOR_THE_WORKER: Final = ("script", "targa", "planes", "device", "worker")
 
 FOR_THE_PAGE: Final = ("tables", "jobs", "editor", "view", "page")
 """Sources that run in the page, in this order."""
+
+UNITS: Final = {
+    **{name: [SUBPIXELS, "pixels"] for name in ("x", "y")},
+    **{name: [DEEPEST, "of the depth"] for name in ("z", "depth")},
+}
+"""Of some arguments, what they count in parts."""
 
 HOW_TO_BUILD: Final = f"""\
 The page is built in a clone of the repository, of its sources and the WebAssembly module:
@@ -71,7 +87,7 @@ def build_page(sources: Path, module: bytes, gallery: list[Entry], opening: str)
     style = f"<style>\n{(sources / 'style.css').read_text(encoding='utf-8')}</style>"
     menu = json.dumps([asdict(entry) for entry in gallery]).encode("ascii")
     data = [
-        _json("tables", {"messages": message_table(), "words": word_table()}),
+        _json("tables", {"messages": message_table(), "words": word_table(), "units": UNITS}),
         _json("opening", {"name": opening, "text": ""}),
         _packed("gallery", menu),
         _packed("module", module),
@@ -112,9 +128,38 @@ def word_table() -> dict[str, dict[str, object]]:
     return {word.name: _word(word) for word in (TARGET, *WORDS.values())}
 
 
+def _kind(name: str) -> type[IntEnum] | type[IntFlag] | None:
+    """The enumeration of an argument's values."""
+    kinds = {"topology": PrimitiveTopology, "cull_mode": CullMode, "logic_op": LogicOp}
+    if name in kinds:
+        return kinds[name]
+    if name == "write_mask":
+        return ColorWriteEnable
+    return next((kind for end, kind in _ENDS.items() if name.endswith(end)), None)
+
+
+_ENDS: Final[dict[str, type[IntEnum]]] = {"_func": ComparisonFunc, "_op": StencilOp}
+
+
+def _argument(argument: Argument) -> dict[str, object]:
+    kind = _kind(argument.name)
+    values = {str(int(it)): it.name for it in kind.__members__.values()} if kind else {}
+    return {"name": argument.name, "range": argument.range, "values": values}
+
+
 def _word(word: Word) -> dict[str, object]:
-    arguments = [{"name": it.name, "range": it.range} for it in word.arguments]
-    return {"name": word.name, "arguments": arguments, "repeats": word.counts is None}
+    arguments = [_argument(it) for it in word.arguments]
+    actors = "i, d0 to d7" if word.immediate and word.deferred else "d0 to d7"
+    if word is TARGET:
+        actors = "line 1"
+    elif not word.deferred:
+        actors = "i"
+    return {
+        "name": word.name,
+        "actors": actors,
+        "arguments": arguments,
+        "repeats": word.counts is None,
+    }
 
 
 def _json(name: str, value: object) -> str:
