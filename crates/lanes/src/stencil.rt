@@ -143,6 +143,9 @@ impl StencilTest {
     pub fn passes(&self, stored: &[u8; 8]) -> u8
         ensures { (j : ℕ) → j < 8 → (bit_at result j == 1) ≡ reference_passes self.now (slice_index stored.now j) }
     {
+        if self.func == Compare::Always {
+            return 255;
+        }
         byte_mask(
             self.func,
             &[self.compared; 8],
