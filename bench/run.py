@@ -7,7 +7,8 @@ A frame is one more execution: a scene is drawn with one frame and with 1 + m fr
 medians is divided by m; the processor time of a frame is had in the same way, that of all threads together. The table also has
 the time of the whole run with one frame, reading and writing included, and its peak memory, the largest resident set of the
 program. With --workers the program is told to draw with N workers beside the caller, 0 to 15, and the table has a row for each
-number; the image's digest is the same for every N.
+number, timed in the same turns; the image's digest is the same for every N. Where 0 is among them, the column "Times alone" has
+the frame of each number divided by that of 0: above 1.00 the workers cost time.
 
 With --against another program is timed in the same turns, run for run. The last column then has its frame divided by the
 program's, the median of the runs and what they lie between: above 1.00 the program is faster. Two programs whose
@@ -92,14 +93,14 @@ def written(room, name):
 
 
 class Timed:
-    """The runs of one program over a scene, with one frame and with more."""
+    """The runs of one program over a scene with so many workers, with one frame and with more."""
 
-    def __init__(self, program, name):
-        self.program, self.more = program, MORE[name]
+    def __init__(self, program, workers, name):
+        self.program, self.workers, self.more = program, workers, MORE[name]
         self.runs = {1: [], 1 + self.more: []}
 
-    def take(self, frames, file, image, words):
-        self.runs[frames].append(run(self.program, file, image, words))
+    def take(self, frames, file, image):
+        self.runs[frames].append(run(self.program, file, image, ["--workers", str(self.workers)]))
 
     @property
     def last(self):
@@ -119,21 +120,22 @@ class Timed:
 
 
 def ratio(timed, other):
-    """How many times as fast the program is as the other: the median of the runs, and what they lie between."""
+    """What the other takes divided by what the first takes: the median of the runs, and what they lie between."""
     ratios = sorted(b / a for a, b in zip(timed.frames(), other.frames()) if a > 0 and b > 0)
     if not ratios:
         return "not to be told"
     return f"{statistics.median(ratios):.2f} ({ratios[0]:.2f} to {ratios[-1]:.2f})"
 
 
-def timed_in_turns(given, programs, files, image, name, words):
-    """The runs of each program over a scene."""
-    all_timed = [Timed(program, name) for program in programs]
+def timed_in_turns(given, programs, files, image, name):
+    """The runs over a scene: for each number of workers those of each program."""
+    all_timed = {workers: [Timed(program, workers, name) for program in programs] for workers in given.workers}
+    each = [timed for group in all_timed.values() for timed in group]
     for _ in range(given.runs):
         for frames in reversed(files):
-            for timed in all_timed:
-                timed.take(frames, files[frames], image, words)
-    if len({(it.last.answers, it.last.digest) for it in all_timed}) > 1:
+            for timed in each:
+                timed.take(frames, files[frames], image)
+    if len({(it.last.answers, it.last.digest) for it in each}) > 1:
         sys.exit(f"run.py: the programs' answers or images differ on {name}")
     return all_timed
 
@@ -142,13 +144,20 @@ def rows(given, programs, room, name):
     """The table's rows of a scene, one for each number of workers."""
     files, image = written(room, name), pathlib.Path(room, "out.tga")
     size = files[1].stat().st_size / 1e6
-    for workers in given.workers:
-        timed, *others = timed_in_turns(given, programs, files, image, name, ["--workers", str(workers)])
+    all_timed = timed_in_turns(given, programs, files, image, name)
+    for workers, (timed, *others) in all_timed.items():
         cells = [name, workers, f"{size:.1f} MB", f"{timed.frame('seconds'):.2f} ms", f"{timed.frame('processor'):.2f} ms"]
         cells += [f"{timed.median('seconds'):.2f} s", f"{timed.last.memory:.0f} MB", timed.last.answers.count("\n"), timed.last.digest]
+        if has_alone(given):
+            cells.append(ratio(all_timed[0][0], timed))
         yield [*cells, *(ratio(timed, other) for other in others)]
     for file in files.values():
         file.unlink()
+
+
+def has_alone(given):
+    """Whether rows are compared with that of no workers."""
+    return 0 in given.workers and len(given.workers) > 1
 
 
 def table_row(cells):
@@ -179,7 +188,7 @@ def main():
         programs = [find_program(it) for it in (given.program, given.against)[: 1 + bool(given.against)]]
     except ProgramMissing as error:
         sys.exit(f"run.py: {error}")
-    headings = HEADINGS + ["Against the other: times as fast"] * bool(given.against)
+    headings = HEADINGS + ["Times alone"] * has_alone(given) + ["Against the other: times as fast"] * bool(given.against)
     print(f"On {machine()}, medians of {given.runs} runs:\n")
     print(table_row(headings) + "\n" + "|---" * len(headings) + "|")
     with tempfile.TemporaryDirectory() as room:

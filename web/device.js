@@ -23,7 +23,7 @@ class Device {
         this.calls = instance.exports;
     }
 
-    /** 200 is version 0.2.0. */
+    /** 300 is version 0.3.0. */
     get version() {
         return this.calls.yuzuratchet_version();
     }

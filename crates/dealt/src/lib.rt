@@ -6,8 +6,8 @@
 //! of a tile. What memory refuses is left out; the numbers that no deque has are for the caller to go through at the end.
 #![tactic(auto)]
 
-mod kit;
-mod pile;
+mod own_queue;
 mod rule;
+mod work_queue;
 
-pub use kit::{Kit, deal_kits};
+pub use work_queue::{WorkQueue, deal_queues};

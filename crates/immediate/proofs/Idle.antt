@@ -1,6 +1,6 @@
 -- A list that draws, clears and begins nothing changes nothing.
 use Rattle.std.proofs.Common.{◌≡◌, ◌∙◌, sym, ap, refl, ℕ, List, [], ◌∷◌, map}
-use Rattle.std.specs.Prelude.{Bool, true, false, ◌||◌}
+use Rattle.std.specs.Prelude.{Bool, false, ◌||◌}
 use Rattle.std.specs.List.{list_any}
 use Rattle.gfxspec.specs.Commands.{Command, SetVertices, SetIndices, SetTopology, SetRaster, SetScissor, SetDepthStencil, SetBlend, SetPredication, Draw, DrawIndexed, ClearColor, ClearDepthStencil, Begin, End, Kept}
 use Rattle.gfxspec.specs.Recorded.{items, is_drawing}
@@ -9,7 +9,6 @@ use Rattle.gfxspec.specs.Items.{after_items}
 use Rattle.gfxspec.specs.Predication.{result_of}
 use Rattle.meaning.specs.Contexts.{counted_or, result_after, result_at}
 use Rattle.tileblock.specs.Surface.{pixel_of}
-use Rattle.cmdlist.specs.Recorder.{is_kept_alone}
 use Rattle.immediate.specs.Issues.{acts}
 use Rattle.immediate.specs.Outputs.{Outputs, performed_over, HasRun}
 use Rattle.immediate.proofs.Settled.{first_false, second_false, nothing_drawn, none_withheld}
@@ -81,23 +80,3 @@ idle_run list o h =
 -- the same of commands that are still to be read
 pub idle_commands : {A : Type 0} (value : A → Command) (commands : List A) (o : Outputs) → list_any (λ k. acts (value k)) commands ≡ false → HasRun (map value commands) o o
 idle_commands value commands o h = idle_run (map value commands) o (sym (any_map value acts commands) ∙ h)
-
--- the kept state alone
-pub kept_is_idle : (list : List Command) → is_kept_alone list ≡ true → list_any acts list ≡ false
-kept_is_idle [] h = absurd cc
-kept_is_idle (Kept s ∷ []) h = refl
-kept_is_idle (Kept s ∷ c ∷ cs) h = absurd cc
-kept_is_idle (SetVertices v ∷ cs) h = absurd cc
-kept_is_idle (SetIndices v ∷ cs) h = absurd cc
-kept_is_idle (SetTopology v ∷ cs) h = absurd cc
-kept_is_idle (SetRaster v ∷ cs) h = absurd cc
-kept_is_idle (SetScissor v ∷ cs) h = absurd cc
-kept_is_idle (SetDepthStencil v r ∷ cs) h = absurd cc
-kept_is_idle (SetBlend v ∷ cs) h = absurd cc
-kept_is_idle (SetPredication v ∷ cs) h = absurd cc
-kept_is_idle (Draw count start ∷ cs) h = absurd cc
-kept_is_idle (DrawIndexed count start base ∷ cs) h = absurd cc
-kept_is_idle (ClearColor rgba ∷ cs) h = absurd cc
-kept_is_idle (ClearDepthStencil depth stencil ∷ cs) h = absurd cc
-kept_is_idle (Begin q ∷ cs) h = absurd cc
-kept_is_idle (End q ∷ cs) h = absurd cc

@@ -14,9 +14,6 @@ use Rattle.meaning.specs.Contexts.{counted_or, result_after, last_begun}
 use Rattle.std.proofs.Common.{cond}
 use Rattle.immediate.specs.Issues.{begins}
 
-some_last : (k : ℕ) (ks : List ℕ) → is_none (last_of (k ∷ ks)) ≡ false
-some_last k ks = refl
-
 begin_none : (q k p : ℕ) (cs : List Command) (b : Bool) → is_none (last_of (begun_from q (k + 1) cs)) ≡ not (list_any (begins q) cs)
     → is_none (last_of (cond b (k ∷ begun_from q (k + 1) cs) (begun_from q (k + 1) cs))) ≡ not (b || list_any (begins q) cs)
 begin_none q k p cs true rest = refl

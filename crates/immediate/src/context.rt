@@ -1,6 +1,6 @@
 //! The immediate context.
 
-ghost use Rattle.std.specs.Prelude.{true, false, ◌≡◌, ◌<◌, ◌≤◌, [], ◌∷◌, ◌++◌, ℕ, length, is_none, not, IfOk, IfErr, OnOk, OnErr, Some, None, map, replicate, nat_le, nat_lt, unwrap_or, if◌then◌else◌};
+ghost use Rattle.std.specs.Prelude.{true, false, ◌≡◌, ◌<◌, ◌≤◌, [], ℕ, is_none, not, IfOk, IfErr, OnOk, OnErr, Some, None, unwrap_or, if◌then◌else◌};
 ghost use Rattle.std.specs.List.{list_any};
 ghost use Rattle.gfxspec.specs.declared.TheConstants.{QUERY_LIMIT};
 ghost use Rattle.gfxspec.specs.declared.error.GfxError.TheVariants.{OutOfMemory};
@@ -9,7 +9,6 @@ ghost use Rattle.gfxspec.specs.Refusals.{AnswersBy, flush_rows, pixel_rows, quer
 ghost use Rattle.tileblock.specs.Surface.{IsWhole, pixel_of, size_rows};
 ghost use Rattle.meaning.specs.Standing.{IsNew};
 ghost use Rattle.meaning.specs.Contexts.{result_at};
-ghost use Rattle.cmdlist.specs.Seen.{command_value};
 ghost use Rattle.immediate.specs.Issues.{begins};
 ghost use Rattle.immediate.specs.Next.{ExecutesNext};
 ghost use Rattle.immediate.specs.Held.{Ran, held_of, context_of, shown, answered, Runs};
@@ -18,7 +17,7 @@ use crate::counts::some_begins;
 use crate::drawing::TileCrew;
 use crate::output::Output;
 use cmdlist::{Call, CommandList, DeferredContext, DeviceContext};
-use gfxspec::{GfxError, Pixel, QUERY_LIMIT, Size, WORKER_LIMIT};
+use gfxspec::{GfxError, Pixel, QUERY_LIMIT, WORKER_LIMIT};
 use port::{DrainPass, Ports, Submission};
 use std::alloc::Allocator;
 use std::marker::Model;
@@ -127,13 +126,6 @@ impl<A: Allocator + Copy + Send> ImmediateContext<A> {
             output,
             pending: DeferredContext::new(alloc),
         })
-    }
-
-    /// The size of the target in pixels.
-    pub fn size(&self) -> Size
-        ensures { result ≡ self.now.surface.size }
-    {
-        self.output.target().size()
     }
 
     /// The stored pixels: what the pixels hold, where no draw or clear is pending.

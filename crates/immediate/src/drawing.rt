@@ -122,7 +122,7 @@ pub(crate) fn draw_by_crew<'a, A: Allocator + Copy + Send + Sync, R: Wait, G: Ga
         return (Ok(counts), program);
     }
     let job = TileProgram::new(program);
-    match Board::new_named(crew.allocator(), &job) {
+    match Board::new(crew.allocator(), &job) {
         Ok((board, seat)) => {
             let (counts, job) = run_with_crew(rt, crew, board, seat, target, job, gate);
             (Ok(counts), job.into_compiled())

@@ -1,12 +1,12 @@
 -- Where an operation keeps what is stored.
-use Rattle.std.proofs.Common.{◌≡◌, ◌∙◌, ap, sym, refl, arith, ℕ, ◌-◌, ◌^◌, ◌<◌, ◌≤◌, Bool, true, false, min, w8}
-use Rattle.std.specs.Prelude.{◌==◌, max, bit_and, bit_or}
+use Rattle.std.proofs.Common.{◌≡◌, ◌∙◌, ap, sym, arith, ℕ, ◌-◌, ◌<◌, Bool, true, false, min, w8}
+use Rattle.std.specs.Prelude.{◌==◌, max, bit_and}
 use Rattle.std.specs.Int.{bit_at}
-use Rattle.std.proofs.lemmas.Nat.Bits.{bit_at-lt, bit_at-zero, bit_at_and, bit_at_or, bit_at_not, same_from_bits_below}
+use Rattle.std.proofs.lemmas.Nat.Bits.{bit_at-lt, bit_at-zero, bit_at_ones, bit_at_and, bit_at_or, bit_at_not, same_from_bits_below}
 use Rattle.std.proofs.lemmas.Nat.{or_of_8, and_le_l}
 use Rattle.gfxspec.specs.declared.state.StencilOp.{StencilOp}
 use Rattle.gfxspec.specs.declared.state.StencilOp.TheVariants.{Keep}
-use Rattle.gfxspec.specs.DepthStencil.{FaceSetting, chosen_op, masked, stencil_result}
+use Rattle.gfxspec.specs.DepthStencil.{masked, stencil_result}
 use Rattle.lanes.specs.Stencil.{StencilRule, has, stencil_after}
 
 -- the bits of a byte under a mask and beside it are the byte
@@ -60,3 +60,11 @@ module _ (r : StencilRule) (v : ℕ) (small : r.setting.write_mask < 256) (fits 
   all_kept false d is = keeps r r.face.fail v small fits is.0
   all_kept true false is = keeps r r.face.depth_fail v small fits is.1
   all_kept true true is = keeps r r.face.pass v small fits is.2
+
+-- ---- masks of all lanes, and of none
+
+pub has_all : (bits j : ℕ) → bits ≡ 255 → j < 8 → has bits j ≡ true
+has_all bits j e h = ap (λ n. bit_at n j == 1) e ∙ ap (λ n. n == 1) (bit_at_ones 8 j h)
+
+pub has_none : (bits j : ℕ) → bits ≡ 0 → has bits j ≡ false
+has_none bits j e = ap (λ n. bit_at n j == 1) e ∙ ap (λ n. n == 1) (bit_at-zero j)

@@ -45,7 +45,7 @@ impl ByteChange {
     }
 
     /// One value changed.
-    #[inline]
+    #[inline(always)]
     fn onto(&self, stored: u8) -> u8
         ensures { result ≡ changed self.now stored }
     {
@@ -54,7 +54,7 @@ impl ByteChange {
     }
 
     /// Eight values changed.
-    #[inline]
+    #[inline(always)]
     fn onto_each(&self, stored: &[u8; 8]) -> [u8; 8]
         ensures { (j : ℕ) → j < 8 → slice_index result j ≡ changed self.now (slice_index stored.now j) }
     {
@@ -124,7 +124,7 @@ impl StencilTest {
 
     /// Whether each of the covered values is surely kept, where bit j of `passing` says whether the stencil test passes at
     /// value j, and bit j of `deep` whether the depth test does.
-    #[inline]
+    #[inline(always)]
     pub fn keeps(&self, cover: u8, passing: u8, deep: u8) -> bool
         ensures { IsTrue result → (j v : ℕ) → j < 8 → has cover j ≡ true → v < 256 → stencil_after self.now (has passing j) (has deep j) v ≡ v }
     {
@@ -139,10 +139,13 @@ impl StencilTest {
 
     /// Bit j is set where the test passes at stored value j
     /// (Direct3D 11.3 Functional Specification, "Output Merger Stage", depth and stencil state).
-    #[inline]
+    #[inline(always)]
     pub fn passes(&self, stored: &[u8; 8]) -> u8
         ensures { (j : ℕ) → j < 8 → (bit_at result j == 1) ≡ reference_passes self.now (slice_index stored.now j) }
     {
+        if self.func == Compare::Always {
+            return 255;
+        }
         byte_mask(
             self.func,
             &[self.compared; 8],
@@ -150,12 +153,27 @@ impl StencilTest {
         )
     }
 
+    /// What one operation leaves of eight values, in the bits of the write mask.
+    #[inline(always)]
+    fn changed_by(&self, change: ByteChange, stored: &[u8; 8]) -> [u8; 8]
+        ensures { (j : ℕ) → j < 8 → slice_index result j ≡ masked self.now.setting.write_mask (changed change (slice_index stored.now j)) (slice_index stored.now j) }
+    {
+        masked_each(self.write_mask, &change.onto_each(stored), stored)
+    }
+
     /// What is stored after the tests, where bit j of `passing` says whether the stencil test passes at value j, and
-    /// bit j of `deep` whether the depth test does.
-    #[inline]
+    /// bit j of `deep` whether the depth test does. Where both have one outcome at all values, one operation is done and no
+    /// other.
+    #[inline(always)]
     pub fn after(&self, stored: &[u8; 8], passing: u8, deep: u8) -> [u8; 8]
         ensures { (j : ℕ) → j < 8 → slice_index result j ≡ stencil_after self.now (has passing j) (has deep j) (slice_index stored.now j) }
     {
+        if passing == 255 && deep == 0 {
+            return self.changed_by(self.depth_fail, stored);
+        }
+        if passing == 255 && deep == 255 {
+            return self.changed_by(self.pass, stored);
+        }
         let passed = select_bytes8(
             deep,
             &self.pass.onto_each(stored),
@@ -167,7 +185,7 @@ impl StencilTest {
 }
 
 /// The bits of a mask in each of eight values.
-#[inline]
+#[inline(always)]
 fn under(mask: u8, stored: &[u8; 8]) -> [u8; 8]
     ensures { (j : ℕ) → j < 8 → slice_index result j ≡ bit_and (slice_index stored.now j) mask }
 {
@@ -179,7 +197,7 @@ fn under(mask: u8, stored: &[u8; 8]) -> [u8; 8]
 }
 
 /// The bits of new values where the mask has ones, and else those of the old.
-#[inline]
+#[inline(always)]
 fn masked_each(mask: u8, new: &[u8; 8], old: &[u8; 8]) -> [u8; 8]
     ensures { (j : ℕ) → j < 8 → slice_index result j ≡ masked mask (slice_index new.now j) (slice_index old.now j) }
 {
@@ -191,7 +209,7 @@ fn masked_each(mask: u8, new: &[u8; 8], old: &[u8; 8]) -> [u8; 8]
 }
 
 /// Bit j is set where the comparison holds of new value j, on the left, and old value j.
-#[inline]
+#[inline(always)]
 fn byte_mask(func: Compare, new: &[u8; 8], old: &[u8; 8]) -> u8
     ensures { (j : ℕ) → j < 8 → (bit_at result j == 1) ≡ compares func (slice_index new.now j) (slice_index old.now j) }
 {
@@ -210,7 +228,7 @@ fn byte_mask(func: Compare, new: &[u8; 8], old: &[u8; 8]) -> u8
 }
 
 /// Byte j of `a` where bit j is set, and else of `b`.
-#[inline]
+#[inline(always)]
 pub fn select_bytes8(bits: u8, a: &[u8; 8], b: &[u8; 8]) -> [u8; 8]
     ensures { (j : ℕ) → j < 8 → slice_index result j ≡ (if bit_at bits j == 1 then slice_index a.now j else slice_index b.now j) }
 {

@@ -144,10 +144,6 @@ module _ {A : Type 0} (d : Desked A) where
   has_by kept false false n not_come k = λ complete. lacks_first d.handed kept n not_come k complete
   has_by kept true false n not_come k = λ complete. lacks_second d.handed kept n not_come k complete
 
-  pub come_low : (second : Bool) (n : ℕ) → HasCome d second n → place_of d second n < length d.came
-  come_low false n h = h.0
-  come_low true n h = h
-
   pub came_right : (second : Bool) (n : ℕ) → HasCome d second n → SentAgrees d.lines d.number d.came → slice_index_or d.came (place_of d second n) [] ≡ listed d.lines (context_of second d.number) n
   came_right false n h agrees = came_first agrees n h
   came_right true n h agrees = came_second agrees n (finishes_of d.lines d.number + n) refl h

@@ -1,20 +1,7 @@
 -- One for each of four ports.
-use Rattle.std.proofs.Common.{◌≡◌, ◌≢◌, refl, ℕ, zero, suc, ◌<◌, ◌⊎◌, inl, inr, arith, true, false, eqb}
+use Rattle.std.proofs.Common.{◌≡◌, refl, ℕ, zero, suc, ◌<◌, ◌⊎◌, inl, inr, arith, true, false, eqb}
 use Rattle.recorders.specs.declared.four.Four.{Four}
 use Rattle.recorders.specs.Fours.{at_port, with_port}
-
--- the last of four, by what it isn't
-pub last_of_four : {T : Type 0} (f : Four T) (p : ℕ) → p ≢ 0 → p ≢ 1 → p ≢ 2 → f.three ≡ at_port f p
-last_of_four f zero h0 h1 h2 = absurd (h0 refl)
-last_of_four f (suc zero) h0 h1 h2 = absurd (h1 refl)
-last_of_four f (suc (suc zero)) h0 h1 h2 = absurd (h2 refl)
-last_of_four f (suc (suc (suc p))) h0 h1 h2 = refl
-
-pub last_with : {T : Type 0} (f : Four T) (p : ℕ) (x : T) → p ≢ 0 → p ≢ 1 → p ≢ 2 → record f { three = x } ≡ with_port f p x
-last_with f zero x h0 h1 h2 = absurd (h0 refl)
-last_with f (suc zero) x h0 h1 h2 = absurd (h1 refl)
-last_with f (suc (suc zero)) x h0 h1 h2 = absurd (h2 refl)
-last_with f (suc (suc (suc p))) x h0 h1 h2 = refl
 
 -- of each of the four
 pub each_of_four : (F : ℕ → Type 0) → F 0 → F 1 → F 2 → F 3 → (p : ℕ) → p < 4 → F p

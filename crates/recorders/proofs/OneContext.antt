@@ -1,6 +1,6 @@
 -- A context's lines, one by one.
-use Rattle.std.proofs.Common.{◌≡◌, ◌∙◌, ap, sym, refl, ℕ, ◌+◌, ◌<◌, inl, inr, ⊎_elim, true, false, true≢false, List, [], ◌∷◌, ◌++◌, length, take, below_more, Some, None}
-use Rattle.std.specs.Prelude.{Result, Ok, Err, OnErr}
+use Rattle.std.proofs.Common.{◌≡◌, ◌∙◌, ap, sym, ℕ, ◌+◌, ◌<◌, inl, inr, ⊎_elim, true, false, true≢false, List, [], ◌∷◌, ◌++◌, length, take, below_more, Some, None}
+use Rattle.std.specs.Prelude.{Err}
 use Rattle.std.proofs.lemmas.List.{take_more}
 use Rattle.gfxspec.specs.declared.error.GfxError.{GfxError}
 use Rattle.gfxspec.specs.Commands.{Command}
@@ -46,7 +46,3 @@ module _ (ls : List Line) (k i : ℕ) (l : Line) (here : l ≡ line_at ls i) (be
 
 pub all_taken : (ls : List Line) (k n : ℕ) (lists : List (List Command)) (current : List Command) → at_hand lists current ≡ recording_of k (take n ls) → AcceptsTo ls k n → ContextTaken ls k n None lists
 all_taken ls k n lists current r accepted = record { finished = ap (λ (q : Recording). q.lists) r; accepted = accepted; stop_is = tt }
-
-pub on_err_refl : {T E X : Type 0} (x : X) (r : Result T E) → OnErr r (x ≡ x)
-on_err_refl x (Ok y) = tt
-on_err_refl x (Err e) = refl

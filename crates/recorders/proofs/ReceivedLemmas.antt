@@ -1,7 +1,7 @@
 -- One more list came.
 use Rattle.std.proofs.Common.{◌≡◌, ◌∙◌, ap, sym, subst, refl, ℕ, zero, suc, ◌<◌, ⊎_elim, arith, Bool, true, false, true≢false, eqb, List, [], ◌∷◌, ◌++◌, length, take, Some, None, Option}
-use Rattle.std.specs.Prelude.{slice_index_or, unwrap_or, MatchOption, All}
-use Rattle.std.proofs.lemmas.List.{append-nil, take_all, take-append-le, length-append, length-take, get_or-take, map-append}
+use Rattle.std.specs.Prelude.{unwrap_or, MatchOption, All}
+use Rattle.std.proofs.lemmas.List.{append-nil, take_all, take-append-le, length-append, map-append}
 use Rattle.atomic_table.specs.Seated.{TableId}
 use Rattle.gfxspec.specs.Commands.{Command}
 use Rattle.scenetext.specs.Scene.{Line}
@@ -12,7 +12,7 @@ use Rattle.recorders.specs.declared.pair.Handed.{Handed}
 use Rattle.recorders.specs.Fours.{at_port, with_port}
 use Rattle.recorders.specs.Apart.{listed}
 use Rattle.recorders.specs.Pairs.{lists_of_sent, shelf_of, IsBeyond}
-use Rattle.recorders.specs.Desks.{Desked, IsHanded, IsSameDesk, AreSameDesks, LacksBy, SentAgrees}
+use Rattle.recorders.specs.Desks.{Desked, IsHanded, LacksBy, SentAgrees}
 use Rattle.recorders.specs.Asking.{Asked}
 use Rattle.recorders.specs.Receiving.{Receipts, IsDeskOf, AreDesks, AreHanded, AreBack, TakenAgrees, ReceiptAgrees, receipt_frame, receipt_right}
 use Rattle.recorders.proofs.Fours.{same_or_other, each_of_four}
@@ -98,27 +98,6 @@ module _ {A : Type 0} (ls : List Line) (queue : TableId) (taken : List (Submissi
 
 -- ---- desks that were joined
 
-pub same_desks : {A : Type 0} (old new : Four (Desked A)) → IsSameDesk old.zero new.zero → IsSameDesk old.one new.one → IsSameDesk old.two new.two → IsSameDesk old.three new.three → AreSameDesks old new
-same_desks old new z o t h zero = z
-same_desks old new z o t h (suc zero) = o
-same_desks old new z o t h (suc (suc zero)) = t
-same_desks old new z o t h (suc (suc (suc p))) = h
-
-pub same_desk : {A : Type 0} (d : Desked A) → IsSameDesk d d
-same_desk d = record { lines_is = refl; queue_is = refl; number_is = refl; came_is = refl }
-
-pub still_desks : {A : Type 0} (ls : List Line) (queue : TableId) (taken : List (Submission (List Command))) (old new : Four (Desked A)) (broken : Bool) → AreSameDesks old new → AreDesks ls queue taken old broken → AreDesks ls queue taken new broken
-still_desks ls queue taken old new broken same held p low =
-    let h = held p low in
-    let s = same p in
-    record {
-      lines_is = s.lines_is ∙ h.lines_is;
-      queue_is = s.queue_is ∙ h.queue_is;
-      number_is = s.number_is ∙ h.number_is;
-      front = s.came_is ∙ h.front ∙ ap (λ (xs : List (List Command)). take (length xs) (lists_of_sent (of_port p taken))) (sym s.came_is);
-      whole = λ no_loss. s.came_is ∙ h.whole no_loss;
-    }
-
 -- ---- what is taken later changes nothing of what came before
 
 pub agrees_before : (ls : List Line) (taken rest all : List (Submission (List Command))) → all ≡ taken ++ rest → TakenAgrees ls all → TakenAgrees ls taken
@@ -133,19 +112,6 @@ agrees_before ls taken rest all more agrees p low j below =
 pub agrees_earlier : {A : Type 0} (s t : Receipts A) (rest : List (Submission (List Command))) → receipt_frame t ≡ receipt_frame s → t.taken ≡ s.taken ++ rest → TakenAgrees t.lines t.taken → TakenAgrees s.lines s.taken
 agrees_earlier s t rest frame more agrees =
     agrees_before s.lines s.taken rest t.taken more (subst (λ ls. TakenAgrees ls t.taken) (ap (λ (a : Asked). a.lines) frame) agrees)
-
--- and so a desk's lists are those that they are taken for
-pub desk_agrees : {A : Type 0} (ls : List Line) (queue : TableId) (taken : List (Submission (List Command))) (p : ℕ) (broken : Bool) (d : Desked A) → p < 4 → IsDeskOf ls queue (lists_of_sent (of_port p taken)) p broken d → TakenAgrees ls taken → SentAgrees d.lines d.number d.came
-desk_agrees ls queue taken p broken d low is agrees =
-    let all = agrees p low in
-    let front : SentAgrees ls p d.came = λ j below.
-    ap (λ xs. slice_index_or xs j []) is.front
-    ∙ get_or-take (length d.came) (lists_of_sent (of_port p taken)) j [] below
-    ∙ all j (longer (lists_of_sent (of_port p taken)) (length d.came) j (subst (λ (xs : List (List Command)). j < length xs) is.front below)) in
-    subst (λ xs. SentAgrees xs d.number d.came) (sym is.lines_is) (subst (λ n. SentAgrees ls n d.came) (sym is.number_is) front)
-  where
-    longer : (xs : List (List Command)) (n j : ℕ) → j < length (take n xs) → j < length xs
-    longer xs n j h = let few = length-take n xs in omega (arith, h, few)
 
 -- ---- the beginning
 

@@ -79,7 +79,25 @@ fn count_finishes<A: Allocator>(lines: &[Line<A>], context: u32) -> usize
     count
 }
 
-/// Starts a recorder. Where no thread starts, the caller records.
+/// Whether a line is one of a recorder's two contexts.
+fn is_line_of_pair<A: Allocator>(line: &Line<A>, number: u32) -> bool {
+    match line.actor {
+        Actor::Immediate => false,
+        Actor::Deferred(actor) => actor == number || actor == number.wrapping_add(4),
+    }
+}
+
+/// Whether any line is one of a recorder's two contexts.
+fn names_pair<A: Allocator>(lines: &[Line<A>], number: u32) -> bool {
+    for line in lines {
+        if is_line_of_pair(line, number) {
+            return true;
+        }
+    }
+    false
+}
+
+/// Starts a recorder. Where no line names one of its contexts, or no thread starts, the caller records.
 pub(crate) fn start<
     's,
     E,
@@ -115,6 +133,16 @@ pub(crate) fn start<
     };
     let finishes = count_finishes(lines, number);
     let came = Vec::new(alloc);
+    if !names_pair(lines, number) {
+        let handed = record_contexts(rt, alloc, ports, gate, pass, lines, number);
+        return Desk {
+            task,
+            finishes,
+            came,
+            thread: None,
+            handed: Some(handed),
+        };
+    }
     match scope.spawn_with(promise, move || {
         record_contexts(rt, alloc, ports, gate, pass, lines, number)
     }) {

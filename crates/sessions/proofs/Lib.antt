@@ -7,4 +7,3 @@ pub mod OwnSteps
 pub mod Endings
 pub mod Ends
 pub mod Drawing
-pub mod Workers

@@ -1,12 +1,10 @@
-//! The lines of the immediate context, taken while workers run the tiles beside the caller.
+//! The lines of the immediate context, taken while a crew runs the tiles beside the caller.
 
-ghost use Rattle.std.specs.Prelude.{true, ◌≡◌, ◌<◌, ◌≤◌, length, map, OnOk, IfOk, IfErr, MatchOption, [], None, Some};
-ghost use Rattle.gfxspec.specs.Recorded.{queries_open};
-ghost use Rattle.gfxspec.specs.Refusals.{first_row, flush_rows, pixel_rows, query_rows};
-ghost use Rattle.scenetext.specs.Seen.{actor_value, verb_value, line_value};
+ghost use Rattle.std.specs.Prelude.{true, ◌≡◌, ◌<◌, length, map, OnOk, IfOk, IfErr, MatchOption, [], None, Some};
+ghost use Rattle.gfxspec.specs.Refusals.{first_row};
+ghost use Rattle.scenetext.specs.Seen.{verb_value, line_value};
 ghost use Rattle.scenetext.specs.Scene.{Execute};
 ghost use Rattle.scenetext.specs.Spelling.{AreLines};
-ghost use Rattle.immediate.specs.Held.{shown, answered, Runs};
 ghost use Rattle.sessions.specs.Telling.{replied};
 ghost use Rattle.sessions.specs.Owning.{NamesContext, own_rows, OwnTaken, own_answers, Paused, missing_of, OwnReached, OwnPaused, ListsOf, MayPlay, HasPlayed, missing_in};
 
@@ -14,82 +12,25 @@ use crate::answer_text::Reply;
 use crate::answers::AnswerText;
 use crate::own::{Own, Pause, leaves_none_open};
 use cmdlist::CommandList;
-use gfxspec::{GfxError, Pixel};
-use immediate::ImmediateContext;
+use gfxspec::GfxError;
+use immediate::{ImmediateContext, TileCrew};
 use recorders::{Shelves, take_call};
 use scenetext::{Actor, Line, Verb};
-use std::alloc::{AllocError, Allocator};
+use std::alloc::Allocator;
+use std::sync::Wait;
 use std::thread::Threads;
 use workers::Gate;
 
-/// Runs the pending commands. So few workers are not refused.
-pub(crate) fn flush<A: Allocator + Copy + Send + Sync, R: Threads + Sync, G: Gate + Sync>(
-    rt: &R,
-    workers: u32,
-    gate: &G,
-    context: &mut ImmediateContext<A>,
-) -> Result<(), GfxError>
-    requires { workers ≤ 15 }
-    ensures { Runs (flush_rows (queries_open context.old.pending)) [] true context.old context.new result }
-{
-    context.flush(rt, workers, gate)
-}
-
-/// Executes a list.
-fn execute<A: Allocator + Copy + Send + Sync, R: Threads + Sync, G: Gate + Sync>(
-    rt: &R,
-    workers: u32,
-    gate: &G,
-    context: &mut ImmediateContext<A>,
-    list: &CommandList<A>,
-    restore: bool,
-) -> Result<(), GfxError>
-    requires { workers ≤ 15 }
-    ensures { Runs (flush_rows (queries_open context.old.pending)) list.now restore context.old context.new result }
-{
-    context.execute(rt, list, restore, workers, gate)
-}
-
-/// Asks for a pixel.
-fn pixel<A: Allocator + Copy + Send + Sync, R: Threads + Sync, G: Gate + Sync>(
-    rt: &R,
-    workers: u32,
-    gate: &G,
-    context: &mut ImmediateContext<A>,
-    x: u32,
-    y: u32,
-) -> Result<Pixel, GfxError>
-    requires { workers ≤ 15 }
-    ensures runs { Runs (pixel_rows context.old.surface.size (queries_open context.old.pending) x y) [] true context.old context.new result }
-    ensures value { IfOk result (λ p. p ≡ shown context.old x y) }
-{
-    context.pixel(rt, x, y, workers, gate)
-}
-
-/// Asks for the count of a query.
-fn get_data<A: Allocator + Copy + Send + Sync, R: Threads + Sync, G: Gate + Sync>(
-    rt: &R,
-    workers: u32,
-    gate: &G,
-    context: &mut ImmediateContext<A>,
-    query: u32,
-) -> Result<u64, GfxError>
-    requires { workers ≤ 15 }
-    ensures runs { Runs (query_rows (queries_open context.old.pending) (answered context.old query) query) [] true context.old context.new result }
-    ensures value { IfOk result (λ count. Some count ≡ answered context.old query) }
-{
-    context.get_data(rt, query, workers, gate)
-}
-
-/// Executes a list of another context, where it comes; workers run the tiles beside the caller.
+/// Executes a list of another context, where it comes; a crew runs the tiles beside the caller.
 fn take_execution<
+    'a,
     A: Allocator + Copy + Send + Sync,
     S: Shelves<CommandList<A>>,
-    R: Threads + Sync,
-    G: Gate + Sync,
+    R: Threads + Wait + Sync,
+    G: Gate,
 >(
     rt: &R,
-    workers: u32,
+    crew: &TileCrew<'a, A>,
     gate: &G,
     immediate: &mut ImmediateContext<A>,
     shelves: &mut S,
@@ -98,7 +39,6 @@ fn take_execution<
     restore: bool,
 ) -> Result<(), Pause>
     requires context { context < 8 }
-    requires workers { workers ≤ 15 }
     ensures right { S.right shelves.new ≡ S.right shelves.old }
     ensures frame { S.frame shelves.new ≡ S.frame shelves.old }
     ensures agrees { S.agrees shelves.new → S.agrees shelves.old }
@@ -114,28 +54,28 @@ fn take_execution<
     }
     let list = shelves.list(context, number);
     leaves_none_open(list);
-    match execute(rt, workers, gate, immediate, list, restore) {
+    match immediate.execute_by_crew(rt, list, restore, crew, gate) {
         Ok(()) => Ok(()),
         Err(refusal) => Err(Pause::Refused(refusal)),
     }
 }
 
-/// Takes a verb of the immediate context; workers run the tiles beside the caller.
+/// Takes a verb of the immediate context; a crew runs the tiles beside the caller.
 fn take_own<
+    'a,
     A: Allocator + Copy + Send + Sync,
     S: Shelves<CommandList<A>>,
-    R: Threads + Sync,
-    G: Gate + Sync,
+    R: Threads + Wait + Sync,
+    G: Gate,
 >(
     rt: &R,
-    workers: u32,
+    crew: &TileCrew<'a, A>,
     gate: &G,
     immediate: &mut ImmediateContext<A>,
     shelves: &mut S,
     verb: &Verb<A>,
 ) -> Result<Option<Reply>, Pause>
     requires context { NamesContext (verb_value verb.now) }
-    requires workers { workers ≤ 15 }
     ensures right { S.right shelves.new ≡ S.right shelves.old }
     ensures frame { S.frame shelves.new ≡ S.frame shelves.old }
     ensures agrees { S.agrees shelves.new → S.agrees shelves.old }
@@ -146,26 +86,26 @@ fn take_own<
     ensures missing { IfErr result (λ pause. MatchOption (missing_of pause) (Unit {0}) (λ name. S.lacks shelves.new name.0 name.1)) }
 {
     match verb {
-        Verb::Flush => match flush(rt, workers, gate, immediate) {
+        Verb::Flush => match immediate.flush_by_crew(rt, crew, gate) {
             Ok(()) => Ok(None),
             Err(refusal) => Err(Pause::Refused(refusal)),
         },
         Verb::Execute(context, number, restore) => {
             match take_execution(
-                rt, workers, gate, immediate, shelves, *context, *number, *restore,
+                rt, crew, gate, immediate, shelves, *context, *number, *restore,
             ) {
                 Ok(()) => Ok(None),
                 Err(pause) => Err(pause),
             }
         }
-        Verb::Query(query) => match get_data(rt, workers, gate, immediate, *query) {
+        Verb::Query(query) => match immediate.get_data_by_crew(rt, *query, crew, gate) {
             Ok(count) => Ok(Some(Reply::Counted {
                 query: *query,
                 count,
             })),
             Err(refusal) => Err(Pause::Refused(refusal)),
         },
-        Verb::Pixel(x, y) => match pixel(rt, workers, gate, immediate, *x, *y) {
+        Verb::Pixel(x, y) => match immediate.pixel_by_crew(rt, *x, *y, crew, gate) {
             Ok(value) => Ok(Some(Reply::Shown {
                 x: *x,
                 y: *y,
@@ -183,13 +123,14 @@ fn take_own<
 /// Takes the lines of the immediate context in order, up to one that is refused or whose list is missing, and adds their
 /// answers. With a pause comes the place of its line, counted from 0.
 fn take_lines<
+    'a,
     A: Allocator + Copy + Send + Sync,
     S: Shelves<CommandList<A>>,
-    R: Threads + Sync,
-    G: Gate + Sync,
+    R: Threads + Wait + Sync,
+    G: Gate,
 >(
     rt: &R,
-    workers: u32,
+    crew: &TileCrew<'a, A>,
     gate: &G,
     immediate: &mut ImmediateContext<A>,
     shelves: &mut S,
@@ -199,7 +140,6 @@ fn take_lines<
     requires lines { AreLines [] (map line_value lines.now) }
     requires right { ListsOf (map line_value lines.now) (S.right shelves.old) }
     requires start { OwnReached immediate.old.surface.size (map line_value lines.now) 0 immediate.old answers.old.text.items answers.old.marks.items }
-    requires workers { workers ≤ 15 }
     ensures right { S.right shelves.new ≡ S.right shelves.old }
     ensures frame { S.frame shelves.new ≡ S.frame shelves.old }
     ensures agrees { S.agrees shelves.new → S.agrees shelves.old }
@@ -209,7 +149,7 @@ fn take_lines<
 {
     for (place, line) in lines.iter().enumerate() {
         if let Actor::Immediate = line.actor {
-            let reply = match take_own(rt, workers, gate, immediate, shelves, &line.verb) {
+            let reply = match take_own(rt, crew, gate, immediate, shelves, &line.verb) {
                 Ok(reply) => reply,
                 Err(pause) => return Err((place, pause)),
             };
@@ -221,15 +161,22 @@ fn take_lines<
     Ok(())
 }
 
-/// Takes the lines of the immediate context, as far as they are accepted; workers run the tiles beside the caller.
-pub(crate) fn play_with_workers<
+/// Takes the lines of the immediate context, as far as they are accepted; a crew runs the tiles beside the caller.
+pub(crate) fn play_by_crew<
+    'a,
     A: Allocator + Copy + Send + Sync,
     S: Shelves<CommandList<A>>,
-    R: Threads + Sync,
-    G: Gate + Sync,
->(rt: &R, workers: u32, gate: &G, own: Own<A>, shelves: &mut S, lines: &[Line<A>]) -> Own<A>
+    R: Threads + Wait + Sync,
+    G: Gate,
+>(
+    rt: &R,
+    crew: &TileCrew<'a, A>,
+    gate: &G,
+    own: Own<A>,
+    shelves: &mut S,
+    lines: &[Line<A>],
+) -> Own<A>
     requires may { MayPlay (map line_value lines.now) (S.right shelves.old) own.immediate own.answers.text.items own.answers.marks.items }
-    requires workers { workers ≤ 15 }
     ensures right { S.right shelves.new ≡ S.right shelves.old }
     ensures frame { S.frame shelves.new ≡ S.frame shelves.old }
     ensures agrees { S.agrees shelves.new → S.agrees shelves.old }
@@ -241,15 +188,7 @@ pub(crate) fn play_with_workers<
         mut answers,
         pause: _,
     } = own;
-    match take_lines(
-        rt,
-        workers,
-        gate,
-        &mut immediate,
-        shelves,
-        lines,
-        &mut answers,
-    ) {
+    match take_lines(rt, crew, gate, &mut immediate, shelves, lines, &mut answers) {
         Ok(()) => Own {
             immediate,
             answers,

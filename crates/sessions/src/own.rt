@@ -4,7 +4,7 @@ ghost use Rattle.std.specs.Prelude.{◌≡◌, ◌<◌, length, map, OnOk, IfOk,
 ghost use Rattle.gfxspec.specs.Recorded.{queries_open};
 ghost use Rattle.gfxspec.specs.Refusals.{AreAccepted, first_row};
 ghost use Rattle.meaning.specs.Standing.{IsNew};
-ghost use Rattle.scenetext.specs.Seen.{actor_value, verb_value, line_value};
+ghost use Rattle.scenetext.specs.Seen.{verb_value, line_value};
 ghost use Rattle.scenetext.specs.Scene.{Execute};
 ghost use Rattle.scenetext.specs.Spelling.{AreLines};
 ghost use Rattle.recorders.specs.Apart.{listed};
@@ -19,7 +19,7 @@ use gfxspec::GfxError;
 use immediate::ImmediateContext;
 use recorders::{Shelves, take_call};
 use scenetext::{Actor, Line, Verb};
-use std::alloc::{AllocError, Allocator};
+use std::alloc::Allocator;
 
 /// Why the immediate context goes no further.
 #[derive(Clone, Copy, Debug)]

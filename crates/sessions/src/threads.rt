@@ -1,6 +1,6 @@
 //! A script, performed in threads as far as to what there is to write.
 
-ghost use Rattle.std.specs.Prelude.{true, ◌≡◌, ◌≤◌, ◌<◌, map, IfOk, MatchOption};
+ghost use Rattle.std.specs.Prelude.{true, ◌≡◌, ◌<◌, map, MatchOption};
 ghost use Rattle.gfxspec.specs.Limits.{is_size};
 ghost use Rattle.scenetext.specs.Seen.{line_value};
 ghost use Rattle.scenetext.specs.SeenScene.{scene_value};
@@ -12,19 +12,19 @@ ghost use Rattle.sessions.specs.Owning.{MayPlay, HasPlayed, missing_in};
 ghost use Rattle.sessions.specs.Writing.{Draws, Writes};
 ghost use Rattle.sessions.specs.Performing.{output_by};
 
-use crate::crewed::{flush, play_with_workers};
+use crate::crewed::play_by_crew;
 use crate::ending::{Performance, end_at, first_stop, line_behind, stopped};
 use crate::own::Own;
 use cmdlist::CommandList;
-use immediate::ImmediateContext;
+use immediate::{ImmediateContext, TileCrew};
 use port::{DrainPass, PortPass, Ports};
 use recorders::{Four, Handed, Opened, Stop, open_ports, receive, settle};
 use scenetext::{Line, Scene, read};
-use std::alloc::{AllocError, Allocator};
+use std::alloc::Allocator;
 use std::sync::Wait;
 use std::thread;
 use std::thread::{Scope, Threads};
-use workers::Gate;
+use workers::{Gate, start_crew};
 
 /// What comes out of the scope of the recorders.
 #[derive(Drop)]
@@ -37,6 +37,7 @@ struct Round<A: Allocator> {
 /// Starts the recorders, takes the lines of the immediate context, and waits for the recorders.
 fn run<
     's,
+    'a,
     E,
     A: Allocator + Copy + Send + Sync + 's,
     R: Threads + Wait + Sync + 's,
@@ -46,7 +47,7 @@ fn run<
     scope: &'s Scope<'s, E>,
     alloc: A,
     ports: &'s Ports<CommandList<A>, A>,
-    workers: u32,
+    crew: &TileCrew<'a, A>,
     gate: &'s G,
     passes: Four<PortPass<CommandList<A>>>,
     drain: DrainPass<CommandList<A>>,
@@ -55,7 +56,6 @@ fn run<
 ) -> Round<A>
     requires start { AreNew ports.now.queue passes drain }
     requires may { MayPlay (map line_value lines.now) (listed (map line_value lines.now)) own.immediate own.answers.text.items own.answers.marks.items }
-    requires workers { workers ≤ 15 }
     ensures handed { AreHanded (map line_value lines.now) ports.now.queue result.handed }
     ensures queue { result.drain.queue ≡ ports.now.queue }
     ensures played { TakenAgrees (map line_value lines.now) result.drain.taken
@@ -63,17 +63,17 @@ fn run<
     ensures missing { MatchOption (missing_in result.own.pause) (Unit {0}) (λ name. name.0 < 8 → HandedLacks result.handed name.0 name.1) }
 {
     let mut received = receive(rt, scope, alloc, ports, gate, passes, drain, lines);
-    let own = play_with_workers(rt, workers, gate, own, &mut received, lines);
+    let own = play_by_crew(rt, crew, gate, own, &mut received, lines);
     let (handed, drain) = received.close();
     Round { own, handed, drain }
 }
 
 /// The same, in a scope of its own.
-fn run_in_scope<A: Allocator + Copy + Send + Sync, R: Threads + Wait + Sync, G: Gate + Sync>(
+fn run_in_scope<'a, A: Allocator + Copy + Send + Sync, R: Threads + Wait + Sync, G: Gate + Sync>(
     rt: &R,
     alloc: A,
     ports: &Ports<CommandList<A>, A>,
-    workers: u32,
+    crew: &TileCrew<'a, A>,
     gate: &G,
     passes: Four<PortPass<CommandList<A>>>,
     drain: DrainPass<CommandList<A>>,
@@ -82,7 +82,6 @@ fn run_in_scope<A: Allocator + Copy + Send + Sync, R: Threads + Wait + Sync, G: 
 ) -> Round<A>
     requires start { AreNew ports.now.queue passes drain }
     requires may { MayPlay (map line_value lines.now) (listed (map line_value lines.now)) own.immediate own.answers.text.items own.answers.marks.items }
-    requires workers { workers ≤ 15 }
     ensures handed { AreHanded (map line_value lines.now) ports.now.queue result.handed }
     ensures queue { result.drain.queue ≡ ports.now.queue }
     ensures played { TakenAgrees (map line_value lines.now) result.drain.taken
@@ -94,8 +93,7 @@ fn run_in_scope<A: Allocator + Copy + Send + Sync, R: Threads + Wait + Sync, G: 
         rt,
         |scope| -> Round<A>
             requires { AreNew ports.now.queue passes drain
-                × MayPlay (map line_value lines.now) (listed (map line_value lines.now)) own.immediate own.answers.text.items own.answers.marks.items
-                × (workers ≤ 15) }
+                × MayPlay (map line_value lines.now) (listed (map line_value lines.now)) own.immediate own.answers.text.items own.answers.marks.items }
             ensures { AreHanded (map line_value lines.entry.now) ports.entry.now.queue result.handed
                 × (result.drain.queue ≡ ports.entry.now.queue)
                 × (TakenAgrees (map line_value lines.entry.now) result.drain.taken
@@ -103,23 +101,22 @@ fn run_in_scope<A: Allocator + Copy + Send + Sync, R: Threads + Wait + Sync, G: 
                 × MatchOption (missing_in result.own.pause) (Unit {0}) (λ name. name.0 < 8 → HandedLacks result.handed name.0 name.1) }
         {
             run(
-                rt, scope, alloc, ports, workers, gate, passes, drain, lines, own,
+                rt, scope, alloc, ports, crew, gate, passes, drain, lines, own,
             )
         },
     )
 }
 
-/// Ends a scene behind its lines: at the first that was refused, and else with a last run of the pending commands, with
-/// workers beside the caller.
-fn end_in_threads<A: Allocator + Copy + Send + Sync, R: Threads + Sync, G: Gate + Sync>(
+/// Ends a scene behind its lines: at the first that was refused, and else with a last run of the pending commands, by the
+/// crew beside the caller.
+fn end_by_crew<'a, A: Allocator + Copy + Send + Sync, R: Threads + Wait + Sync, G: Gate>(
     rt: &R,
-    workers: u32,
+    crew: &TileCrew<'a, A>,
     gate: &G,
     scene: &Scene<A>,
     deferred: Option<Stop>,
     own: Own<A>,
 ) -> Performance<A>
-    requires workers { workers ≤ 15 }
     requires sized { is_size scene.now.size ≡ true }
     requires scene { IsScene (scene_value scene.now) }
     requires recorded { AreRecorded scene.now.lines deferred (missing_in own.pause) }
@@ -134,7 +131,7 @@ fn end_in_threads<A: Allocator + Copy + Send + Sync, R: Threads + Sync, G: Gate 
         answers,
         pause: _,
     } = own;
-    match flush(rt, workers, gate, &mut immediate) {
+    match immediate.flush_by_crew(rt, crew, gate) {
         Ok(()) => Performance {
             answers: answers.text,
             end: Ok(immediate),
@@ -147,34 +144,66 @@ fn end_in_threads<A: Allocator + Copy + Send + Sync, R: Threads + Sync, G: Gate 
 }
 
 /// Draws a scene: records the deferred contexts in up to four threads, while this one takes the lines of the immediate
-/// context, with workers beside it.
-///
-/// Refused with want of memory for the ports.
-fn draw_in_threads<A: Allocator + Copy + Send + Sync, R: Threads + Wait + Sync, G: Gate + Sync>(
+/// context, with a crew beside it.
+fn draw_by_crew<'a, A: Allocator + Copy + Send + Sync, R: Threads + Wait + Sync, G: Gate + Sync>(
     rt: &R,
     alloc: A,
-    workers: u32,
+    crew: &TileCrew<'a, A>,
     gate: &G,
     scene: &Scene<A>,
-) -> Result<Performance<A>, AllocError>
+    opened: Opened<A>,
+) -> Performance<A>
     requires scene { IsScene (scene_value scene.now) }
-    requires workers { workers ≤ 15 }
-    ensures { IfOk result (λ p. Draws (scene_value scene.now) (output_by p.answers.items p.end)) }
+    requires opened { AreNew opened.ports.queue opened.passes opened.drain }
+    ensures { Draws (scene_value scene.now) (output_by result.answers.items result.end) }
 {
     let immediate = match ImmediateContext::new(alloc, scene.size.width, scene.size.height) {
         Ok(context) => context,
-        Err(refusal) => return Ok(stopped(alloc, 1, refusal.number())),
+        Err(refusal) => return stopped(alloc, 1, refusal.number()),
     };
     let Opened {
         ports,
         passes,
         drain,
-    } = open_ports(alloc)?;
+    } = opened;
     let lines = scene.lines.as_slice();
     let own = Own::new(alloc, immediate, lines);
-    let round = run_in_scope(rt, alloc, &ports, workers, gate, passes, drain, lines, own);
+    let round = run_in_scope(rt, alloc, &ports, crew, gate, passes, drain, lines, own);
     let deferred = settle(rt, ports, round.handed, round.drain);
-    Ok(end_in_threads(rt, workers, gate, scene, deferred, round.own))
+    end_by_crew(rt, crew, gate, scene, deferred, round.own)
+}
+
+/// The same with the threads of the crew, which go home at the end.
+fn draw_with_threads<
+    'a,
+    A: Allocator + Copy + Send + Sync,
+    R: Threads + Wait + Sync,
+    G: Gate + Sync,
+>(
+    rt: &R,
+    alloc: A,
+    crew: &TileCrew<'a, A>,
+    gate: &G,
+    scene: &Scene<A>,
+    opened: Opened<A>,
+) -> Performance<A>
+    requires scene { IsScene (scene_value scene.now) }
+    requires opened { AreNew opened.ports.queue opened.passes opened.drain }
+    ensures { Draws (scene_value scene.now) (output_by result.answers.items result.end) }
+{
+    thread::scope(
+        thread::scope_env(),
+        rt,
+        |scope| -> Performance<A>
+            requires { IsScene (scene_value scene.now) × AreNew opened.ports.queue opened.passes opened.drain }
+            ensures { Draws (scene_value scene.entry.now) (output_by result.answers.items result.end) }
+        {
+            start_crew(rt, scope, crew, gate);
+            let drawn = draw_by_crew(rt, alloc, crew, gate, scene, opened);
+            crew.close(rt);
+            drawn
+        },
+    )
 }
 
 /// Reads a script and draws its scene in threads. What comes out is what there is to write.
@@ -183,7 +212,6 @@ pub(crate) fn perform_in_threads<
     R: Threads + Wait + Sync,
     G: Gate + Sync,
 >(rt: &R, alloc: A, workers: u32, gate: &G, text: Vec<u8, A>) -> Performance<A>
-    requires { workers ≤ 15 }
     ensures { Writes text.items (output_by result.answers.items result.end) }
 {
     let scene = match read(alloc, text.as_slice()) {
@@ -191,8 +219,10 @@ pub(crate) fn perform_in_threads<
         Err((line, number)) => return stopped(alloc, line, number),
     };
     drop(text);
-    match draw_in_threads(rt, alloc, workers, gate, &scene) {
-        Ok(performance) => performance,
-        Err(_) => stopped(alloc, 0, 1),
-    }
+    let opened = match open_ports(alloc) {
+        Ok(opened) => opened,
+        Err(_) => return stopped(alloc, 0, 1),
+    };
+    let crew = TileCrew::new(&alloc, workers);
+    draw_with_threads(rt, alloc, &crew, gate, &scene, opened)
 }

@@ -33,7 +33,7 @@ use Rattle.tileprog.proofs.Ones.{same_sums}
 -- ---- the outcome of the depth test
 
 -- where the opposite comparison fails, the comparison holds
-otherwise : (func : Compare) (a b : ℕ) → compares (opposite func) a b ≡ false → compares func a b ≡ true
+pub otherwise : (func : Compare) (a b : ℕ) → compares (opposite func) a b ≡ false → compares func a b ≡ true
 otherwise Never a b h = absurd cc
 otherwise Less a b h = grind (arith, nat_tests)
 otherwise Equal a b h = grind (arith, nat_tests)

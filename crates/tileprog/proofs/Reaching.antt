@@ -64,7 +64,7 @@ module _ (s : Stroke) (r : PixelRect) (x y cover : ℕ) (sound : IsNamed s.plane
   first true b e = refl
   first false b e = absurd cc
 
-  in_rect : IsWithin s.clip r → (j : ℕ) → reached s (x + j) y ≡ true → IsIn r (x + j) y
+  pub in_rect : IsWithin s.clip r → (j : ℕ) → reached s (x + j) y ≡ true → IsIn r (x + j) y
   in_rect w j e = plain (first _ _ e)
     where
       plain : (nat_le s.clip.left (x + j) && (nat_lt (x + j) s.clip.right && (nat_le s.clip.top y && nat_lt y s.clip.bottom))) ≡ true → IsIn r (x + j) y

@@ -1,20 +1,22 @@
 -- A span of a column, and one row more of it.
-use Rattle.std.proofs.Common.{◌≡◌, ◌∙◌, ap, sym, subst, refl, arith, ℕ, ◌+◌, ◌*◌, ◌<◌, ◌≤◌, true, ◌&&◌, nat_lt, List}
+use Rattle.std.proofs.Common.{◌≡◌, ◌∙◌, ap, sym, subst, refl, arith, ℕ, ◌+◌, ◌*◌, ◌<◌, ◌≤◌, Bool, true, false, ◌&&◌, nat_lt, List}
 use Rattle.std.specs.Prelude.{nat_le, slice_index}
 use Rattle.gfxspec.specs.declared.pixel.Pixel.{Pixel}
 use Rattle.gfxspec.specs.Raster.{Triangle, centre}
 use Rattle.edges.specs.Walk.{EdgePlace}
 use Rattle.gfxspec.specs.Tiles.{IsIn}
+use Rattle.gfxspec.specs.DepthStencil.{depth_passes}
 use Rattle.lanes.specs.Stencil.{has}
 use Rattle.tileblock.specs.Block.{Block, pixel_at}
 use Rattle.tileblock.specs.SpanStored.{SpanStored, lane_pixel}
+use Rattle.tileprog.specs.Cells.{AllHave}
 use Rattle.tileprog.specs.Columns.{RowDrew}
 use Rattle.tileprog.specs.Counting.{eight, one_if, stroke_count}
 use Rattle.tileprog.specs.Edges.{passes_edges}
 use Rattle.tileprog.specs.SpanDrawn.{drawn_lane, ArePassed}
 use Rattle.tileprog.specs.Strokes.{Stroke, IsNamed, IsWithin, reached, depth_there}
 use Rattle.tileprog.proofs.Ones.{eight_same, eight_none}
-use Rattle.tileprog.proofs.Reaching.{lane_drawn, lane_missed, lane_missed_count, lane_counted}
+use Rattle.tileprog.proofs.Reaching.{lane_drawn, lane_missed, lane_missed_count, lane_counted, lane_reached, in_rect, eight_depths, eight_are}
 use Rattle.tileprog.proofs.Spanning.{unchanged}
 use Rattle.tileprog.proofs.Stroking.{one_span, rows_from}
 
@@ -57,3 +59,12 @@ module _ (s : Stroke) (old : Block) (span row x y cover : ℕ) (x_is : old.rect.
             (λ j h. λ i. pixel_at old (x_is i + j) (y_is i)) bits passed.each j h));
         few = few;
       }
+
+  -- a span whose depth test has one outcome
+  module _ (deep : Bool) (all : AllHave deep s.brush.state s.plane old x row (row + 1)) where
+    pub lanes_have : (j : ℕ) → j < 8 → has cover j ≡ true → depth_passes s.brush.state (slice_index (eight_depths s old.rect x y cover sound lanes top bottom) j) (lane_pixel old span row j).ds.depth ≡ deep
+    lanes_have j h here =
+        let reach : reached s (x + j) y ≡ true = sym (lane_reached s old.rect x y cover sound lanes top bottom j h) ∙ here in
+        let is = in_rect s old.rect x y cover sound lanes top bottom within j reach in
+        (λ i. depth_passes s.brush.state (eight_are s old.rect x y cover sound lanes top bottom j h i) (pixel_at old (x_is i + j) (y_is i)).ds.depth)
+        ∙ all (x + j) y is (record { left = omega arith; right = omega (arith, h); top = omega (arith, y_is); bottom = omega (arith, y_is) })

@@ -9,6 +9,7 @@ pub mod Within
 pub mod Counting
 pub mod Sums
 pub mod Columns
+pub mod Cells
 pub mod Passing
 pub mod Runs
 pub mod Programs

@@ -24,7 +24,8 @@ use std::alloc::Allocator;
 use tileblock::{DepthBounds, TileBlock};
 
 /// The comparison that holds where another doesn't.
-fn opposite(func: Compare) -> Compare
+#[inline(always)]
+pub(crate) fn opposite(func: Compare) -> Compare
     ensures { result ≡ opposite func }
 {
     match func {

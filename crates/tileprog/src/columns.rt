@@ -7,11 +7,12 @@ ghost use Rattle.tileprog.specs.declared.kind.Tests.TheVariants.{Open, Depth, St
 ghost use Rattle.tileprog.specs.Columns.{IsColumn, ColumnDrew};
 
 use crate::brush::Brush;
+use crate::cells::{Cell, stencil_cell};
 use crate::column::Column;
 use crate::kind::Tests;
 use crate::rows::{depth_row, open_row, stencil_row};
 use depthplane::{Plane, Walks};
-use edges::EdgeWalk;
+use edges::{EdgeSet, EdgeWalk};
 use gfxspec::Compare;
 use lanes::StencilTest;
 use std::alloc::Allocator;
@@ -182,6 +183,8 @@ fn stencil_rows<A: Allocator, W: Walks>(
     block: &mut TileBlock<A>,
     column: &Column,
     mask: u8,
+    set: &EdgeSet,
+    plane: &Plane,
     mut edges: EdgeWalk<'_>,
     mut walk: W,
     brush: Brush,
@@ -190,6 +193,8 @@ fn stencil_rows<A: Allocator, W: Walks>(
     requires column { IsColumn column.now (W.place walk).plane.triangle block.old.rect }
     requires edges { edges ≡ record { triangle = (W.place walk).plane.triangle; x = column.now.x; y = column.now.clip.top } }
     requires walk { W.place walk ≡ record (W.place walk) { x = column.now.x; y = column.now.clip.top } }
+    requires plane { (W.place walk).plane ≡ plane.now }
+    requires set { set.now ≡ plane.now.triangle }
     requires left { block.old.rect.left ≤ (W.place walk).left }
     requires top { block.old.rect.top ≤ (W.place walk).top }
     requires named { IsNamed (W.place walk).plane column.now.mask block.old.rect }
@@ -199,9 +204,27 @@ fn stencil_rows<A: Allocator, W: Walks>(
     let column = *column;
     let rect = block.rect();
     let test = StencilTest::of(&brush.state, brush.front, brush.reference);
+    let mut cell = Cell {
+        until: 0,
+        covered: false,
+        deep: None,
+    };
     let mut passed = 0u32;
     for row in column.clip.top - rect.top..column.clip.bottom - rect.top {
-        let more = stencil_row(block, &column, mask, row, &edges, &walk, &test, &brush);
+        let now = stencil_cell(cell, block, set, plane, &column, mask, row, &brush);
+        let more = stencil_row(
+            block,
+            &column,
+            mask,
+            row,
+            &edges,
+            &walk,
+            now.covered,
+            now.deep,
+            &test,
+            &brush,
+        );
+        cell = now;
         passed += more;
         edges.down();
         walk.next();
@@ -214,6 +237,8 @@ fn stencil_rows<A: Allocator, W: Walks>(
 fn stencil_column<A: Allocator, W: Walks>(
     block: &mut TileBlock<A>,
     column: &Column,
+    set: &EdgeSet,
+    plane: &Plane,
     edges: EdgeWalk<'_>,
     walk: W,
     brush: Brush,
@@ -221,6 +246,8 @@ fn stencil_column<A: Allocator, W: Walks>(
     requires column { IsColumn column.now (W.place walk).plane.triangle block.old.rect }
     requires edges { edges ≡ record { triangle = (W.place walk).plane.triangle; x = column.now.x; y = column.now.clip.top } }
     requires walk { W.place walk ≡ record (W.place walk) { x = column.now.x; y = column.now.clip.top } }
+    requires plane { (W.place walk).plane ≡ plane.now }
+    requires set { set.now ≡ plane.now.triangle }
     requires left { block.old.rect.left ≤ (W.place walk).left }
     requires top { block.old.rect.top ≤ (W.place walk).top }
     requires named { IsNamed (W.place walk).plane column.now.mask block.old.rect }
@@ -228,9 +255,9 @@ fn stencil_column<A: Allocator, W: Walks>(
     ensures { ColumnDrew (record { brush = brush; plane = (W.place walk).plane; mask = column.now.mask; clip = column.now.clip }) block.old block.new column.now.x result }
 {
     if column.mask == 0 {
-        stencil_rows(block, column, 0, edges, walk, brush)
+        stencil_rows(block, column, 0, set, plane, edges, walk, brush)
     } else {
-        stencil_rows(block, column, column.mask, edges, walk, brush)
+        stencil_rows(block, column, column.mask, set, plane, edges, walk, brush)
     }
 }
 
@@ -238,6 +265,7 @@ fn stencil_column<A: Allocator, W: Walks>(
 pub(crate) fn draw_column<A: Allocator, W: Walks>(
     block: &mut TileBlock<A>,
     column: &Column,
+    set: &EdgeSet,
     edges: EdgeWalk<'_>,
     plane: &Plane,
     walk: W,
@@ -246,6 +274,7 @@ pub(crate) fn draw_column<A: Allocator, W: Walks>(
     requires column { IsColumn column.now plane.now.triangle block.old.rect }
     requires edges { edges ≡ record { triangle = plane.now.triangle; x = column.now.x; y = column.now.clip.top } }
     requires walk { W.place walk ≡ record (W.place walk) { plane = plane.now; x = column.now.x; y = column.now.clip.top } }
+    requires set { set.now ≡ plane.now.triangle }
     requires left { block.old.rect.left ≤ (W.place walk).left }
     requires top { block.old.rect.top ≤ (W.place walk).top }
     requires named { IsNamed plane.now column.now.mask block.old.rect }
@@ -256,6 +285,6 @@ pub(crate) fn draw_column<A: Allocator, W: Walks>(
         Tests::Depth(func, write) => {
             depth_column(block, column, edges, walk, func, write, *brush)
         }
-        Tests::Stencil => stencil_column(block, column, edges, walk, *brush),
+        Tests::Stencil => stencil_column(block, column, set, plane, edges, walk, *brush),
     }
 }

@@ -13,7 +13,7 @@ use crate::column::column_of;
 use crate::columns::draw_column;
 use binner::TriSetup;
 use depthplane::{Plane, Walks};
-use edges::EdgeWalk;
+use edges::{EdgeSet, EdgeWalk};
 use gfxspec::PixelRect;
 use std::alloc::Allocator;
 use tileblock::TileBlock;
@@ -22,6 +22,7 @@ use tileblock::TileBlock;
 /// walks begin; the answer is how many pass.
 fn draw_spans<A: Allocator, W: Walks>(
     block: &mut TileBlock<A>,
+    set: &EdgeSet,
     plane: &Plane,
     mut edges: EdgeWalk<'_>,
     mut walk: W,
@@ -36,6 +37,7 @@ fn draw_spans<A: Allocator, W: Walks>(
     requires tile { IsInTile block.old.rect }
     requires wide { block.old.rect.left + 32 ≤ side_bound }
     requires high { block.old.rect.top + 32 ≤ side_bound }
+    requires set { set.now ≡ plane.now.triangle }
     requires named { IsNamed plane.now mask block.old.rect }
     requires steps { StepRight plane.now.triangle steps }
     requires begun { block.old.rect.left + 8 * first ≤ clip.left }
@@ -53,7 +55,15 @@ fn draw_spans<A: Allocator, W: Walks>(
     let mut passed = 0u32;
     for span in first..past {
         let column = column_of(rect.left + 8 * span, span, clip, mask, steps);
-        let more = draw_column(block, &column, edges.copied(), plane, walk.copied(), brush);
+        let more = draw_column(
+            block,
+            &column,
+            set,
+            edges.copied(),
+            plane,
+            walk.copied(),
+            brush,
+        );
         passed += more;
         edges.eight_right();
         walk.eight_right();
@@ -85,14 +95,15 @@ pub(crate) fn draw<A: Allocator>(
     let steps = triangle.edges.steps();
     let edges = triangle.edges.walk(left, clip.top);
     let plane = &triangle.plane;
+    let set = &triangle.edges;
     if plane.is_biased() {
         let biased = plane.walk_eight_biased(left, clip.top);
         return draw_spans(
-            block, plane, edges, biased, steps, mask, brush, clip, first, past,
+            block, set, plane, edges, biased, steps, mask, brush, clip, first, past,
         );
     }
     let walk = plane.walk_eight(left, clip.top);
     draw_spans(
-        block, plane, edges, walk, steps, mask, brush, clip, first, past,
+        block, set, plane, edges, walk, steps, mask, brush, clip, first, past,
     )
 }

@@ -9,6 +9,7 @@
 
 mod alike;
 mod brush;
+mod cells;
 mod column;
 mod columns;
 mod draw;

@@ -1,11 +1,12 @@
 //! The spans of a column, one by one.
 
-ghost use Rattle.std.specs.Prelude.{◌≡◌, ◌<◌, ◌≤◌, ◌+◌, ◌&&◌, nat_le, nat_lt, ℕ, if◌then◌else◌};
+ghost use Rattle.std.specs.Prelude.{◌≡◌, ◌<◌, ◌≤◌, ◌+◌, ◌&&◌, nat_le, nat_lt, ℕ, true, IsTrue, IfSome, if◌then◌else◌};
 ghost use Rattle.gfxspec.specs.Limits.{side_bound};
 ghost use Rattle.gfxspec.specs.Raster.{centre};
 ghost use Rattle.edges.specs.Walk.{StepRight};
 ghost use Rattle.lanes.specs.Stencil.{has};
 ghost use Rattle.tileprog.specs.declared.kind.Tests.TheVariants.{Open, Depth, Stencil};
+ghost use Rattle.tileprog.specs.Cells.{AllHave, AreOpen, IsUnwritten};
 ghost use Rattle.tileprog.specs.Columns.{IsColumn, IsRow, RowDrew};
 ghost use Rattle.tileprog.specs.Edges.{passes_edges};
 ghost use Rattle.tileprog.specs.Kinds.{tests_of};
@@ -13,7 +14,7 @@ ghost use Rattle.tileprog.specs.Strokes.{IsNamed};
 
 use crate::brush::Brush;
 use crate::column::Column;
-use crate::spans::{blend_depths, blend_open, blend_stencils, cover, lanes_in};
+use crate::spans::{cover, draw_alike, draw_depths, draw_open, draw_stencils, lanes_in};
 use depthplane::{Plane, Walks};
 use edges::EdgeWalk;
 use gfxspec::Compare;
@@ -21,9 +22,11 @@ use lanes::StencilTest;
 use std::alloc::Allocator;
 use tileblock::TileBlock;
 
-/// The pixels of a span that the clip's columns and the named edges leave.
+/// The pixels of a span that the clip's columns and the named edges leave. Where the edges are known to hold at all of them, they are
+/// not looked at.
 #[inline(always)]
-fn lanes_left(column: &Column, mask: u8, edges: &EdgeWalk<'_>) -> u8
+fn lanes_left(column: &Column, mask: u8, edges: &EdgeWalk<'_>, covered: bool) -> u8
+    requires covered { IsTrue covered → (j : ℕ) → j < 8 → passes_edges column.now.mask edges.now.triangle (centre (column.now.x + j) edges.now.y) ≡ true }
     requires same { mask ≡ column.now.mask }
     requires place { column.now.x ≡ edges.now.x }
     requires x { edges.now.x < side_bound }
@@ -32,6 +35,9 @@ fn lanes_left(column: &Column, mask: u8, edges: &EdgeWalk<'_>) -> u8
     ensures { (j : ℕ) → j < 8 → has result j ≡ ((nat_le column.now.clip.left (column.now.x + j) && nat_lt (column.now.x + j) column.now.clip.right)
         && passes_edges column.now.mask edges.now.triangle (centre (column.now.x + j) edges.now.y)) }
 {
+    if covered {
+        return column.within;
+    }
     column.within & cover(edges, column.steps, mask)
 }
 
@@ -54,11 +60,11 @@ pub(crate) fn open_row<A: Allocator>(
     requires kind { tests_of brush.now.state ≡ Open }
     ensures { RowDrew (record { brush = brush.now; plane = plane.now; mask = column.now.mask; clip = column.now.clip }) block.old block.new column.now.x (block.old.rect.top + row) result }
 {
-    let cover = lanes_left(column, mask, edges);
+    let cover = lanes_left(column, mask, edges, false);
     if cover == 0 {
         return 0;
     }
-    blend_open(block, column.span, row, cover, brush);
+    draw_open(block, column.span, row, cover, brush);
     lanes_in(cover)
 }
 
@@ -87,16 +93,17 @@ pub(crate) fn depth_row<A: Allocator, W: Walks>(
     requires kind { tests_of brush.now.state ≡ Depth func write }
     ensures { RowDrew (record { brush = brush.now; plane = (W.place walk.now).plane; mask = column.now.mask; clip = column.now.clip }) block.old block.new column.now.x (block.old.rect.top + row) result }
 {
-    let cover = lanes_left(column, mask, edges);
+    let cover = lanes_left(column, mask, edges, false);
     if cover == 0 {
         return 0;
     }
     let depths = walk.depths();
-    let bits = blend_depths(block, column.span, row, cover, &depths, func, write, brush);
+    let bits = draw_depths(block, column.span, row, cover, &depths, func, write, brush);
     lanes_in(bits)
 }
 
-/// A span under a brush with a stencil test; the answer is how many pixels pass.
+/// A span under a brush with a stencil test; the answer is how many pixels pass. Where the depth test's outcome is known, no depth is
+/// looked at.
 #[inline(always)]
 pub(crate) fn stencil_row<A: Allocator, W: Walks>(
     block: &mut TileBlock<A>,
@@ -105,6 +112,8 @@ pub(crate) fn stencil_row<A: Allocator, W: Walks>(
     row: u32,
     edges: &EdgeWalk<'_>,
     walk: &W,
+    covered: bool,
+    known: Option<bool>,
     test: &StencilTest,
     brush: &Brush,
 ) -> u32
@@ -118,13 +127,20 @@ pub(crate) fn stencil_row<A: Allocator, W: Walks>(
     requires named { IsNamed (W.place walk.now).plane column.now.mask block.old.rect }
     requires kind { tests_of brush.now.state ≡ Stencil }
     requires test { test.now ≡ record { setting = brush.now.state; face = if brush.now.front then brush.now.state.front else brush.now.state.back; reference = brush.now.reference } }
+    requires covered { IsTrue covered → AreOpen column.now.mask (W.place walk.now).plane.triangle block.old.rect column.now.x row (row + 1) }
+    requires known { IfSome known (λ deep. AllHave deep brush.now.state (W.place walk.now).plane block.old column.now.x row (row + 1)) }
+    requires unwritten { IfSome known (IsUnwritten brush.now.state) }
     ensures { RowDrew (record { brush = brush.now; plane = (W.place walk.now).plane; mask = column.now.mask; clip = column.now.clip }) block.old block.new column.now.x (block.old.rect.top + row) result }
 {
-    let cover = lanes_left(column, mask, edges);
+    let cover = lanes_left(column, mask, edges, covered);
     if cover == 0 {
         return 0;
     }
+    if let Some(deep) = known {
+        let alike = draw_alike(block, column.span, row, cover, deep, test, brush);
+        return lanes_in(alike);
+    }
     let depths = walk.depths();
-    let bits = blend_stencils(block, column.span, row, cover, &depths, test, brush);
+    let bits = draw_stencils(block, column.span, row, cover, &depths, test, brush);
     lanes_in(bits)
 }

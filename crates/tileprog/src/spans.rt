@@ -1,14 +1,15 @@
 //! One span of eight pixels.
 
-ghost use Rattle.std.specs.Prelude.{◌≡◌, ◌<◌, ◌≤◌, ◌+◌, ◌==◌, ◌&&◌, ◌||◌, not, ℕ, List, slice_index, if◌then◌else◌};
+ghost use Rattle.std.specs.Prelude.{◌≡◌, ◌<◌, ◌≤◌, ◌+◌, ◌==◌, ◌&&◌, ◌||◌, not, true, ℕ, List, slice_index, if◌then◌else◌};
 ghost use Rattle.std.specs.Int.{bit_at};
 ghost use Rattle.gfxspec.specs.Limits.{side_bound};
 ghost use Rattle.gfxspec.specs.Raster.{centre};
-ghost use Rattle.gfxspec.specs.DepthStencil.{compares};
+ghost use Rattle.gfxspec.specs.DepthStencil.{compares, depth_passes};
 ghost use Rattle.edges.specs.Walk.{StepRight};
 ghost use Rattle.lanes.specs.Stencil.{has};
 ghost use Rattle.tileblock.specs.SpanStored.{SpanStored, lane_pixel};
 ghost use Rattle.tileprog.specs.Edges.{passes_edges};
+ghost use Rattle.tileprog.specs.Cells.{IsUnwritten};
 ghost use Rattle.tileprog.specs.Kinds.{tests_of};
 ghost use Rattle.tileprog.specs.declared.kind.Tests.TheVariants.{Open, Depth, Stencil};
 ghost use Rattle.tileprog.specs.Counting.{eight, one_if};
@@ -74,7 +75,7 @@ fn put_depths<A: Allocator>(block: &mut TileBlock<A>, span: u32, row: u32, bits:
 }
 
 /// Stores stencil values where bits are set.
-#[inline]
+#[inline(always)]
 fn put_stencils<A: Allocator>(
     block: &mut TileBlock<A>,
     span: u32,
@@ -119,7 +120,7 @@ fn test_depths<A: Allocator>(
 }
 
 /// Bit j is set where depth passes at pixel j, or isn't tested.
-#[inline]
+#[inline(always)]
 fn deep_mask<A: Allocator>(
     block: &TileBlock<A>,
     span: u32,
@@ -194,7 +195,7 @@ fn test_stencils<A: Allocator>(
 
 /// Draws the span's covered pixels under a brush without tests.
 #[inline(always)]
-pub(crate) fn blend_open<A: Allocator>(
+pub(crate) fn draw_open<A: Allocator>(
     block: &mut TileBlock<A>,
     span: u32,
     row: u32,
@@ -212,7 +213,7 @@ pub(crate) fn blend_open<A: Allocator>(
 
 /// Draws the span's covered pixels under a brush that tests depth alone; the answer has a bit for each that passes.
 #[inline(always)]
-pub(crate) fn blend_depths<A: Allocator>(
+pub(crate) fn draw_depths<A: Allocator>(
     block: &mut TileBlock<A>,
     span: u32,
     row: u32,
@@ -235,7 +236,7 @@ pub(crate) fn blend_depths<A: Allocator>(
 
 /// Draws the span's covered pixels under a brush with a stencil test; the answer has a bit for each that passes.
 #[inline(always)]
-pub(crate) fn blend_stencils<A: Allocator>(
+pub(crate) fn draw_stencils<A: Allocator>(
     block: &mut TileBlock<A>,
     span: u32,
     row: u32,
@@ -252,6 +253,45 @@ pub(crate) fn blend_stencils<A: Allocator>(
     ensures bits { ArePassed brush.now block.old span row cover new.now result }
 {
     let passed = test_stencils(block, span, row, cover, new, test, brush);
+    paint_span(block, span, row, passed, brush);
+    passed
+}
+
+/// A bit for each of eight lanes, or none.
+#[inline(always)]
+fn all_lanes(set: bool) -> u8
+    ensures { (j : ℕ) → j < 8 → has result j ≡ set }
+{
+    if set { 255 } else { 0 }
+}
+
+/// Draws the span's covered pixels under a brush with a stencil test, where the depth test is known to pass at each of them, or at
+/// none, and no depth is stored; the answer has a bit for each that passes.
+#[inline(always)]
+pub(crate) fn draw_alike<A: Allocator>(
+    block: &mut TileBlock<A>,
+    span: u32,
+    row: u32,
+    cover: u8,
+    deep: bool,
+    test: &StencilTest,
+    brush: &Brush,
+) -> u8
+    requires span { span < 4 }
+    requires row { row < 32 }
+    requires kind { tests_of brush.now.state ≡ Stencil }
+    requires test { test.now ≡ record { setting = brush.now.state; face = if brush.now.front then brush.now.state.front else brush.now.state.back; reference = brush.now.reference } }
+    requires unwritten { IsUnwritten brush.now.state deep }
+    ensures block { (new : List ℕ) → ((j : ℕ) → j < 8 → has cover j ≡ true → depth_passes brush.now.state (slice_index new j) (lane_pixel block.old span row j).ds.depth ≡ deep)
+        → SpanStored block.old block.new span row (drawn_lane brush.now cover new) }
+    ensures bits { (new : List ℕ) → ((j : ℕ) → j < 8 → has cover j ≡ true → depth_passes brush.now.state (slice_index new j) (lane_pixel block.old span row j).ds.depth ≡ deep)
+        → ArePassed brush.now block.old span row cover new result }
+{
+    let all = all_lanes(deep);
+    let stored = block.stencil_span(span, row);
+    let passing = test.passes(&stored);
+    let passed = cover & (passing & all);
+    change_stencils(block, span, row, cover, &stored, passing, all, test);
     paint_span(block, span, row, passed, brush);
     passed
 }

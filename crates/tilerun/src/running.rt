@@ -156,8 +156,8 @@ pub fn run_with_workers<
     finish(board, seat, target, job)
 }
 
-/// The same by the threads of a crew beside the caller, which may wait for one that has a tile in its hands. The job comes
-/// back as it was.
+/// The same by the threads of a crew beside the caller, over a new board in order and its seat. It may wait for one that has a
+/// tile in its hands. The job comes back as it was.
 pub fn run_with_crew<
     'a,
     A: Allocator + Sync,
@@ -174,7 +174,7 @@ pub fn run_with_crew<
     gate: &G,
 ) -> (ArrayVec<u64, 64>, J)
     requires shown { ShowsBlocks J.shown }
-    requires new { AreNew J.tile_count J.issue_count job true board seat }
+    requires new { AreNew J.tile_count J.issue_count job false board seat }
     requires target { IsWhole target.old × (J.target_size job ≡ target.old.size) }
     ensures drawn { IsDrawn (J.drawn job) (J.touched job) target.old target.new }
     ensures counts { AreCounts (J.counted job) (J.issue_count job) (J.touched job) (pixel_of target.old)

@@ -21,7 +21,7 @@ VARIABLE: Final = "YUZURATCHET_LIBRARY"
 FOLDERS: Final = (Path.home() / ".local" / "lib", Path("/usr/local/lib"))
 """Where it is looked for before the system's loader is asked."""
 
-OLDEST: Final = 200
+OLDEST: Final = 300
 
 DONE, REFUSED, LINES_TOO_SMALL, IMAGE_TOO_SMALL, NO_MEMORY = range(5)
 STATUSES: Final = {

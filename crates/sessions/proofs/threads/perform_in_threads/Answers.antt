@@ -12,9 +12,9 @@ returns-in-Err g c =
     let e : ℕ × ℕ = (c.in-Err.line, c.in-Err.number) in
     subst (Writes text) (sym c.stopped.ensures) (unread text e (subst (λ t. Refused t e) c.as_slice.ensures.value c.in-Err.ensures.refused))
 
-pub returns-in-Ok-draw_in_threads : goal.returns-in-Ok-draw_in_threads
-returns-in-Ok-draw_in_threads g c =
-    drawing (scene_value c.in-Ok.scene) _ (subst (λ t. Spells t (scene_value c.in-Ok.scene)) c.as_slice.ensures.value c.in-Ok.ensures.scene) c.in-Ok-draw_in_threads.ensures
+pub returns-in-Err-open_ports : goal.returns-in-Err-open_ports
+returns-in-Err-open_ports g c = subst (Writes c.args.text.items) (sym c.stopped-in-Err-open_ports.ensures) gathering
 
 pub returns : goal.returns
-returns g c = subst (Writes c.args.text.items) (sym c.stopped-in-Err-draw_in_threads.ensures) gathering
+returns g c =
+    drawing (scene_value c.in-Ok.scene) _ (subst (λ t. Spells t (scene_value c.in-Ok.scene)) c.as_slice.ensures.value c.in-Ok.ensures.scene) c.draw_with_threads.ensures

@@ -1,4 +1,5 @@
 use Rattle.std.proofs.Common.{◌≡◌, ◌+◌, ◌*◌, ◌≤◌}
+use Rattle.tileprog.specs.Cells.{Tells}
 use Rattle.tileprog.proofs.Columning.{SoFar}
 use Rattle.tileprog.proofs.columns.stencil_rows.Given as goal
 
@@ -10,5 +11,6 @@ invariant-loop-row g l =
       edges : l.edges ≡ record { triangle = start.plane.triangle; x = k.x; y = l.fn.block.rect.top + l.row };
       walk : g.W.Walks.place l.walk ≡ record start { x = k.x; y = l.fn.block.rect.top + l.row };
       so_far : SoFar (record { brush = l.brush; plane = start.plane; mask = k.mask; clip = k.clip }) l.fn.block l.block k.x (l.fn.block.rect.top + l.row) l.passed;
+      told : Tells l.cell l.brush.state l.plane k.mask l.block k.x l.row;
       few : l.passed ≤ 8 * l.row;
     }

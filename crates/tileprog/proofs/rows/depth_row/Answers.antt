@@ -26,6 +26,6 @@ returns g c =
     let place = g.W.Walks.place c.args.walk.now in
     let deep = depths_at at place old.rect place.left place.top k.x y c.depths-depths.result c.requires.walk c.requires.column.tile c.requires.left c.requires.top c.depths-depths.ensures in
     row_drawn s old k.span c.args.row k.x y cover (sym c.requires.column.x) refl c.requires.named c.requires.column.within lanes c.requires.row.top c.requires.row.bottom
-    c.blend_depths-bits.new.block c.depths-depths.result c.blend_depths-bits.result c.lanes_in.result
+    c.draw_depths-bits.new.block c.depths-depths.result c.draw_depths-bits.result c.lanes_in.result
     (walked_depth s old.rect k.x y cover c.requires.named lanes c.requires.row.top c.requires.row.bottom c.depths-depths.result deep)
-    c.blend_depths-bits.ensures.block c.blend_depths-bits.ensures.bits c.lanes_in.ensures.value c.lanes_in.ensures.few
+    c.draw_depths-bits.ensures.block c.draw_depths-bits.ensures.bits c.lanes_in.ensures.value c.lanes_in.ensures.few

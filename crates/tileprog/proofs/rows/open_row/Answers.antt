@@ -25,6 +25,6 @@ returns g c =
     let lanes = lanes_at c.args.edges.now at.triangle k.x y k.mask k.clip.left k.clip.right cover c.requires.edges c.lanes_left-cover.ensures in
     let zs = eight_depths s old.rect k.x y cover c.requires.named lanes c.requires.row.top c.requires.row.bottom in
     row_drawn s old k.span c.args.row k.x y cover (sym c.requires.column.x) refl c.requires.named c.requires.column.within lanes c.requires.row.top c.requires.row.bottom
-    c.blend_open.new.block zs cover c.lanes_in.result
+    c.draw_open.new.block zs cover c.lanes_in.result
     (λ j h is reach. eight_are s old.rect k.x y cover c.requires.named lanes c.requires.row.top c.requires.row.bottom j h)
-    (c.blend_open.ensures.block zs) (c.blend_open.ensures.bits zs) c.lanes_in.ensures.value c.lanes_in.ensures.few
+    (c.draw_open.ensures.block zs) (c.draw_open.ensures.bits zs) c.lanes_in.ensures.value c.lanes_in.ensures.few

@@ -1,4 +1,4 @@
-use Rattle.std.proofs.Common.{rules, arith, ◌≡◌, ◌∙◌, ap, sym, subst, IsTrue, ℕ, ◌<◌, true}
+use Rattle.std.proofs.Common.{arith, ◌≡◌, subst, ℕ, ◌<◌, true}
 use Rattle.lanes.specs.Stencil.{StencilRule, has, stencil_after}
 use Rattle.lanes.specs.StencilInside.{rule_of}
 use Rattle.lanes.proofs.Keeping.{fails_there, passes_there, fail_kept, pass_kept, all_kept}

@@ -1,5 +1,0 @@
-use Rattle.std.proofs.Common.{rules}
-use Rattle.dealt.proofs.kit.Kit.next.Goals as goal
-
-pub returns-in-Some-pop-clause-in_range : goal.returns-in-Some-pop-clause-in_range
-returns-in-Some-pop-clause-in_range g c = search rules

@@ -1,8 +1,0 @@
-use Rattle.std.proofs.Common.{◌≡◌, All, length}
-use Rattle.dealt.proofs.kit.share.Given as goal
-
-abbrev pub invariant-loop-thief : goal.invariant-loop-thief
-invariant-loop-thief g l = All (λ t. t ≡ l.tiles) l.kits.items × (length l.kits.items ≡ l.count)
-
-abbrev pub invariant-loop-step : goal.invariant-loop-step
-invariant-loop-step g l = All (λ t. t ≡ l.tiles) l.kits.items × (length l.kits.items ≡ l.count)

@@ -1,6 +1,0 @@
-use Rattle.gfxspec.specs.Recorded.{queries_open}
-use Rattle.sessions.proofs.Workers.{flush_same, runs_same}
-use Rattle.sessions.proofs.crewed.execute.Goals as goal
-
-pub returns : goal.returns
-returns g c = runs_same _ _ _ _ _ _ c.execute.result (flush_same c.args.workers (queries_open c.args.context.now.pending) c.requires) c.execute.ensures

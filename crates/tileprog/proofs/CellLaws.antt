@@ -1,0 +1,166 @@
+-- Cells whose depth test has one outcome.
+use Rattle.std.proofs.Common.{◌≡◌, ◌∙◌, ap, sym, subst, refl, arith, ℕ, ◌+◌, ◌-◌, ◌*◌, ◌<◌, ◌≤◌, Bool, true, false, ◌&&◌, ◌||◌, nat_lt, Option, Some, None}
+use Rattle.std.specs.Int.{bit_at}
+use Rattle.std.specs.Prelude.{nat_le, not, ◌==◌, IfSome, if◌then◌else◌}
+use Rattle.std.proofs.lemmas.Bool.Decides.{nat_tests}
+use Rattle.gfxspec.specs.declared.pixel.Pixel.{Pixel}
+use Rattle.gfxspec.specs.declared.pixel.DepthStencil.{DepthStencil}
+use Rattle.gfxspec.specs.declared.geometry.PixelRect.{PixelRect}
+use Rattle.gfxspec.specs.declared.state.Compare.{Compare}
+use Rattle.gfxspec.specs.declared.state.Compare.TheVariants.{Never, Less, Equal, LessEqual, Greater, NotEqual, GreaterEqual, Always}
+use Rattle.gfxspec.specs.DepthStencil.{DepthStencilSetting, TestOutcome, compares, depth_passes}
+use Rattle.gfxspec.specs.Color.{written_color}
+use Rattle.gfxspec.specs.Tiles.{IsIn}
+use Rattle.gfxspec.specs.Raster.{Triangle, Point, edge, edge_holds}
+use Rattle.tileprog.specs.Edges.{passes_edges}
+use Rattle.depthplane.specs.Height.{DeepTriangle}
+use Rattle.depthplane.specs.Place.{depth_of}
+use Rattle.lanes.specs.Stencil.{reference_passes, stencil_after}
+use Rattle.tileblock.specs.Block.{Block, pixel_at}
+use Rattle.tileblock.specs.SpanStored.{lane_pixel}
+use Rattle.tileprog.specs.declared.brush.Brush.{Brush}
+use Rattle.tileprog.specs.declared.cells.Cell.{Cell}
+use Rattle.tileprog.specs.declared.kind.Tests.TheVariants.{Depth, Stencil}
+use Rattle.tileprog.specs.Alike.{opposite}
+use Rattle.tileprog.specs.Brushes.{tested_by, drawn_by}
+use Rattle.tileprog.specs.Cells.{nearest, InRows, AllHave, AreOpen, IsUnwritten, Tells}
+use Rattle.tileprog.specs.Columns.{RowDrew}
+use Rattle.tileprog.specs.Kinds.{tests_of}
+use Rattle.tileprog.specs.Strokes.{Stroke, stroked}
+use Rattle.tileprog.specs.Within.{in_box}
+use Rattle.tileprog.proofs.AlikeLaws.{otherwise}
+use Rattle.tileprog.proofs.Lanes.{rule_of, deep_enough, stencil_lane, stencil_passes_both, both_lanes}
+
+-- ---- the nearest depth
+
+pub nearest_fails : (func : Compare) (least greatest z a b : ℕ) → nearest func least greatest ≡ Some z → least ≤ a → a ≤ greatest → compares func z b ≡ false → compares func a b ≡ false
+nearest_fails func least greatest z a b is p q h = subst P is (by func) h
+  where
+    P : Option ℕ → Type 0
+    P o = IfSome o (λ z. compares func z b ≡ false → compares func a b ≡ false)
+
+    by : (func : Compare) → IfSome (nearest func least greatest) (λ z. compares func z b ≡ false → compares func a b ≡ false)
+    by Never = λ h. refl
+    by Less = λ h. grind (arith, nat_tests)
+    by Equal = tt
+    by LessEqual = λ h. grind (arith, nat_tests)
+    by Greater = λ h. grind (arith, nat_tests)
+    by NotEqual = tt
+    by GreaterEqual = λ h. grind (arith, nat_tests)
+    by Always = λ h. absurd cc
+
+-- ---- from lanes to pixels
+
+module _ (deep : Bool) (s : DepthStencilSetting) (func : Compare) (on : s.depth ≡ true) (func_is : s.func ≡ func) (d : DeepTriangle) (b : Block) (span row x least greatest : ℕ) (x_is : x ≡ b.rect.left + 8 * span)
+    (each : (k j a : ℕ) → k < 8 → j < 8 → least ≤ a → a ≤ greatest → compares func a (lane_pixel b span (row + k) j).ds.depth ≡ deep)
+    (lie : (u v : ℕ) → InRows b.rect x row (row + 8) u v → (least ≤ depth_of d u v) × (depth_of d u v ≤ greatest)) where
+  pub all_have : AllHave deep s d b x row (row + 8)
+  all_have = λ u v is here.
+      let l = here.left in
+      let r = here.right in
+      let t = here.top in
+      let o = here.bottom in
+      let between = lie u v here in
+      let u_is : b.rect.left + 8 * span + (u - x) ≡ u = omega (arith, x_is, l) in
+      let v_is : b.rect.top + (row + (v - (b.rect.top + row))) ≡ v = omega (arith, t) in
+      (λ i. not (on i) || compares (func_is i) (depth_of d u v) (pixel_at b (sym u_is i) (sym v_is i)).ds.depth)
+      ∙ each (v - (b.rect.top + row)) (u - x) (depth_of d u v) (omega (arith, t, o)) (omega (arith, l, r)) between.0 between.1
+
+-- where the opposite comparison fails at each lane
+pub each_holds : (b : Block) (span row least greatest : ℕ) (func : Compare)
+    → ((k j a : ℕ) → k < 8 → j < 8 → least ≤ a → a ≤ greatest → compares (opposite func) a (lane_pixel b span (row + k) j).ds.depth ≡ false)
+    → (k j a : ℕ) → k < 8 → j < 8 → least ≤ a → a ≤ greatest → compares func a (lane_pixel b span (row + k) j).ds.depth ≡ true
+each_holds b span row least greatest func fails k j a p q r t = otherwise func a (lane_pixel b span (row + k) j).ds.depth (fails k j a p q r t)
+
+-- where depth isn't tested
+pub untested_cell : (s : DepthStencilSetting) (d : DeepTriangle) (b : Block) (x row past : ℕ) → s.depth ≡ false → AllHave true s d b x row past
+untested_cell s d b x row past off = λ u v is here. ap (λ t. not t || compares s.func (depth_of d u v) (pixel_at b u v).ds.depth) off
+
+-- ---- row by row
+
+mapped : (o : Option Bool) (P Q : Bool → Type 0) → ((b : Bool) → P b → Q b) → IfSome o P → IfSome o Q
+mapped None P Q f h = h
+mapped (Some b) P Q f h = f b h
+
+-- the first of the rows that a cell tells of
+pub row_told : (c : Cell) (s : DepthStencilSetting) (d : DeepTriangle) (mask : ℕ) (b : Block) (x row : ℕ) → row < c.until → Tells c s d mask b x row → IfSome c.deep (λ deep. AllHave deep s d b x row (row + 1))
+row_told c s d mask b x row more h =
+    mapped c.deep (λ deep. AllHave deep s d b x row c.until) (λ deep. AllHave deep s d b x row (row + 1))
+    (λ deep all u v is here. let o = here.bottom in all u v is (record { left = here.left; right = here.right; top = here.top; bottom = omega (arith, o, more) })) h.deep
+
+pub row_open : (c : Cell) (s : DepthStencilSetting) (d : DeepTriangle) (mask : ℕ) (b : Block) (x row : ℕ) → row < c.until → Tells c s d mask b x row → c.covered ≡ true → AreOpen mask d.triangle b.rect x row (row + 1)
+row_open c s d mask b x row more h all = λ u v here.
+    let o = here.bottom in
+    h.covered all u v (record { left = here.left; right = here.right; top = here.top; bottom = omega (arith, o, more) })
+
+-- a drawn row leaves those below it
+pub rows_told : (c : Cell) (s : DepthStencilSetting) (d : DeepTriangle) (mask : ℕ) (k : Stroke) (old new : Block) (x row y n : ℕ) → Tells c s d mask old x row → RowDrew k old new x y n → y ≡ old.rect.top + row → Tells c s d mask new x (row + 1)
+rows_told c s d mask k old new x row y n h drew y_is =
+    record {
+      covered = λ all u v here.
+          let top_is = ap (λ (r : PixelRect). r.top) drew.drew.rect in
+          let t = here.top in
+          let o = here.bottom in
+          h.covered all u v (record { left = here.left; right = here.right; top = omega (arith, t, top_is); bottom = omega (arith, o, top_is) });
+      deep = mapped c.deep (λ deep. AllHave deep s d old x row c.until) (λ deep. AllHave deep s d new x (row + 1) c.until) (λ deep all. below deep all) h.deep;
+      unwritten = h.unwritten;
+    }
+  where
+    below : (deep : Bool) → AllHave deep s d old x row c.until → AllHave deep s d new x (row + 1) c.until
+    below deep all = λ u v is here.
+        let top_is = ap (λ (r : PixelRect). r.top) drew.drew.rect in
+        let t = here.top in
+        let o = here.bottom in
+        let was : IsIn old.rect u v = subst (λ (r : PixelRect). IsIn r u v) drew.drew.rect is in
+        let beside : in_box x (x + 8) y (y + 1) u v ≡ false = outside u v (omega (arith, t, y_is, top_is)) in
+        let same : pixel_at new u v ≡ pixel_at old u v = drew.drew.pixels u v was ∙ ap (λ c. if c then stroked k u v (pixel_at old u v) else pixel_at old u v) beside in
+        ap (λ (p : Pixel). depth_passes s (depth_of d u v) p.ds.depth) same
+        ∙ all u v was (record { left = here.left; right = here.right; top = omega (arith, t, top_is); bottom = omega (arith, o, top_is) })
+      where
+        outside : (u v : ℕ) → y + 1 ≤ v → in_box x (x + 8) y (y + 1) u v ≡ false
+        outside u v h = plain
+          where
+            plain : ((nat_le x u && nat_lt u (x + 8)) && (nat_le y v && nat_lt v (y + 1))) ≡ false
+            plain = grind (arith, nat_tests, h)
+
+-- ---- lanes
+
+-- a lane of which the depth test's outcome is known, and whose depth stays
+module _ (b : Brush) (kind : tests_of b.state ≡ Stencil) (z : ℕ) (p : Pixel) (passing deep : Bool) (after : ℕ)
+    (ep : passing ≡ reference_passes (rule_of b) p.ds.stencil) (ea : after ≡ stencil_after (rule_of b) passing deep p.ds.stencil) (stays : IsUnwritten b.state deep) where
+  abbrev stored_depth : Bool → Bool → ℕ
+  stored_depth d u = if d then (if u then z else p.ds.depth) else p.ds.depth
+
+  depth_stays : (deep d passing u : Bool) → (deep ≡ true → d ≡ false) → u ≡ (passing && deep) → p.ds.depth ≡ stored_depth d u
+  depth_stays deep false passing u f e = refl
+  depth_stays true true passing u f e = absurd (no_both (f refl))
+    where
+      no_both : true ≡ false → ⊥
+      no_both h = cc
+  depth_stays false true true u f e = ap (stored_depth true) (sym e)
+  depth_stays false true false u f e = ap (stored_depth true) (sym e)
+
+  pub alike_lane : (t u : Bool) → (t ≡ true → deep ≡ deep_enough b z p.ds) → u ≡ (t && (passing && deep)) →
+      record { rgba = if u then written_color b.blend b.rgba p.rgba else p.rgba; ds = record { depth = p.ds.depth; stencil = if t then after else p.ds.stencil } } ≡ (if t then drawn_by b z p else p)
+  alike_lane false u ed eu = ap (λ v. record { rgba = if v then written_color b.blend b.rgba p.rgba else p.rgba; ds = p.ds }) eu
+  alike_lane true u ed eu =
+      ap (λ n. record { rgba = if u then written_color b.blend b.rgba p.rgba else p.rgba; ds = record { depth = n; stencil = after } }) (depth_stays deep (b.state.depth && b.state.write) passing u stays eu)
+      ∙ ap (λ (ds : DepthStencil). record { rgba = if u then written_color b.blend b.rgba p.rgba else p.rgba; ds = ds })
+      (stencil_lane b kind z p.ds true passing deep u (b.state.depth && b.state.write) after ep (ed refl) eu refl ea)
+      ∙ both_lanes b z true u p (eu ∙ stencil_passes_both b kind z p.ds passing deep ep (ed refl))
+
+  pub alike_bit : (t : Bool) → (t ≡ true → deep ≡ deep_enough b z p.ds) → (t && (passing && deep)) ≡ (t && (tested_by b z p.ds).passed)
+  alike_bit true ed = stencil_passes_both b kind z p.ds passing deep ep (ed refl)
+  alike_bit false ed = refl
+
+-- ---- edges
+
+-- where all edges hold the named ones do
+pub all_pass : (mask : ℕ) (t : Triangle) (p : Point) → ((i : ℕ) → i < 3 → edge_holds (edge t i) p ≡ true) → passes_edges mask t p ≡ true
+all_pass mask t p holds =
+    (λ k. (not (bit_at mask 0 == 1) || holds 0 (omega arith) k) && ((not (bit_at mask 1 == 1) || holds 1 (omega arith) k) && (not (bit_at mask 2 == 1) || holds 2 (omega arith) k)))
+    ∙ (λ k. either (bit_at mask 0 == 1) k && (either (bit_at mask 1 == 1) k && either (bit_at mask 2 == 1) k))
+  where
+    either : (b : Bool) → (not b || true) ≡ true
+    either true = refl
+    either false = refl

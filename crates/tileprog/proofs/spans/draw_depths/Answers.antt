@@ -1,0 +1,16 @@
+use Rattle.std.specs.Prelude.{slice_index}
+use Rattle.lanes.specs.Stencil.{has}
+use Rattle.tileblock.specs.SpanStored.{lane_pixel}
+use Rattle.tileprog.specs.SpanDrawn.{tested_lane, painted_lane}
+use Rattle.tileprog.proofs.Spanning.{changed, joined}
+use Rattle.tileprog.proofs.Lanes.{both_lanes}
+use Rattle.tileprog.proofs.spans.draw_depths.Goals as goal
+
+pub returns-clause-block : goal.returns-clause-block
+returns-clause-block g c =
+    let b = c.args.brush.now in
+    let old = c.args.block.now in
+    let bits = c.test_depths-passed.result in
+    let both = joined old c.test_depths-passed.new.block c.paint_span.new.block c.args.span c.args.row (tested_lane b c.args.cover c.args.new.now) (painted_lane b bits) c.test_depths-passed.ensures.block c.paint_span.ensures in
+    changed old c.paint_span.new.block c.args.span c.args.row _ _ both (λ j h.
+    both_lanes b (slice_index c.args.new.now j) (has c.args.cover j) (has bits j) (lane_pixel old c.args.span c.args.row j) (c.test_depths-passed.ensures.bits.each j h))

@@ -1,0 +1,56 @@
+-- Cells of a column: eight rows of a span, whose depth test has one outcome.
+use Rattle.std.specs.Prelude.{ℕ, ◌≡◌, ◌+◌, ◌<◌, ◌≤◌, Bool, true, false, ◌&&◌, Option, Some, None, IfSome, IsTrue}
+use Rattle.gfxspec.specs.declared.geometry.PixelRect.{PixelRect}
+use Rattle.gfxspec.specs.declared.state.Compare.{Compare}
+use Rattle.gfxspec.specs.declared.state.Compare.TheVariants.{Never, Less, Equal, LessEqual, Greater, NotEqual, GreaterEqual, Always}
+use Rattle.gfxspec.specs.DepthStencil.{DepthStencilSetting, depth_passes}
+use Rattle.gfxspec.specs.Raster.{Triangle, centre}
+use Rattle.gfxspec.specs.Tiles.{IsIn}
+use Rattle.depthplane.specs.Height.{DeepTriangle}
+use Rattle.depthplane.specs.Place.{depth_of}
+use Rattle.tileblock.specs.Block.{Block, pixel_at}
+use Rattle.tileprog.specs.declared.cells.Cell.{Cell}
+use Rattle.tileprog.specs.declared.column.Column.{Column}
+use Rattle.tileprog.specs.Edges.{passes_edges}
+
+-- of depths between two the one that passes wherever any of them does
+abbrev pub nearest : Compare → ℕ → ℕ → Option ℕ
+nearest Never least greatest = Some least
+nearest Less least greatest = Some least
+nearest Equal least greatest = None
+nearest LessEqual least greatest = Some least
+nearest Greater least greatest = Some greatest
+nearest NotEqual least greatest = None
+nearest GreaterEqual least greatest = Some greatest
+nearest Always least greatest = Some least
+
+-- eight columns from x on, and the rows of a rectangle from one on and before another, counted within it
+pub record InRows (r : PixelRect) (x from past u v : ℕ) : Type 0 where
+  pub left : x ≤ u
+  pub right : u < x + 8
+  pub top : r.top + from ≤ v
+  pub bottom : v < r.top + past
+
+-- the depth test has one outcome at the pixels there
+abbrev pub AllHave : Bool → DepthStencilSetting → DeepTriangle → Block → ℕ → ℕ → ℕ → Type 0
+AllHave deep s d b x from past = (u v : ℕ) → IsIn b.rect u v → InRows b.rect x from past u v → depth_passes s (depth_of d u v) (pixel_at b u v).ds.depth ≡ deep
+
+-- where depth passes everywhere, none is stored
+abbrev pub IsUnwritten : DepthStencilSetting → Bool → Type 0
+IsUnwritten s deep = deep ≡ true → (s.depth && s.write) ≡ false
+
+-- the named edges hold at all pixels there
+abbrev pub AreOpen : ℕ → Triangle → PixelRect → ℕ → ℕ → ℕ → Type 0
+AreOpen mask t r x from past = (u v : ℕ) → InRows r x from past u v → passes_edges mask t (centre u v) ≡ true
+
+-- what a cell tells of the rows from one on
+pub record Tells (c : Cell) (s : DepthStencilSetting) (d : DeepTriangle) (mask : ℕ) (b : Block) (x row : ℕ) : Type 0 where
+  pub covered : IsTrue c.covered → AreOpen mask d.triangle b.rect x row c.until
+  pub deep : IfSome c.deep (λ deep. AllHave deep s d b x row c.until)
+  pub unwritten : IfSome c.deep (IsUnwritten s)
+
+-- no edge cuts a cell, which lies in the rectangle
+pub record IsCell (c : Column) (t : Triangle) (r : PixelRect) (row : ℕ) : Type 0 where
+  pub holds : AreOpen c.mask t r c.x row (row + 8)
+  pub right : c.x + 8 ≤ r.right
+  pub bottom : r.top + row + 8 ≤ r.bottom

@@ -1,0 +1,3 @@
+/* What the library needs of stddef.h where there is no C library. */
+typedef __SIZE_TYPE__ size_t;
+#define NULL ((void *)0)

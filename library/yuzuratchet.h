@@ -1,0 +1,98 @@
+/*
+ * Yuzuratchet as a library: a script of recorded Direct3D 11 calls goes in, answer lines and a Truevision TGA image come out.
+ *
+ * A script is the text that docs/SCRIPT.md describes. Its answer lines and its image are the bytes that the program
+ * tiledraw prints and writes for it.
+ *
+ * Memory. The caller owns all four areas that a call names: script, lines, image and report. They lie apart, and stay where
+ * they are until the call returns. The script is read and never written. Beyond an area's told size nothing is read or
+ * written. What else a call needs it takes from malloc, or from the functions that yuzuratchet_use_memory names, and gives it
+ * back before it returns. Where memory is refused, the call says so and never ends the process.
+ *
+ * Threads. A call starts none and shares nothing with others: calls on different areas may run side by side.
+ *
+ * An area that doesn't fit is refused by its name, as enum yuzuratchet_status has them, before anything is read or written.
+ */
+#ifndef YUZURATCHET_H
+#define YUZURATCHET_H
+
+#include <stddef.h>
+#include <stdint.h>
+
+#ifdef __cplusplus
+extern "C" {
+#endif
+
+/* How a call ended. */
+enum yuzuratchet_status {
+    /* All lines of the script were taken. The answer lines and the image stand in their areas. */
+    YUZURATCHET_DONE = 0,
+    /* A line of the script was refused or has a fault, or memory was refused while it was taken: the answers of the lines
+     * before it and its `refused` line stand in the area for lines. There is no image, and that area is as it was. */
+    YUZURATCHET_REFUSED = 1,
+    /* The area for lines is too small. The report tells both sizes. Both areas are as they were. */
+    YUZURATCHET_LINES_TOO_SMALL = 2,
+    /* The area for the image is too small. The report tells both sizes. Both areas are as they were. */
+    YUZURATCHET_IMAGE_TOO_SMALL = 3,
+    /* Memory for the answer lines or the image was refused. Both areas are as they were. */
+    YUZURATCHET_NO_MEMORY = 4,
+    /* A pointer is null. This and what follows leaves all areas as they were, the report too. */
+    YUZURATCHET_NULL_POINTER = 5,
+    /* A size is 0. */
+    YUZURATCHET_EMPTY_AREA = 6,
+    /* A size is 2^63 or more, or an area runs past the last address. */
+    YUZURATCHET_SIZE_TOO_LARGE = 7,
+    /* Two areas overlap. */
+    YUZURATCHET_OVERLAP = 8
+};
+
+/* What a call tells: 32 bytes, with no gaps. */
+struct yuzuratchet_report {
+    /* Bytes of all answer lines. 0 with YUZURATCHET_NO_MEMORY. */
+    uint64_t lines_size;
+    /* Bytes of the image, 0 where there is none. */
+    uint64_t image_size;
+    /* With a refused script the refused line, counted from 1, or 0 where memory was refused before the first was read. Else 0. */
+    uint64_t refused_line;
+    /* With a refused script the number of the refusal, as docs/SCRIPT.md has them. Else 0. */
+    uint32_t refusal;
+    /* One of enum yuzuratchet_status: the value that the call returned. */
+    uint32_t status;
+};
+
+/*
+ * Draws a script: its answer lines go to the front of `lines`, its image to the front of `image`. The report tells their
+ * sizes; what lies behind them in either area is as it was. Returns the status. From YUZURATCHET_NULL_POINTER on nothing was
+ * written, the report included.
+ */
+uint32_t yuzuratchet_draw(const uint8_t *script, size_t script_size, uint8_t *lines, size_t lines_size, uint8_t *image,
+                          size_t image_size, struct yuzuratchet_report *report);
+
+/*
+ * Tells how a script ends and how many bytes its answer lines and its image have, and writes the report alone. It takes the
+ * script's lines as yuzuratchet_draw does, and so takes as long. Returns the status: done, refused or no memory, or why an
+ * area doesn't fit.
+ */
+uint32_t yuzuratchet_sizes(const uint8_t *script, size_t script_size, struct yuzuratchet_report *report);
+
+/* Three functions over one store of memory, which keep to what C says of malloc, realloc and free. */
+struct yuzuratchet_memory {
+    void *(*take)(size_t size);
+    void *(*resize)(void *block, size_t size);
+    void (*give)(void *block);
+};
+
+/*
+ * From now on calls take memory by these functions, or, where `memory` is null, by malloc, realloc and free again. It counts
+ * for all threads: call it while no other call of this library runs.
+ */
+void yuzuratchet_use_memory(const struct yuzuratchet_memory *memory);
+
+/* The version of this library: 10,000 times the first number, 100 times the second and the third, 300 for 0.3.0. */
+uint32_t yuzuratchet_version(void);
+
+#ifdef __cplusplus
+}
+#endif
+
+#endif
