@@ -3,17 +3,18 @@
 
     bench/calls.py [--times N] [--runs N] [--library FILE] [--program FILE]
 
-Each row is the median of some runs, in microseconds a call. A row whose library, compiler or program isn't there says so.
+Each row is the median of some runs, in microseconds of processor time a call, that of processes that are started included. A row whose library,
+compiler or program isn't there says so.
 """
 
 import argparse
+import os
 import pathlib
 import shutil
 import statistics
 import subprocess
 import sys
 import tempfile
-import time
 
 import scenes  # noqa: F401 (it puts the package on the path)
 from yuzuratchet import YuzuratchetError
@@ -65,12 +66,17 @@ def timed(call):
     """Seconds of so many calls, as a function."""
 
     def run(times):
-        begun = time.perf_counter()
+        begun = used()
         for _ in range(times):
             call()
-        return time.perf_counter() - begun
+        return used() - begun
 
     return run
+
+
+def used():
+    """Seconds of processor time until now, those of ended processes included."""
+    return sum(os.times()[:4])
 
 
 def row(given, room, prepare):

@@ -235,6 +235,20 @@ class PageTests:
             check(self.text("#verdict") == "Every line is taken.", f"{name}: {self.text('#verdict')}")
         return f"{len(names)} pictures"
 
+    def files(self):
+        """A file that is opened stands in the menu, and what a page can't keep of it is said."""
+        self.open()
+        file = "new File(['target 2 1\\r\\ni clearc 1 2 3 4'], 'mine.txt')"
+        self.browser.value(f"document.documentElement.dataset.state = 'asked'; page.openFile({file})")
+        self.browser.wait(f"{PLAYED} && page.name === 'mine.txt'")
+        check(self.browser.value("document.getElementById('menu').value") == "mine.txt", "the file isn't in the menu")
+        check(self.text("#size") == "2 × 1" and self.text("#verdict") == "Every line is taken.", self.text("#verdict"))
+        check("carriage returns" in self.text("#note") and "last line" in self.text("#note"), self.text("#note"))
+        self.act("menu", "change", "fan")
+        check(self.browser.value("document.getElementById('note').hidden"), "the note stays")
+        self.act("menu", "change", "mine.txt")
+        check(self.text("#size") == "2 × 1", self.text("#size"))
+
     def answers(self):
         self.open()
         shown = self.browser.value("Array.from(document.querySelectorAll('#answers tr'), (row) => row.textContent)")
@@ -433,7 +447,7 @@ def test_in_browser(results, program, module, picture):
         (folder / "index.html").write_text(make_page.built(module.read_bytes()), encoding="utf-8")
         browser.resize(1240, 780)
         tests = PageTests(browser, (folder / "index.html").as_uri())
-        for name in ("answers", "menu", "fault", "slider", "pointer", "keys", "words", "planes", "keystroke", "stop", "gallery"):
+        for name in ("answers", "menu", "files", "fault", "slider", "pointer", "keys", "words", "planes", "keystroke", "stop", "gallery"):
             results.test(f"browser {name}", getattr(tests, name))
         results.test("browser view", lambda: with_a_script(tests, folder))
         results.test("browser host", lambda: from_a_host(tests, folder))

@@ -94,18 +94,22 @@ class Page {
 
     /** Puts what was edited into the menu, so that another script can be looked at meanwhile. */
     keepEdits() {
-        const name = this.name.endsWith(", edited") ? this.name : `${this.name}, edited`;
-        let kept = this.gallery.find((it) => it.name === name);
-        if (!kept) {
-            kept = { group: "edited", name };
-            this.gallery.push(kept);
-            let group = part("menu").querySelector('optgroup[label="edited"]');
-            if (!group) part("menu").prepend(group = element("optgroup", { label: "edited" }));
-            group.append(element("option", { value: name }, name));
+        this.name = this.name.endsWith(", edited") ? this.name : `${this.name}, edited`;
+        this.keep("edited", this.name, this.editor.text);
+        part("menu").value = this.name;
+    }
+
+    /** Keeps a text in the menu, under a heading that stands first. */
+    keep(group, name, text) {
+        const kept = this.gallery.find((it) => it.name === name);
+        if (kept) {
+            kept.text = text;
+            return;
         }
-        kept.text = this.editor.text;
-        this.name = name;
-        part("menu").value = name;
+        this.gallery.push({ group, name, text });
+        const menu = part("menu");
+        if (!menu.querySelector(`optgroup[label="${group}"]`)) menu.prepend(element("optgroup", { label: group }));
+        menu.querySelector(`optgroup[label="${group}"]`).append(element("option", { value: name }, name));
     }
 
     textChanged() {
@@ -313,8 +317,10 @@ class Page {
 
     async openFile(file) {
         if (!file) return;
-        this.gallery = this.gallery.filter(({ name }) => name !== file.name);
-        this.open(file.name, await file.text());
+        const text = await file.text();
+        this.keep("opened", file.name, text);
+        this.open(file.name, text);
+        part("file").value = "";
     }
 
     save(blob, suffix) {

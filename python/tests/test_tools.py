@@ -136,7 +136,10 @@ def test_two_programs_are_timed_in_turns() -> None:
     )
     rows = [line.split(" | ") for line in ran.stdout.splitlines() if "many-finishes" in line]
     assert [row[1] for row in rows] == ["0", "3"] and len({row[8] for row in rows}) == 1, ran.stderr
-    assert "| Times alone |" in ran.stdout and rows[0][9] in ("1.00 (1.00 to 1.00)", "not to be told")
+    assert "| Times alone |" in ran.stdout and rows[0][9] in (
+        "1.00 (1.00 to 1.00)",
+        "not to be told",
+    )
 
 
 def test_scenes_are_scripts() -> None:
