@@ -8,7 +8,7 @@ built by
 
     cc program.c $(PKG_CONFIG_PATH=PREFIX/lib/pkgconfig pkg-config --cflags --libs yuzuratchet)
 
-The crate yuzuratchet is built by `rt lib`, which proves what it has not proved on this checkout yet: some seconds behind a gate run or
+The crate yuzuratchet is built by `rt lib`, which proves what it has not proved on this checkout yet: a minute or two behind a gate run or
 a check, and up to an hour and a half on a fresh clone. The C files in library/ are compiled by $CC, or cc. With --stage the files go
 into that folder in place of the root, as packagers want it.
 """

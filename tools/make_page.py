@@ -3,7 +3,7 @@
 
     tools/make_page.py [--module FILE.wasm] [-o PAGE.html]
 
-The WebAssembly module is built by tools/build_module.py where the toolchain is: some seconds behind a gate run, and as long as that on a fresh
+The WebAssembly module is built by tools/build_module.py where the toolchain is: a minute or two behind a gate run, and as long as that on a fresh
 clone. Elsewhere the module that was built last, or FILE, is taken, and Python alone is wanted. The page opens from a file, and from any host that serves files.
 """
 

@@ -1,5 +1,5 @@
 #!/usr/bin/env python3
-"""Tests the C library, and where tools/test_page.py stands the page over it.
+"""Tests the C library, and over it the Python package and the page.
 
     tools/test_library.py [--scenes N] [--prefix FOLDER]
 
@@ -10,7 +10,8 @@ It installs the library into a folder of its own (or takes the one in FOLDER), a
 - draws all scripts of the gallery, worked rows and refused calls through C, and holds answers and digests against crates/gallery/stdout;
 - draws random scenes (10,000) through C and holds each byte against the built program or, where there is none, against plain_device.py;
 - refuses each request for memory in turn in drawings of the gallery's shorter scripts;
-- prints what a call costs, beside a process.
+- prints what a call costs, beside a process;
+- runs python/tests/test_library.py over the installed library, and tools/test_page.py.
 
 A line is printed for each: `ok NAME`, `WRONG NAME: why`, or `skipped NAME: why`. The status is 0 where none is wrong.
 """
@@ -34,6 +35,7 @@ import random_scenes
 from yuzuratchet import __version__
 from yuzuratchet.arguments import whole_number
 from yuzuratchet.errors import ProgramMissing
+from yuzuratchet.library import VARIABLE
 from yuzuratchet.program import find_program
 
 TESTS = install_library.LIBRARY / "tests"
@@ -241,14 +243,13 @@ def test_drawing(tests, compiler):
         tests.skip("the program's bytes and its cost", "crates/tiledraw isn't built, so plain_device.py stood in")
 
 
-def test_page(tests):
-    page = package_path.TOP / "tools" / "test_page.py"
-    if not page.exists():
-        tests.skip("page", "tools/test_page.py is not there")
-        return
-    ran = subprocess.run([sys.executable, page], check=False)
-    if ran.returncode != 0:
-        tests.wrong += 1
+def test_above(tests):
+    """The Python package over the library, and the page, which have tests of their own."""
+    shared = tests.prefix / "lib" / "libyuzuratchet.so"
+    package = ["sh", package_path.TOP / "python" / "run-tests.sh", "-q", "-k", "test_library"]
+    for words, more in ((package, {VARIABLE: str(shared)}), ([sys.executable, package_path.TOP / "tools" / "test_page.py"], {})):
+        ran = subprocess.run(words, env={**os.environ, **more}, check=False)
+        tests.wrong += ran.returncode != 0
 
 
 def test_all(prefix, folder, scenes):
@@ -270,7 +271,7 @@ def test_all(prefix, folder, scenes):
         tests.skip("pkg-config", "the command or a C compiler is missing")
     if working:
         test_drawing(tests, working[0])
-    test_page(tests)
+    test_above(tests)
     return tests.wrong
 
 

@@ -9,8 +9,7 @@ enum Mail<T> {
     Nothing,
     // Nothing, and the thread sleeps.
     Awaited,
-    // An offer, and whether the thread slept when it was put there.
-    Offer(T, bool),
+    Offer(T),
     Closed,
 }
 
@@ -24,12 +23,7 @@ pub(crate) struct Mailbox<T: Drop> {
 // Takes an offer that lies there. That a thread sleeps, or that the mailbox is closed, stays.
 fn take<T: Drop>(mail: &mut Mail<T>) -> Option<T> {
     match mem::replace(mail, Mail::Nothing) {
-        Mail::Offer(offer, asleep) => {
-            if asleep {
-                *mail = Mail::Awaited;
-            }
-            Some(offer)
-        }
+        Mail::Offer(offer) => Some(offer),
         Mail::Awaited => {
             *mail = Mail::Awaited;
             None
@@ -50,14 +44,15 @@ impl<T: Drop> Mailbox<T> {
         }
     }
 
-    /// Puts an offer there, and says whether its thread sleeps. It wakes nobody.
+    /// Puts an offer there, and says whether its thread sleeps: then whoever put it has to ring. A thread that was rung for and
+    /// has not woken yet doesn't count as asleep.
     pub(crate) fn put<R: Wait>(&self, rt: &R, offer: T) -> bool {
         let mut mail = self.mail.lock(rt);
         let asleep = match &*mail {
             Mail::Awaited => true,
             _ => false,
         };
-        *mail = Mail::Offer(offer, asleep);
+        *mail = Mail::Offer(offer);
         asleep
     }
 
@@ -85,10 +80,7 @@ impl<T: Drop> Mailbox<T> {
         let mut mail = self.mail.lock(rt);
         for _ in rt.forever() {
             match take(&mut *mail) {
-                Some(offer) => {
-                    *mail = Mail::Nothing;
-                    return Some(offer);
-                }
+                Some(offer) => return Some(offer),
                 None => {}
             }
             if let Mail::Closed = &*mail {
