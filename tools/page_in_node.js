@@ -2,6 +2,7 @@
 //
 //     node page_in_node.js MODULE.wasm WEB gallery FOLDER NAME ..     answers and digests, as crates/gallery/stdout has them
 //     node page_in_node.js MODULE.wasm WEB history FOLDER NAME ..     the lines that changed some pixels, asked in two ways
+//     node page_in_node.js MODULE.wasm WEB changes FOLDER NAME ..     these lines of four pixels, as JSON
 //     node page_in_node.js MODULE.wasm WEB areas FOLDER NAME ..       the same with areas that are too small at first, and again and again
 
 "use strict";
@@ -61,6 +62,20 @@ function history(device, name, bytes) {
     console.log(`${name} ${changes}`);
 }
 
+/** Prints pixels, and of each the lines that changed it: line, the line that executed it or null, and what the pixel held behind it. */
+function changes(device, name, bytes) {
+    const draw = (text) => device.draw(text);
+    const script = new page.Script(bytes);
+    const { refused, image } = page.play(draw, script, script.count);
+    const { width, height } = page.decodeTarga(image, false);
+    const found = Array.from({ length: refused ? 0 : 4 }, (_, at) => {
+        const [x, y] = [(at * 7919 + 11) % width, (at * 104729 + 2) % height];
+        const told = page.pixelHistory(draw, script, script.count, x, y);
+        return [x, y, told.map(({ line, by, after }) => [line, by, [...after.colour, after.depth, after.stencil]])];
+    });
+    console.log(JSON.stringify(found));
+}
+
 /** Draws with areas that are too small, which the report tells, and so often that what isn't given back would be seen. */
 function areas(device, name, bytes) {
     const drawn = JSON.stringify(device.draw(bytes));
@@ -79,7 +94,7 @@ function areas(device, name, bytes) {
 
 (async () => {
     const device = await page.Device.of(fs.readFileSync(module_));
-    for (const name of names) ({ gallery, history, areas })[task](device, name, new Uint8Array(fs.readFileSync(path.join(folder, name))));
+    for (const name of names) ({ gallery, history, changes, areas })[task](device, name, new Uint8Array(fs.readFileSync(path.join(folder, name))));
 })().catch((error) => {
     console.error(String(error.stack || error));
     process.exitCode = 1;

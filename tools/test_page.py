@@ -28,6 +28,9 @@ import package_path
 import plain_device
 import random_scenes
 from browser import Browser, BrowserError, find_browser
+from yuzuratchet import YuzuratchetError, load_script
+from yuzuratchet.backends import draw
+from yuzuratchet.explain import explain
 from yuzuratchet.page import with_script
 
 TOP = package_path.TOP
@@ -60,7 +63,7 @@ class Results:
         begun = time.monotonic()
         try:
             found = run()
-        except (AssertionError, BrowserError, OSError, subprocess.SubprocessError) as error:
+        except (AssertionError, BrowserError, OSError, YuzuratchetError, subprocess.SubprocessError) as error:
             self.failed += 1
             print(f"FAILED {name}: {error}", flush=True)
         else:
@@ -145,16 +148,55 @@ def node_gallery(words, module):
     return f"{len(expected())} scripts"
 
 
+def write_random_scenes(room):
+    """Random scenes in a folder, and their names."""
+    chance, names = random.Random(1), [f"{number}.txt" for number in range(RANDOM_SCENES)]
+    for number, name in enumerate(names):
+        scene = random_scenes.random_scene(chance, number, kinds=random_scenes.KINDS)
+        pathlib.Path(room, name).write_text(scene.script(), encoding="ascii")
+    return names
+
+
 def node_history(words, module):
+    """The lines that changed a pixel, against a play of the script up to each line."""
     with tempfile.TemporaryDirectory(prefix="page-") as room:
-        chance, scenes = random.Random(1), [f"{number}.txt" for number in range(RANDOM_SCENES)]
-        for number, name in enumerate(scenes):
-            scene = random_scenes.random_scene(chance, number, kinds=random_scenes.KINDS)
-            pathlib.Path(room, name).write_text(scene.script(), encoding="ascii")
+        scenes = write_random_scenes(room)
         printed = in_node(words, module, "history", ASKED_BY_LINES) + in_node(words, module, "history", scenes, room)
     found = [int(it.split()[-1]) for it in printed.splitlines()]
     check(len(found) >= len(ASKED_BY_LINES), printed)
     return f"12 pixels of {len(found)} scripts, {sum(found)} changes"
+
+
+def node_explained(words, module):
+    """The same lines against the package's `explain`, which names those of executed lists too."""
+    compared = 0
+    with tempfile.TemporaryDirectory(prefix="page-") as room:
+        for folder, names in ((DATA, ASKED_BY_LINES), (room, write_random_scenes(room))):
+            for name, line in zip(names, in_node(words, module, "changes", names, folder).splitlines()):
+                scene = load_script(pathlib.Path(folder, name))
+                for x, y, told in json.loads(line):
+                    wanted = explained(scene, x, y)
+                    check(told == wanted, f"{name} ({x}, {y}): {told}, and not {wanted}")
+                    compared += len(told)
+    return f"{compared} changes"
+
+
+def explained(scene, x, y):
+    """The lines that changed a pixel, by the package: what it held before and behind each, where these differ."""
+    lines = {}
+    for step in explain(scene, x, y).steps:
+        before, after = ([*it.colour, it.depth, it.stencil] for it in (step.before, step.after))
+        lines.setdefault((step.item.number, step.executed_by), [before, after])[1] = after
+    return [[*line, after] for line, (before, after) in lines.items() if before != after]
+
+
+def why_no_device():
+    """Why the package can draw nothing, or None."""
+    try:
+        draw(b"target 1 1\n")
+    except YuzuratchetError as error:
+        return str(error).splitlines()[0]
+    return None
 
 
 def node_areas(words, module):
@@ -470,11 +512,12 @@ def main():
         results.skip("all", why)
         return 1 if given.module or why == make_page.FAILED else 0
     words, why = node_words(given.node)
-    for name, run in (("gallery", node_gallery), ("areas", node_areas), ("history", node_history)):
-        if words:
-            results.test(f"node {name}", lambda run=run: run(words, module))
+    for name, run in (("gallery", node_gallery), ("areas", node_areas), ("history", node_history), ("explained", node_explained)):
+        reason = why_no_device() if words and name == "explained" else why
+        if reason:
+            results.skip(f"node {name}", reason)
         else:
-            results.skip(f"node {name}", why)
+            results.test(f"node {name}", lambda run=run: run(words, module))
     if given.browser:
         results.test("browser, from its start to its end", lambda: test_in_browser(results, given.browser, module, given.picture))
     else:
