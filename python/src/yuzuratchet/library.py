@@ -7,14 +7,13 @@ from __future__ import annotations
 
 import ctypes
 import ctypes.util
-import os
 from functools import lru_cache
 from pathlib import Path
 from typing import Final
 
 from .errors import LibraryMissing, ProgramFailed
 from .limits import TARGET_SIDE
-from .program import Ran
+from .program import Ran, named_file
 
 NAME: Final = "yuzuratchet"
 VARIABLE: Final = "YUZURATCHET_LIBRARY"
@@ -60,14 +59,11 @@ def find_library(library: str | Path | None = None) -> Path | str:
 
     Raises :class:`~yuzuratchet.errors.LibraryMissing`, whose text says how to build it.
     """
-    for named, by in (
-        (library, "it was named"),
-        (os.environ.get(VARIABLE), f"{VARIABLE} names it"),
-    ):
-        if named:
-            if Path(named).is_file():
-                return Path(named).absolute()
-            raise LibraryMissing(f"there is no library {named} ({by}).\n{HOW_TO_BUILD}")
+    if named := named_file(library, VARIABLE):
+        path, by = named
+        if path.is_file():
+            return path.absolute()
+        raise LibraryMissing(f"there is no library {path} ({by}).\n{HOW_TO_BUILD}")
     found = _installed()
     if found:
         return found

@@ -10,7 +10,6 @@ import base64
 import gzip
 import html
 import json
-import os
 import re
 from dataclasses import asdict, dataclass
 from enum import IntEnum, IntFlag
@@ -20,7 +19,7 @@ from typing import Final
 from .errors import PageMissing
 from .limits import DEEPEST, SUBPIXELS
 from .messages import FAULTS, REFUSALS
-from .program import repository
+from .program import named_file, repository
 from .states import (
     ColorWriteEnable,
     ComparisonFunc,
@@ -66,14 +65,11 @@ def find_page(page: str | Path | None = None) -> Path:
 
     Raises :class:`~yuzuratchet.errors.PageMissing`, whose text says how to build it.
     """
-    for named, by in (
-        (page, "it was named"),
-        (os.environ.get(VARIABLE), f"{VARIABLE} names it"),
-    ):
-        if named:
-            if Path(named).is_file():
-                return Path(named)
-            raise PageMissing(f"there is no page {named} ({by}).\n{HOW_TO_BUILD}")
+    if named := named_file(page, VARIABLE):
+        path, by = named
+        if path.is_file():
+            return path
+        raise PageMissing(f"there is no page {path} ({by}).\n{HOW_TO_BUILD}")
     top = repository()
     if top and (top / BUILT).is_file():
         return top / BUILT

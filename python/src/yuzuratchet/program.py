@@ -35,18 +35,22 @@ def repository() -> Path | None:
     return top if (top / "crates" / NAME).is_dir() else None
 
 
+def named_file(given: str | Path | None, variable: str) -> tuple[Path, str] | None:
+    """The file that is named here, or else by the environment, and who names it."""
+    for named, by in ((given, "it was named"), (os.environ.get(variable), f"{variable} names it")):
+        if named:
+            return Path(named), by
+    return None
+
+
 def find_program(program: str | Path | None = None) -> Path:
     """The program: the one that is named here, or else by the environment, or else the one that was
     built in this clone of the repository, or else the one on the path.
 
     Raises :class:`~yuzuratchet.errors.ProgramMissing`, whose text says how to build it.
     """
-    for named, by in (
-        (program, "it was named"),
-        (os.environ.get(VARIABLE), f"{VARIABLE} names it"),
-    ):
-        if named:
-            return _usable(Path(named), by)
+    if named := named_file(program, VARIABLE):
+        return _usable(*named)
     top = repository()
     if top and os.access(top / BUILT, os.X_OK):
         return top / BUILT
