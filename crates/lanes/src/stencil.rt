@@ -1,6 +1,6 @@
 //! The stencil test of eight pixels.
 
-ghost use Rattle.std.specs.Prelude.{◌≡◌, ℕ, ◌<◌, ◌==◌, true, IsTrue, bit_and, slice_index, if◌then◌else◌};
+ghost use Rattle.std.specs.Prelude.{◌≡◌, ℕ, ◌<◌, ◌==◌, true, IsTrue, bit_and, slice_index, if◌then◌else◌, min, ◌+◌, ◌-◌};
 ghost use Rattle.std.specs.Int.{bit_at};
 ghost use Rattle.gfxspec.specs.DepthStencil.{compares, masked};
 ghost use Rattle.lanes.specs.Stencil.{has, reference_passes, stencil_after};
@@ -44,25 +44,14 @@ impl ByteChange {
         }
     }
 
-    /// One value changed.
-    #[inline(always)]
-    fn onto(&self, stored: u8) -> u8
-        ensures { result ≡ changed self.now stored }
-    {
-        let raised = stored.saturating_add(self.raise);
-        raised.saturating_sub(self.lower).wrapping_add(self.turn) ^ self.flip
-    }
-
     /// Eight values changed.
     #[inline(always)]
     fn onto_each(&self, stored: &[u8; 8]) -> [u8; 8]
         ensures { (j : ℕ) → j < 8 → slice_index result j ≡ changed self.now (slice_index stored.now j) }
     {
-        let mut after = [0; 8];
-        for j in 0..8usize {
-            after[j] = self.onto(stored[j]);
-        }
-        after
+        let lowered = lowered_each(raised_each(*stored, self.raise), self.lower);
+        let turned = u8x8::from_array(lowered) + u8x8::splat(self.turn);
+        (turned ^ u8x8::splat(self.flip)).to_array()
     }
 }
 
@@ -98,7 +87,9 @@ impl Model for StencilTest {
 }
 
 impl StencilTest {
-    /// The test of a state for front-facing or back-facing triangles.
+    /// The test of a state for front-facing or back-facing triangles. It is inlined, so that loops over many values have its numbers in
+    /// registers.
+    #[inline(always)]
     pub fn of(state: &DepthStencilState, front: bool, reference: u8) -> StencilTest
         ensures { result ≡ record { setting = state.now; face = if front then state.now.front else state.now.back; reference = reference } }
     {
@@ -184,16 +175,32 @@ impl StencilTest {
     }
 }
 
+/// Eight values that go up by a number, no further than 255.
+#[inline(always)]
+fn raised_each(values: [u8; 8], by: u8) -> [u8; 8]
+    ensures { (j : ℕ) → j < 8 → slice_index result j ≡ min (slice_index values j + by) 255 }
+{
+    u8x8::from_array(values)
+        .saturating_add(u8x8::splat(by))
+        .to_array()
+}
+
+/// Eight values that go down by a number, no further than 0.
+#[inline(always)]
+fn lowered_each(values: [u8; 8], by: u8) -> [u8; 8]
+    ensures { (j : ℕ) → j < 8 → slice_index result j ≡ slice_index values j - by }
+{
+    u8x8::from_array(values)
+        .saturating_sub(u8x8::splat(by))
+        .to_array()
+}
+
 /// The bits of a mask in each of eight values.
 #[inline(always)]
 fn under(mask: u8, stored: &[u8; 8]) -> [u8; 8]
     ensures { (j : ℕ) → j < 8 → slice_index result j ≡ bit_and (slice_index stored.now j) mask }
 {
-    let mut bits = [0; 8];
-    for j in 0..8usize {
-        bits[j] = stored[j] & mask;
-    }
-    bits
+    (u8x8::from_array(*stored) & u8x8::splat(mask)).to_array()
 }
 
 /// The bits of new values where the mask has ones, and else those of the old.
@@ -201,11 +208,9 @@ fn under(mask: u8, stored: &[u8; 8]) -> [u8; 8]
 fn masked_each(mask: u8, new: &[u8; 8], old: &[u8; 8]) -> [u8; 8]
     ensures { (j : ℕ) → j < 8 → slice_index result j ≡ masked mask (slice_index new.now j) (slice_index old.now j) }
 {
-    let mut bits = [0; 8];
-    for j in 0..8usize {
-        bits[j] = (new[j] & mask) | (old[j] & !mask);
-    }
-    bits
+    let changed = u8x8::from_array(*new) & u8x8::splat(mask);
+    let kept = u8x8::from_array(*old) & u8x8::splat(!mask);
+    (changed | kept).to_array()
 }
 
 /// Bit j is set where the comparison holds of new value j, on the left, and old value j.

@@ -1,7 +1,6 @@
 use Rattle.std.proofs.Common.{◌≡◌, ◌∙◌, sym, subst, ap, refl, rules, true, slice_index}
-use Rattle.lanes.specs.Stencil.{StencilRule, has, reference_passes}
+use Rattle.lanes.specs.Stencil.{StencilRule, reference_passes}
 use Rattle.lanes.specs.StencilInside.{rule_of}
-use Rattle.gfxspec.specs.declared.state.Compare.{Compare}
 use Rattle.gfxspec.specs.declared.state.Compare.TheVariants.{Always}
 use Rattle.gfxspec.specs.DepthStencil.{compares}
 use Rattle.std.specs.Prelude.{bit_and}
