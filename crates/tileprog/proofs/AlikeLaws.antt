@@ -22,11 +22,14 @@ use Rattle.tileword.specs.declared.edge_mask.EdgeMask.{EdgeMask}
 use Rattle.binner.specs.declared.entry.StateEntry.{StateEntry}
 use Rattle.binner.specs.declared.setup.TriSetup.{TriSetup}
 use Rattle.binner.specs.Program.{reaches_by, outcome, drawn, triangle_by}
-use Rattle.tileprog.specs.Alike.{opposite, HasOutcome, face_of, IsAlike, operated}
+use Rattle.tileprog.specs.Alike.{opposite, HasOutcome, face_of, IsAlike, operated, painted}
 use Rattle.tileprog.specs.Counting.{one_if}
 use Rattle.tileprog.specs.Hidden.{none_passes, DepthsLie}
+use Rattle.tileprog.specs.declared.kind.Tests.TheVariants.{Open, Depth, Stencil}
+use Rattle.tileprog.specs.Kinds.{tests_of}
 use Rattle.tileprog.specs.Passing.{triangle_count}
 use Rattle.tileprog.proofs.Hiding.{none_pass}
+use Rattle.tileprog.proofs.Lanes.{all_open, tested_open}
 use Rattle.tileprog.proofs.Summing.{sum_over_same, sum_over_none}
 use Rattle.tileprog.proofs.Ones.{same_sums}
 
@@ -120,6 +123,21 @@ module _ (t : TriSetup) (e : StateEntry) (deep : Bool) (a : IsAlike t e deep) (b
   alike_pixel =
       (λ i. record { rgba = colored deep a.colors i; ds = (operated (rule_of t e) deep (pixel_at b u v)).ds })
       ∙ ap (λ o. drawn t e o (pixel_at b u v)) (sym outcome_is)
+
+-- ---- where nothing is tested
+
+pub open_of : (s : DepthStencilSetting) → s.stencil ≡ false → s.depth ≡ false → tests_of s ≡ Open
+open_of s stencil depth = (λ i. if stencil i then Stencil else (if depth i then Depth s.func s.write else Open))
+
+module _ (t : TriSetup) (e : StateEntry) (kind : tests_of e.depth_stencil ≡ Open) (b : Block) (u v : ℕ) where
+  open_outcome : outcome t e u v (pixel_at b u v) ≡ record { after = (pixel_at b u v).ds; passed = true }
+  open_outcome = tested_open e.depth_stencil (face_of t e) e.reference (depth_of t.plane u v) (pixel_at b u v).ds (all_open e.depth_stencil kind)
+
+  pub open_passes : (outcome t e u v (pixel_at b u v)).passed ≡ true
+  open_passes = ap (λ (o : TestOutcome). o.passed) open_outcome
+
+  pub open_pixel : painted e.blend t.rgba (pixel_at b u v) ≡ drawn t e (outcome t e u v (pixel_at b u v)) (pixel_at b u v)
+  open_pixel = ap (λ o. drawn t e o (pixel_at b u v)) (sym open_outcome)
 
 -- ---- counts
 

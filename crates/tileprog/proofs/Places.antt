@@ -5,10 +5,9 @@ use Rattle.std.proofs.lemmas.Bool.Decides.{nat_tests}
 use Rattle.gfxspec.specs.declared.pixel.Pixel.{Pixel}
 use Rattle.gfxspec.specs.declared.geometry.PixelRect.{PixelRect}
 use Rattle.gfxspec.specs.Tiles.{IsIn, IsInTile}
-use Rattle.lanes.specs.Stencil.{StencilRule, stencil_after}
 use Rattle.tileblock.specs.Block.{Block, pixel_at}
 use Rattle.tileblock.specs.SpanStored.{SpanStored, lane_pixel}
-use Rattle.tileprog.specs.Alike.{AreBytes, operated, Operated}
+use Rattle.tileprog.specs.Alike.{AreBytes, Changed}
 
 -- the number of a pixel's span
 abbrev pub place : PixelRect → ℕ → ℕ → ℕ
@@ -72,11 +71,11 @@ more_bytes b at values tile was small is u v inside h =
 pub all_bytes : (b : Block) (at : ℕ) → IsInTile b.rect → at ≡ 128 → BytesSoFar b at → AreBytes b
 all_bytes b at tile e was u v is = let l = few b.rect tile u v is in was u v is (omega (arith, l, e))
 
--- ---- values that an operation changes
+-- ---- pixels that are changed
 
-pub record OperatedSoFar (r : StencilRule) (deep : Bool) (old mid : Block) (at : ℕ) : Type 0 where
+pub record ChangedSoFar (f : Pixel → Pixel) (old mid : Block) (at : ℕ) : Type 0 where
   pub rect : mid.rect ≡ old.rect
-  pub pixels : (u v : ℕ) → IsIn old.rect u v → pixel_at mid u v ≡ (if nat_lt (place old.rect u v) at then operated r deep (pixel_at old u v) else pixel_at old u v)
+  pub pixels : (u v : ℕ) → IsIn old.rect u v → pixel_at mid u v ≡ (if nat_lt (place old.rect u v) at then f (pixel_at old u v) else pixel_at old u v)
 
 tested_yes : (n m : ℕ) → n < m → nat_lt n m ≡ true
 tested_yes n m h = grind (arith, nat_tests, h)
@@ -93,22 +92,17 @@ same_step n m e = omega (arith, e)
 next_step : (n m : ℕ) → n ≡ m → n < m + 1
 next_step n m e = omega (arith, e)
 
-pub none_operated : (r : StencilRule) (deep : Bool) (old : Block) → OperatedSoFar r deep old old 0
-none_operated r deep old = record {
+pub none_changed : (f : Pixel → Pixel) (old : Block) → ChangedSoFar f old old 0
+none_changed f old = record {
   rect = λ i. old.rect;
-  pixels = λ u v is. ap (λ b. if b then operated r deep (pixel_at old u v) else pixel_at old u v) (sym (tested_no (place old.rect u v) 0 (omega arith)));
+  pixels = λ u v is. ap (λ b. if b then f (pixel_at old u v) else pixel_at old u v) (sym (tested_no (place old.rect u v) 0 (omega arith)));
 }
 
-module _ (r : StencilRule) (deep : Bool) (old mid new : Block) (at : ℕ) (values : List ℕ) (tile : IsInTile old.rect) (was : OperatedSoFar r deep old mid at)
-    (stored : SpanStored mid new (at % 4) (at / 4) (λ j p. record p { ds = record { depth = p.ds.depth; stencil = slice_index values j } }))
-    (after : (j : ℕ) → j < 8 → slice_index values j ≡ stencil_after r true deep (lane_pixel mid (at % 4) (at / 4) j).ds.stencil) where
+module _ (f : Pixel → Pixel) (old mid new : Block) (at : ℕ) (change : ℕ → Pixel → Pixel) (tile : IsInTile old.rect) (was : ChangedSoFar f old mid at)
+    (stored : SpanStored mid new (at % 4) (at / 4) change)
+    (same : (j : ℕ) → j < 8 → change j (lane_pixel mid (at % 4) (at / 4) j) ≡ f (lane_pixel mid (at % 4) (at / 4) j)) where
   abbrev step : Bool → ℕ → ℕ → Pixel
-  step b u v = if b then operated r deep (pixel_at old u v) else pixel_at old u v
-
-  lane_now : (j : ℕ) → j < 8 → lane_pixel new (at % 4) (at / 4) j ≡ operated r deep (lane_pixel mid (at % 4) (at / 4) j)
-  lane_now j h =
-      let p = lane_pixel mid (at % 4) (at / 4) j in
-      stored.here j h ∙ (λ i. record { rgba = p.rgba; ds = record { depth = p.ds.depth; stencil = after j h i } })
+  step b u v = if b then f (pixel_at old u v) else pixel_at old u v
 
   here : (u v : ℕ) → IsIn old.rect u v → place old.rect u v ≡ at → pixel_at new u v ≡ step (nat_lt (place old.rect u v) (at + 1)) u v
   here u v is e =
@@ -120,8 +114,8 @@ module _ (r : StencilRule) (deep : Bool) (old mid new : Block) (at : ℕ) (value
       let new_x : new.rect.left + 8 * span + j ≡ u = ap (λ (q : PixelRect). q.left + 8 * span + j) stored.rect ∙ mid_x in
       let new_y : new.rect.top + at / 4 ≡ v = ap (λ (q : PixelRect). q.top + at / 4) stored.rect ∙ mid_y in
       sym (λ i. pixel_at new (new_x i) (new_y i))
-      ∙ lane_now j l.lane
-      ∙ ap (operated r deep)
+      ∙ stored.here j l.lane ∙ same j l.lane
+      ∙ ap f
       ((λ i. pixel_at mid (mid_x i) (mid_y i)) ∙ was.pixels u v is ∙ ap (λ b. step b u v) (tested_no (place old.rect u v) at (same_step _ _ e)))
       ∙ ap (λ b. step b u v) (sym (tested_yes (place old.rect u v) (at + 1) (next_step _ _ e)))
 
@@ -133,16 +127,16 @@ module _ (r : StencilRule) (deep : Bool) (old mid new : Block) (at : ℕ) (value
       ∙ was.pixels u v is
       ∙ ap (λ b. step b u v) (tested_same (place old.rect u v) at ne)
 
-  pub more_operated : OperatedSoFar r deep old new (at + 1)
-  more_operated = record {
+  pub more_changed : ChangedSoFar f old new (at + 1)
+  more_changed = record {
     rect = stored.rect ∙ was.rect;
     pixels = λ u v is. ⊎_elim (here u v is) (away u v is) (cases (place old.rect u v) at);
   }
 
-pub all_operated : (r : StencilRule) (deep : Bool) (old new : Block) (at : ℕ) → IsInTile old.rect → at ≡ 128 → OperatedSoFar r deep old new at → Operated r deep old new
-all_operated r deep old new at tile e was = record {
+pub all_changed : (f : Pixel → Pixel) (old new : Block) (at : ℕ) → IsInTile old.rect → at ≡ 128 → ChangedSoFar f old new at → Changed f old new
+all_changed f old new at tile e was = record {
   rect = was.rect;
   pixels = λ u v is.
       let l = few old.rect tile u v is in
-      was.pixels u v is ∙ ap (λ b. if b then operated r deep (pixel_at old u v) else pixel_at old u v) (tested_yes (place old.rect u v) at (omega (arith, l, e)));
+      was.pixels u v is ∙ ap (λ b. if b then f (pixel_at old u v) else pixel_at old u v) (tested_yes (place old.rect u v) at (omega (arith, l, e)));
 }

@@ -1,10 +1,10 @@
 -- Triangles that do the same at each pixel of a tile.
-use Rattle.std.specs.Prelude.{ℕ, ◌≡◌, ◌<◌, ◌≤◌, Bool, true, false, ◌&&◌, Option, IfSome, if◌then◌else◌}
+use Rattle.std.specs.Prelude.{ℕ, ◌≡◌, ◌<◌, ◌≤◌, Bool, true, false, ◌&&◌, Option, IfSome, List, if◌then◌else◌}
 use Rattle.std.specs.Int.{to_le_bytes, w32}
 use Rattle.gfxspec.specs.declared.pixel.Pixel.{Pixel}
 use Rattle.gfxspec.specs.declared.state.Compare.{Compare}
 use Rattle.gfxspec.specs.declared.state.Compare.TheVariants.{Never, Less, Equal, LessEqual, Greater, NotEqual, GreaterEqual, Always}
-use Rattle.gfxspec.specs.Color.{written_color}
+use Rattle.gfxspec.specs.Color.{BlendSetting, written_color}
 use Rattle.gfxspec.specs.DepthStencil.{DepthStencilSetting, FaceSetting, depth_passes}
 use Rattle.gfxspec.specs.Tiles.{IsIn}
 use Rattle.lanes.specs.Stencil.{StencilRule, stencil_after}
@@ -47,7 +47,11 @@ AreBytes b = (u v : ℕ) → IsIn b.rect u v → (pixel_at b u v).ds.stencil < 2
 abbrev pub operated : StencilRule → Bool → Pixel → Pixel
 operated r deep p = record { rgba = p.rgba; ds = record { depth = p.ds.depth; stencil = stencil_after r true deep p.ds.stencil } }
 
--- each pixel of the rectangle has had it
-pub record Operated (r : StencilRule) (deep : Bool) (old new : Block) : Type 0 where
+-- a pixel after a colour that is written whatever is stored
+abbrev pub painted : BlendSetting → List ℕ → Pixel → Pixel
+painted b rgba p = record { rgba = written_color b rgba p.rgba; ds = p.ds }
+
+-- each pixel of the rectangle has had a change
+pub record Changed (f : Pixel → Pixel) (old new : Block) : Type 0 where
   pub rect : new.rect ≡ old.rect
-  pub pixels : (u v : ℕ) → IsIn old.rect u v → pixel_at new u v ≡ operated r deep (pixel_at old u v)
+  pub pixels : (u v : ℕ) → IsIn old.rect u v → pixel_at new u v ≡ f (pixel_at old u v)

@@ -1,4 +1,4 @@
-//! Words under a stencil test whose triangle does the same at each pixel of a tile.
+//! Words whose triangle does the same at each pixel of a tile: no loop over columns is needed, and no depth is walked.
 
 ghost use Rattle.std.specs.Prelude.{◌≡◌, ◌<◌, ◌≤◌, ◌-◌, ◌*◌, ℕ, Bool, IsTrue, IfSome};
 ghost use Rattle.std.specs.Int.{to_le_bytes, w32};
@@ -11,13 +11,16 @@ ghost use Rattle.tileblock.specs.Block.{pixel_at};
 ghost use Rattle.meaning.specs.Over.{sum_over};
 ghost use Rattle.binner.specs.Program.{outcome, drawn};
 ghost use Rattle.tileprog.specs.Counting.{one_if};
+ghost use Rattle.tileprog.specs.Kinds.{tests_of};
+ghost use Rattle.tileprog.specs.declared.kind.Tests.TheVariants.{Open};
+ghost use Rattle.tileprog.specs.Painting.{PaintsAs};
 ghost use Rattle.tileprog.specs.Passing.{IsTile};
-ghost use Rattle.tileprog.specs.Alike.{opposite, HasOutcome, IsAlike, AreBytes, Operated};
+ghost use Rattle.tileprog.specs.Alike.{opposite, HasOutcome, IsAlike, AreBytes, operated, painted, Changed};
 
 use crate::hidden::none_passes;
 use binner::{StateEntry, TriSetup};
 use gfxspec::{Compare, PixelRect};
-use lanes::StencilTest;
+use lanes::{StencilTest, write8};
 use logicop::ColorWrite;
 use states::BlendState;
 use std::alloc::Allocator;
@@ -142,7 +145,7 @@ fn read_bytes<A: Allocator>(block: &TileBlock<A>)
 fn operate<A: Allocator>(block: &mut TileBlock<A>, test: &StencilTest, deep: bool, bits: u8)
     requires tile { IsInTile block.old.rect }
     requires bits { (j : ℕ) → j < 8 → has bits j ≡ deep }
-    ensures { Operated test.now deep block.old block.new }
+    ensures { Changed (operated test.now deep) block.old block.new }
 {
     let keeps = test.keeps(255, 255, bits);
     if keeps {
@@ -187,4 +190,70 @@ pub(crate) fn run_alike<A: Allocator>(
     }
     operate(block, &test, false, 0);
     0
+}
+
+/// Whether a triangle that reaches all pixels of a tile tests nothing there.
+pub(crate) fn is_open(entry: &StateEntry, whole: bool) -> bool
+    ensures whole { IsTrue result → IsTrue whole }
+    ensures open { IsTrue result → tests_of entry.now.depth_stencil ≡ Open }
+{
+    let state = entry.depth_stencil;
+    if !whole || state.stencil() || state.depth() {
+        return false;
+    }
+    true
+}
+
+/// Does a write to each pixel of a tile. The loop has nothing else: what the write keeps is known to its inlined copies.
+#[inline(always)]
+fn write_tile<A: Allocator>(
+    block: &mut TileBlock<A>,
+    write: ColorWrite,
+    blend: BlendState,
+    rgba: [u8; 4],
+)
+    requires tile { IsInTile block.old.rect }
+    requires paints { PaintsAs write blend rgba }
+    ensures { Changed (painted blend rgba) block.old block.new }
+{
+    for at in 0..128u32 {
+        let stored = block.color_span(at % 4, at / 4);
+        block.set_color_span(at % 4, at / 4, write8(write, &stored));
+    }
+}
+
+/// Writes a colour to each pixel of a tile. Where all bits are kept, as under XOR, or none, as under no operation, the loop knows that.
+#[inline(always)]
+fn paint_tile<A: Allocator>(block: &mut TileBlock<A>, blend: BlendState, rgba: [u8; 4])
+    requires tile { IsInTile block.old.rect }
+    ensures { Changed (painted blend rgba) block.old block.new }
+{
+    let write = ColorWrite::of_state(&blend, u32::from_le_bytes(rgba));
+    let flip = write.flip;
+    if write.keep == u32::MAX {
+        let keep = u32::MAX;
+        write_tile(block, ColorWrite { keep, flip }, blend, rgba);
+    } else if write.keep == 0 {
+        write_tile(block, ColorWrite { keep: 0, flip }, blend, rgba);
+    } else {
+        write_tile(block, write, blend, rgba);
+    }
+}
+
+/// A triangle that tests nothing over a tile, all pixels of which it reaches; the answer is how many there are.
+pub(crate) fn run_open<A: Allocator>(
+    block: &mut TileBlock<A>,
+    triangle: &TriSetup,
+    entry: &StateEntry,
+) -> u32
+    requires tile { IsTile block.old.rect }
+    requires open { tests_of entry.now.depth_stencil ≡ Open }
+    ensures rect { block.new.rect ≡ block.old.rect }
+    ensures pixels { (u v : ℕ) → IsIn block.old.rect u v → pixel_at block.new u v ≡ drawn triangle.now entry.now (outcome triangle.now entry.now u v (pixel_at block.old u v)) (pixel_at block.old u v) }
+    ensures count { result ≡ sum_over block.old.rect (λ u v. one_if (outcome triangle.now entry.now u v (pixel_at block.old u v)).passed) }
+    ensures few { result ≤ 1024 }
+{
+    let rect = block.rect();
+    paint_tile(block, entry.blend, triangle.rgba);
+    pixels_in(rect)
 }

@@ -15,7 +15,7 @@ ghost use Rattle.tileprog.specs.Hidden.{DepthsLie, IsWhole};
 ghost use Rattle.tileprog.specs.Passing.{triangle_count, IsTile};
 ghost use Rattle.tileprog.specs.Strokes.{IsWithin};
 
-use crate::alike::{alike_outcome, run_alike};
+use crate::alike::{alike_outcome, is_open, run_alike, run_open};
 use crate::brush::make_brush;
 use crate::draw::draw;
 use crate::hidden::{asks_plane, bounds_after, is_hidden, keep_after};
@@ -117,8 +117,12 @@ pub(crate) fn run_triangle<A: Allocator>(
     if clip.left >= clip.right || clip.top >= clip.bottom {
         return 0;
     }
-    let stored = block.depth_bounds();
     let whole = is_whole(rect, clip, mask);
+    let open = is_open(entry, whole);
+    if open {
+        return run_open(block, triangle, entry);
+    }
+    let stored = block.depth_bounds();
     let by_plane = asks_plane(entry, stored, whole);
     let (least, greatest) = depth_range(triangle, rect, by_plane);
     let hidden = is_hidden(entry, least, greatest, stored);

@@ -50,6 +50,30 @@ returns-then-clip-clause-count g c =
     let empty : (clip.right ≤ clip.left) ⊎ (clip.bottom ≤ clip.top) = ⊎_elim (λ a. inl a) (λ b. inr b.1) c.then-clip.either in
     none_counted p c.args.entry.now c.args.mask clip r c.requires.tile c.requires.class c.requires.bounded inside empty c.args.block.now
 
+pub returns-then-open-clause-pixels : goal.returns-then-open-clause-pixels
+returns-then-open-clause-pixels g c = λ u v is.
+    let t = c.args.triangle.now in
+    let b = c.args.block.now in
+    let clip = c.clipped-clip.result in
+    let P : PixelRect → Type 0 = λ r. (u v : ℕ) → IsIn r u v → is_in_rect clip u v ≡ is_in_rect t.bounds u v in
+    let inside = subst P c.rect-rect.ensures c.clipped-clip.ensures.pixels in
+    let W : PixelRect → Type 0 = λ r. IsWhole r clip c.args.mask in
+    let every = subst W c.rect-rect.ensures (c.is_whole-whole.ensures (c.is_open-open.ensures.whole c.if-open.true)) in
+    c.run_open.ensures.pixels u v is
+    ∙ drawn_everywhere t c.args.entry.now c.args.mask b (whole_reached t c.args.entry.now c.args.mask clip b.rect c.requires.tile c.requires.class c.requires.bounded inside every) u v is
+
+pub returns-then-open-clause-count : goal.returns-then-open-clause-count
+returns-then-open-clause-count g c =
+    let t = c.args.triangle.now in
+    let b = c.args.block.now in
+    let clip = c.clipped-clip.result in
+    let P : PixelRect → Type 0 = λ r. (u v : ℕ) → IsIn r u v → is_in_rect clip u v ≡ is_in_rect t.bounds u v in
+    let inside = subst P c.rect-rect.ensures c.clipped-clip.ensures.pixels in
+    let W : PixelRect → Type 0 = λ r. IsWhole r clip c.args.mask in
+    let every = subst W c.rect-rect.ensures (c.is_whole-whole.ensures (c.is_open-open.ensures.whole c.if-open.true)) in
+    c.run_open.ensures.count
+    ∙ counted_everywhere t c.args.entry.now c.args.mask b (whole_reached t c.args.entry.now c.args.mask clip b.rect c.requires.tile c.requires.class c.requires.bounded inside every)
+
 pub returns-then-hidden-clause-pixels : goal.returns-then-hidden-clause-pixels
 returns-then-hidden-clause-pixels g c = λ u v is.
     hidden_pixel c.args.triangle.now c.args.entry.now c.args.mask c.args.block.now c.requires.class c.depth_range-least.result.0 c.depth_range-least.result.1 (lie_in c.args.triangle.now c.rect-rect.result c.args.block.now.rect c.depth_range-least.result.0 c.depth_range-least.result.1 c.rect-rect.ensures c.depth_range-least.ensures) c.depth_bounds-stored.result c.depth_bounds-stored.ensures (c.is_hidden-hidden.ensures c.if-hidden.true) u v is
