@@ -16,7 +16,7 @@ pub enum GatherError {
 }
 
 /// How many bytes are asked for at a time.
-const PIECE: usize = 4096;
+const PIECE: usize = 32_768;
 
 /// All bytes of a source, to its end.
 pub fn gather<S: Source, A: Allocator>(alloc: A, source: &mut S) -> Result<Vec<u8, A>, GatherError>

@@ -8,7 +8,7 @@ invariant-loop-count g l =
       sound : device.failures l.source ≡ device.failures l.fn.source;
       told : device.tells l.fn.source → device.tells l.source;
       bytes : device.tells l.fn.source → device.rest l.fn.source ≡ l.bytes.items ++ device.rest l.source;
-      piece : length l.piece ≡ 4096;
+      piece : length l.piece ≡ 32768;
     }
 
 abbrev pub decreases-loop-count : goal.decreases-loop-count
