@@ -21,3 +21,4 @@ pub mod Noting
 pub mod Whole
 pub mod Performing
 pub mod Ending
+pub mod Batching

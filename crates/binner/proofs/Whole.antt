@@ -54,7 +54,7 @@ fresh_current c s bits h n e = absurd (clash (sym h ∙ e))
     clash : None ≡ Some n → ⊥
     clash p = cc
 
-kept_sound : {A : Type 0} (old new : Compiling A) → SameTables old new → IsSound old → IsSound new
+pub kept_sound : {A : Type 0} (old new : Compiling A) → SameTables old new → IsSound old → IsSound new
 kept_sound old new h k = record {
   lists = subst IsLists (sym h.lists) k.lists;
   short = subst (λ l. IsShort (2 * length new.triangles.items + (length new.colors.items + length new.depths.items)) l) (sym h.lists)
@@ -64,7 +64,7 @@ kept_sound old new h k = record {
     sums : {a b c d e f : ℕ} → a ≡ d → b ≡ e → c ≡ f → 2 * a + (b + c) ≡ 2 * d + (e + f)
     sums p q r = rw (p, q, r) refl
 
-kept_means : {A : Type 0} (old new : Compiling A) → SameTables old new → ((n : Current) → new.current ≡ Some n → old.current ≡ Some n) → (is : List Item) → HasCompiled old is → HasCompiled new is
+pub kept_means : {A : Type 0} (old new : Compiling A) → SameTables old new → ((n : Current) → new.current ≡ Some n → old.current ≡ Some n) → (is : List Item) → HasCompiled old is → HasCompiled new is
 kept_means old new h cur is m =
     subst (λ l. (k : ℕ) → k < tile_count l.size → ListMeans (tables new) (tile_rect l.size k) is new.current (at l k)) (sym h.lists)
     (λ k b. subst (λ t. ListMeans t (tile_rect old.lists.size k) is new.current (at old.lists k)) same

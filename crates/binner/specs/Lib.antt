@@ -7,3 +7,4 @@ pub mod Compiled
 pub mod Compiling
 pub mod Opened
 pub mod Setups
+pub mod Batched

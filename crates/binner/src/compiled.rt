@@ -59,7 +59,7 @@ fn uncounted<A: Allocator + Copy>(alloc: A, tiles: u32) -> Result<Vec<bool, A>, 
 }
 
 /// Nothing compiled yet. Without memory the bins come back.
-fn nothing<A: Allocator + Copy>(
+pub(crate) fn nothing<A: Allocator + Copy>(
     alloc: A,
     size: Size,
     bins: Bins<A>,
@@ -89,7 +89,7 @@ fn nothing<A: Allocator + Copy>(
 }
 
 /// The compiled list, once all its commands are added, which begin so many issues.
-fn finished<A: Allocator + Copy>(compiling: Compiling<A>, issues: u32) -> Compiled<A>
+pub(crate) fn finished<A: Allocator + Copy>(compiling: Compiling<A>, issues: u32) -> Compiled<A>
     requires { IsCompilation (compilation_of issues compiling) }
     ensures { result ≡ compilation_of issues compiling }
 {

@@ -285,7 +285,7 @@ fn add_command<A: Allocator + Copy>(
 
 /// Adds what a command draws or clears under a state, unless the state's predicate withholds it. What it draws may
 /// be set up already, in parts.
-fn add_performed<A: Allocator + Copy>(
+pub(crate) fn add_performed<A: Allocator + Copy>(
     compiling: &mut Compiling<A>,
     command: &Command<A>,
     state: &State<'_>,
@@ -310,7 +310,7 @@ fn add_performed<A: Allocator + Copy>(
 }
 
 /// Whether a command leaves what entries are made of as it is.
-fn keeps_entry<A: Allocator>(command: &Command<A>) -> bool
+pub(crate) fn keeps_entry<A: Allocator>(command: &Command<A>) -> bool
     ensures { IsTrue result → (s : Settings) (issues : ℕ) → entry_of (settings_with (command_value command.now) s) issues ≡ entry_of s issues }
 {
     match command {
@@ -327,7 +327,12 @@ fn keeps_entry<A: Allocator>(command: &Command<A>) -> bool
 }
 
 /// Has no entry for the state that comes next, unless the last one still is its entry.
-fn forget_unless<A: Allocator>(compiling: &mut Compiling<A>, kept: bool, before: u64, after: u64)
+pub(crate) fn forget_unless<A: Allocator>(
+    compiling: &mut Compiling<A>,
+    kept: bool,
+    before: u64,
+    after: u64,
+)
     ensures rest { SameTables compiling.old compiling.new }
     ensures current { (n : Current) → compiling.new.current ≡ Some n → IsTrue kept × (before ≡ after) × (compiling.old.current ≡ Some n) }
 {

@@ -7,6 +7,7 @@
 #![tactic(auto)]
 
 mod ahead;
+mod batch;
 mod compiled;
 mod compiling;
 mod draws;
@@ -17,6 +18,7 @@ mod predicate;
 mod prepare;
 mod setup;
 
+pub use batch::Batch;
 pub use compiled::{Compiled, compile, compile_parallel, programs_count_the_target};
 pub use entry::StateEntry;
 pub use setup::TriSetup;

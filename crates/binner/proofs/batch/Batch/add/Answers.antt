@@ -1,0 +1,19 @@
+use Rattle.std.proofs.Common.{sym, subst, ◌++◌, map}
+use Rattle.gfxspec.specs.Recorded.{items}
+use Rattle.gfxspec.specs.Predication.{performed}
+use Rattle.cmdlist.specs.Seen.{command_value}
+use Rattle.binner.specs.Compiling.{HasCompiled, told}
+use Rattle.binner.proofs.batch.Batch.add.Goals as goal
+
+pub invariant_of-result : goal.invariant_of-result
+invariant_of-result g c =
+    let b = c.self.invariant in
+    record {
+      sound = c.in-Ok.ensures.sound;
+      room = c.in-Ok.ensures.room;
+      items = b.items ++ items (performed (told c.args.results.now) (map command_value c.args.commands.now));
+      compiled = c.in-Ok.ensures.means b.items b.compiled;
+    }
+
+pub returns-in-Ok-clause-means : goal.returns-in-Ok-clause-means
+returns-in-Ok-clause-means g c is h = c.in-Ok.ensures.means is (subst (λ k. HasCompiled k is) (sym c.self.view_is) h)

@@ -1,0 +1,7 @@
+use Rattle.cmdlist.specs.Seen.{state_value}
+use Rattle.binner.specs.Compiling.{told}
+use Rattle.binner.proofs.Batching.{Added}
+use Rattle.binner.proofs.batch.add_behind.Given as goal
+
+abbrev pub invariant-loop-command : goal.invariant-loop-command
+invariant-loop-command g l = Added (told l.fn.results) l.fn.commands l.command-index (state_value l.state) l.fn.compiling l.compiling
