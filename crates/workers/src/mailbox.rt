@@ -1,6 +1,8 @@
 //! Where a thread of a crew waits for its part of a run.
 
+use std::hint::spin_loop;
 use std::mem;
+use std::sync::atomic::{AtomicBool, Ordering};
 use std::sync::{Condvar, Mutex, Wait};
 
 // What lies in a mailbox.
@@ -18,6 +20,8 @@ enum Mail<T> {
 pub(crate) struct Mailbox<T: Drop> {
     mail: Mutex<Mail<T>>,
     bell: Condvar,
+    // Whether there may be something to take, for a thread that looks without the lock.
+    filled: AtomicBool,
 }
 
 // Takes an offer that lies there. That a thread sleeps, or that the mailbox is closed, stays.
@@ -41,6 +45,7 @@ impl<T: Drop> Mailbox<T> {
         Mailbox {
             mail: Mutex::new(Mail::Nothing),
             bell: Condvar::new(),
+            filled: AtomicBool::new(false),
         }
     }
 
@@ -53,6 +58,7 @@ impl<T: Drop> Mailbox<T> {
             _ => false,
         };
         *mail = Mail::Offer(offer);
+        self.filled.store(true, Ordering::Relaxed);
         asleep
     }
 
@@ -64,6 +70,7 @@ impl<T: Drop> Mailbox<T> {
     /// Takes an offer back that nobody took yet.
     pub(crate) fn take_back<R: Wait>(&self, rt: &R) -> Option<T> {
         let mut mail = self.mail.lock(rt);
+        self.filled.store(false, Ordering::Relaxed);
         take(&mut *mail)
     }
 
@@ -71,16 +78,31 @@ impl<T: Drop> Mailbox<T> {
     pub(crate) fn close<R: Wait>(&self, rt: &R) {
         let mut mail = self.mail.lock(rt);
         *mail = Mail::Closed;
+        self.filled.store(true, Ordering::Relaxed);
         drop(mail);
         self.bell.notify_one();
     }
 
-    /// Waits for an offer; none once it is closed.
-    pub(crate) fn next<R: Wait>(&self, rt: &R) -> Option<T> {
+    // Looks so often whether there is something to take, which may spare the thread its sleep.
+    fn look_out(&self, looks: u32) {
+        for _ in 0..looks {
+            if self.filled.load(Ordering::Relaxed) {
+                return;
+            }
+            spin_loop();
+        }
+    }
+
+    /// Waits for an offer; none once it is closed. Its thread looks so often before it sleeps.
+    pub(crate) fn next<R: Wait>(&self, rt: &R, looks: u32) -> Option<T> {
+        self.look_out(looks);
         let mut mail = self.mail.lock(rt);
         for _ in rt.forever() {
             match take(&mut *mail) {
-                Some(offer) => return Some(offer),
+                Some(offer) => {
+                    self.filled.store(false, Ordering::Relaxed);
+                    return Some(offer);
+                }
                 None => {}
             }
             if let Mail::Closed = &*mail {
