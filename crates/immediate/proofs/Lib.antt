@@ -5,3 +5,4 @@ mod Storing
 mod Ran
 mod Idle
 mod Runs
+pub mod Drawn

@@ -2,3 +2,4 @@ pub mod Held
 pub mod Next
 pub mod Issues
 pub mod Outputs
+pub mod Batched

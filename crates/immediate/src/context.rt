@@ -1,20 +1,26 @@
 //! The immediate context.
 
-ghost use Rattle.std.specs.Prelude.{true, false, ◌≡◌, ◌<◌, ◌≤◌, [], ℕ, is_none, not, IfOk, IfErr, OnOk, OnErr, Some, None, unwrap_or, if◌then◌else◌};
+ghost use Rattle.std.specs.Prelude.{true, false, ◌≡◌, ◌<◌, ◌≤◌, ◌++◌, [], ℕ, List, IfSome, is_none, not, IfOk, IfErr, OnOk, OnErr, Some, None, unwrap_or, if◌then◌else◌};
 ghost use Rattle.std.specs.List.{list_any};
 ghost use Rattle.gfxspec.specs.declared.TheConstants.{QUERY_LIMIT};
 ghost use Rattle.gfxspec.specs.declared.error.GfxError.TheVariants.{OutOfMemory};
-ghost use Rattle.gfxspec.specs.Recorded.{queries_open, is_drawing};
+ghost use Rattle.gfxspec.specs.Recorded.{items, issues, queries_open, is_drawing};
 ghost use Rattle.gfxspec.specs.Refusals.{AnswersBy, flush_rows, pixel_rows, query_rows, flush_rows_by, pixel_rows_by, query_rows_by, worker_rows};
 ghost use Rattle.tileblock.specs.Surface.{IsWhole, pixel_of, size_rows};
 ghost use Rattle.meaning.specs.Standing.{IsNew};
 ghost use Rattle.meaning.specs.Contexts.{result_at};
 ghost use Rattle.immediate.specs.Issues.{begins};
 ghost use Rattle.immediate.specs.Next.{ExecutesNext};
-ghost use Rattle.immediate.specs.Held.{Ran, held_of, context_of, shown, answered, Runs};
+ghost use Rattle.gfxspec.specs.Items.{Item};
+ghost use Rattle.cmdlist.specs.Recorder.{is_kept_alone};
+ghost use Rattle.binner.specs.Compiling.{HasCompiled};
+ghost use Rattle.immediate.specs.Outputs.{performed_over};
+ghost use Rattle.immediate.specs.Batched.{HasExecuted};
+ghost use Rattle.immediate.specs.Held.{Ran, held_of, outputs_of, context_of, shown, answered, Runs};
 
 use crate::counts::some_begins;
 use crate::drawing::TileCrew;
+use crate::executions::{Executions, room_for};
 use crate::output::Output;
 use cmdlist::{Call, CommandList, DeferredContext, DeviceContext};
 use gfxspec::{GfxError, Pixel, QUERY_LIMIT, WORKER_LIMIT};
@@ -217,6 +223,50 @@ impl<A: Allocator + Copy + Send> ImmediateContext<A> {
         }
     }
 
+    /// Executions that are to run as one, where nothing is pending but the kept state, and there is memory for them.
+    pub fn begin_executions(&mut self) -> Option<Executions<A>>
+        ensures same { self.new ≡ self.old }
+        ensures kept { IfSome result (λ e. is_kept_alone self.old.pending ≡ true) }
+        ensures size { IfSome result (λ e. e.lists.size ≡ self.old.surface.size) }
+        ensures nothing { IfSome result (λ e. HasCompiled e []) }
+    {
+        if !self.pending.is_kept_state_alone() {
+            return None;
+        }
+        match self.output.begin_batch() {
+            Ok(batch) => Some(Executions { batch, taken: 0 }),
+            Err(_) => None,
+        }
+    }
+
+    /// Adds the execution of a list, which restores the state. Where there is no memory or no room, all are given up.
+    pub fn add_execution(
+        &mut self,
+        executions: Executions<A>,
+        list: &CommandList<A>,
+    ) -> Option<Executions<A>>
+        requires unissued { issues list.now ≡ [] }
+        requires size { executions.lists.size ≡ self.old.surface.size }
+        ensures same { self.new ≡ self.old }
+        ensures size { IfSome result (λ e. e.lists.size ≡ self.old.surface.size) }
+        ensures means { (is : List Item) → HasCompiled executions is
+            → IfSome result (λ e. HasCompiled e (is ++ items (performed_over (outputs_of self.old) list.now))) }
+    {
+        let Executions { batch, taken } = executions;
+        let taken = taken.saturating_add(room_for(list));
+        let batch = self.output.add_to_batch(batch, list.commands())?;
+        Some(Executions { batch, taken })
+    }
+
+    /// Runs executions as one, on the caller's thread. Refused with OutOfMemory alone, and then nothing ran.
+    pub fn run_executions_alone(&mut self, executions: Executions<A>) -> Result<(), GfxError>
+        requires size { executions.lists.size ≡ self.old.surface.size }
+        ensures ok { (is : List Item) → HasCompiled executions is → OnOk result (HasExecuted is self.old self.new) }
+        ensures err { OnErr result (self.new ≡ self.old) }
+    {
+        self.output.run_batch_alone(executions.batch)
+    }
+
     /// The stored count of a query, 0 where it has none.
     fn counted(&self, query: u32) -> u64
         ensures { result ≡ unwrap_or (result_at self.now.results query) 0 }
@@ -385,6 +435,22 @@ impl<A: Allocator + Copy + Send + Sync> ImmediateContext<A> {
         self.output.run_by_crew(rt, list.commands(), crew, gate)?;
         begin_anew(self.alloc, &mut self.pending, restore);
         Ok(())
+    }
+
+    /// `run_executions_alone` by a crew beside the caller.
+    pub fn run_executions_by_crew<'a, R: Wait, G: Gate>(
+        &mut self,
+        rt: &R,
+        executions: Executions<A>,
+        crew: &TileCrew<'a, A>,
+        gate: &G,
+    ) -> Result<(), GfxError>
+        requires size { executions.lists.size ≡ self.old.surface.size }
+        ensures ok { (is : List Item) → HasCompiled executions is → OnOk result (HasExecuted is self.old self.new) }
+        ensures err { OnErr result (self.new ≡ self.old) }
+    {
+        self.output
+            .run_batch_by_crew(rt, executions.batch, crew, gate)
     }
 
     /// `pixel_alone` by a crew beside the caller. Refused with PixelRange, QueryOpen, OutOfMemory.

@@ -14,7 +14,9 @@
 mod context;
 mod counts;
 mod drawing;
+mod executions;
 mod output;
 
 pub use context::ImmediateContext;
 pub use drawing::TileCrew;
+pub use executions::Executions;

@@ -1,9 +1,10 @@
 //! The target and the query results, as the last run left them, and what a run makes of them.
 
-ghost use Rattle.std.specs.Prelude.{◌≡◌, ℕ, ◌<◌, ◌≤◌, None, false, map, replicate, slice_index_or, OnOk, IfOk, IfErr, OnErr};
+ghost use Rattle.std.specs.Prelude.{◌≡◌, ℕ, ◌<◌, ◌≤◌, ◌++◌, [], List, None, false, map, replicate, slice_index_or, OnOk, IfOk, IfErr, OnErr, IfSome};
 ghost use Rattle.std.specs.List.{list_any};
 ghost use Rattle.gfxspec.specs.declared.error.GfxError.TheVariants.{OutOfMemory};
-ghost use Rattle.gfxspec.specs.Items.{opening};
+ghost use Rattle.gfxspec.specs.Items.{Item, opening};
+ghost use Rattle.gfxspec.specs.Recorded.{items, issues};
 ghost use Rattle.gfxspec.specs.Predication.{result_of};
 ghost use Rattle.gfxspec.specs.Refusals.{AnswersBy, AreAccepted};
 ghost use Rattle.gfxspec.specs.Tiles.{tile_count};
@@ -12,12 +13,14 @@ ghost use Rattle.binmem.specs.Lists.{no_words};
 ghost use Rattle.meaning.specs.Contexts.{result_at};
 ghost use Rattle.cmdlist.specs.Seen.{command_value};
 ghost use Rattle.immediate.specs.Issues.{acts};
-ghost use Rattle.immediate.specs.Outputs.{HasRun, IsRunBy};
+ghost use Rattle.binner.specs.Compiling.{HasCompiled};
+ghost use Rattle.immediate.specs.Outputs.{HasRun, IsRunBy, performed_over};
+ghost use Rattle.immediate.specs.Batched.{HasDrawn};
 
 use crate::counts::store_counts;
 use crate::drawing::{TileCrew, draw_alone, draw_by_crew, draw_with_workers};
 use binmem::Bins;
-use binner::{Compiled, compile, compile_parallel};
+use binner::{Batch, Compiled, compile, compile_parallel};
 use cmdlist::Command;
 use gfxspec::GfxError;
 use std::alloc::Allocator;
@@ -164,6 +167,58 @@ impl<A: Allocator + Copy + Send> Output<A> {
         }
     }
 
+    /// A batch of no list, for the target.
+    pub(crate) fn begin_batch(&mut self) -> Result<Batch<A>, GfxError>
+        ensures same { self.new ≡ self.old }
+        ensures size { IfOk result (λ b. b.lists.size ≡ self.old.surface.size) }
+        ensures nothing { IfOk result (λ b. HasCompiled b []) }
+    {
+        let bins = self.take_bins()?;
+        match Batch::new(self.alloc, self.target.size(), bins) {
+            Ok(batch) => Ok(batch),
+            Err(bins) => {
+                self.bins = Some(bins);
+                Err(GfxError::OutOfMemory)
+            }
+        }
+    }
+
+    /// Adds a list to a batch, under the results of the queries; where that is refused, the batch is given up.
+    pub(crate) fn add_to_batch(
+        &mut self,
+        batch: Batch<A>,
+        commands: &[Command<A>],
+    ) -> Option<Batch<A>>
+        requires accepted { AreAccepted (map command_value commands.now) }
+        requires unissued { issues (map command_value commands.now) ≡ [] }
+        requires size { batch.lists.size ≡ self.old.surface.size }
+        ensures same { self.new ≡ self.old }
+        ensures size { IfSome result (λ b. b.lists.size ≡ self.old.surface.size) }
+        ensures means { (is : List Item) → HasCompiled batch is
+            → IfSome result (λ b. HasCompiled b (is ++ items (performed_over self.old (map command_value commands.now)))) }
+    {
+        let told = told_by(&self.results);
+        match batch.add(commands, &told) {
+            Ok(batch) => Some(batch),
+            Err(bins) => {
+                self.bins = Some(bins);
+                None
+            }
+        }
+    }
+
+    /// Runs a batch on the caller's thread. Refused with OutOfMemory alone, before any tile is taken.
+    pub(crate) fn run_batch_alone(&mut self, batch: Batch<A>) -> Result<(), GfxError>
+        requires size { batch.lists.size ≡ self.old.surface.size }
+        ensures ok { (is : List Item) → HasCompiled batch is → OnOk result (HasDrawn is self.old self.new) }
+        ensures err { OnErr result (self.new ≡ self.old) }
+    {
+        let (drawn, compiled) = draw_alone(&self.alloc, batch.finish(), &mut self.target);
+        self.bins = Some(compiled.into_bins());
+        drawn?;
+        Ok(())
+    }
+
     /// Runs commands on the caller's thread, with issues of their own, from the default state on. Refused with OutOfMemory
     /// alone, before any tile is taken.
     pub(crate) fn run_alone(&mut self, commands: &[Command<A>]) -> Result<(), GfxError>
@@ -264,6 +319,24 @@ impl<A: Allocator + Copy + Send + Sync> Output<A> {
         self.bins = Some(compiled.into_bins());
         let counts = drawn?;
         store_counts(&mut self.results, commands, counts.as_slice());
+        Ok(())
+    }
+
+    /// The same as `run_batch_alone` by the threads of a crew beside the caller, which passes the gate too.
+    pub(crate) fn run_batch_by_crew<'a, R: Wait, G: Gate>(
+        &mut self,
+        rt: &R,
+        batch: Batch<A>,
+        crew: &TileCrew<'a, A>,
+        gate: &G,
+    ) -> Result<(), GfxError>
+        requires size { batch.lists.size ≡ self.old.surface.size }
+        ensures ok { (is : List Item) → HasCompiled batch is → OnOk result (HasDrawn is self.old self.new) }
+        ensures err { OnErr result (self.new ≡ self.old) }
+    {
+        let (drawn, compiled) = draw_by_crew(rt, crew, batch.finish(), &mut self.target, gate);
+        self.bins = Some(compiled.into_bins());
+        drawn?;
         Ok(())
     }
 }
