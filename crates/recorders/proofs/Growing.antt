@@ -8,8 +8,6 @@ use Rattle.scenetext.specs.Scene.{Verb, Call, Finish, Line}
 use Rattle.recorders.specs.Lists.{verb_of}
 use Rattle.recorders.specs.Recording.{Recording, nothing_recorded, recording_with, recording_after, recording_of}
 use Rattle.recorders.specs.Apart.{lists_behind, listed}
-use Rattle.recorders.specs.Desks.{finishes_of}
-use Rattle.recorders.proofs.Recordings.{lists_counted}
 
 after-append : (r : Recording) (vs ws : List Verb) → recording_after r (vs ++ ws) ≡ recording_after (recording_after r vs) ws
 after-append r [] ws = refl
@@ -50,11 +48,4 @@ fewer_lists ls k i j less =
     let same : lists_behind (take j ls) k i ≡ lists_behind ls k i = ap (λ e. (recording_of k e).lists) (take-take i j ls less) in
     let all : length (lists_behind ls k j) ≡ length (lists_behind (take j ls) k i) + length g.0 = ap length g.1 ∙ length-append (lists_behind (take j ls) k i) g.0 in
     let count = ap length same in
-    omega (arith, all, count)
-
-pub few_lists : (ls : List Line) (k i : ℕ) → length (lists_behind ls k i) ≤ finishes_of ls k
-few_lists ls k i =
-    let g = lists_grow k i ls in
-    let all : length (recording_of k ls).lists ≡ length (lists_behind ls k i) + length g.0 = ap length g.1 ∙ length-append (lists_behind ls k i) g.0 in
-    let count = lists_counted k ls in
     omega (arith, all, count)

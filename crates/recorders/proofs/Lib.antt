@@ -1,9 +1,8 @@
 pub mod Recordings
 pub mod Made
-pub mod OneContext
-pub mod PairLemmas
 pub mod Growing
-pub mod Fours
-pub mod DeskLemmas
-pub mod ReceivedLemmas
-pub mod EndingLemmas
+pub mod Steps
+pub mod RowLemmas
+pub mod PortLemmas
+pub mod EndLemmas
+pub mod NamedLemmas

@@ -5,7 +5,8 @@ use Rattle.gfxspec.specs.declared.error.GfxError.TheVariants.{OutOfMemory}
 use Rattle.gfxspec.specs.Commands.{Command}
 use Rattle.gfxspec.specs.Refusals.{first_row}
 use Rattle.scenetext.specs.Scene.{Line, Immediate, Flush}
-use Rattle.recorders.specs.declared.stop.Stop.{Stop}
+use Rattle.recorders.specs.declared.recorded.Recorded.{Recorded}
+use Rattle.recorders.specs.declared.refusal.RefusedLine.{RefusedLine}
 use Rattle.recorders.specs.Lists.{is_of}
 use Rattle.recorders.specs.Recording.{recording_of}
 use Rattle.recorders.specs.Calls.{deferred_rows}
@@ -26,6 +27,10 @@ lists_behind ls k i = (recording_of k (take i ls)).lists
 abbrev pub listed : List Line → ℕ → ℕ → List Command
 listed ls k n = slice_index_or (recording_of k ls).lists n []
 
+-- a list is the one that its context and number name
+abbrev pub IsListed : List Line → Recorded (List Command) → Type 0
+IsListed ls r = r.list ≡ listed ls r.context r.number
+
 -- ---- refusals
 
 -- why context k refuses line j, if it does, by its own lines alone
@@ -40,18 +45,12 @@ AcceptsTo ls k i = (j : ℕ) → j < i → is_of k (line_at ls j).actor ≡ true
 abbrev pub Cause : Option GfxError → GfxError → Type 0
 Cause o e = (o ≡ Some e) ⊎ (e ≡ OutOfMemory)
 
--- the place where one stopped, or else this one
-abbrev pub stop_or : Option Stop → ℕ → ℕ
+-- the place of a refused line, or else this one
+abbrev pub stop_or : Option RefusedLine → ℕ → ℕ
 stop_or None n = n
 stop_or (Some s) n = s.place
 
 -- context k refused a line among the first n, or memory was refused in it
-abbrev pub IsStopOf : List Line → ℕ → ℕ → Option Stop → Type 0
+abbrev pub IsStopOf : List Line → ℕ → ℕ → Option RefusedLine → Type 0
 IsStopOf ls k n None = Unit {0}
 IsStopOf ls k n (Some s) = (s.place < n) × (is_of k (line_at ls s.place).actor ≡ true) × Cause (refused_by ls k s.place) s.refusal
-
--- context k took its lines among the first n, up to a refused one, and finished these lists
-pub record ContextTaken (ls : List Line) (k n : ℕ) (stop : Option Stop) (lists : List (List Command)) : Type 0 where
-  pub finished : lists ≡ lists_behind ls k (stop_or stop n)
-  pub accepted : AcceptsTo ls k (stop_or stop n)
-  pub stop_is : IsStopOf ls k n stop

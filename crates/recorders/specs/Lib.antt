@@ -2,10 +2,11 @@ pub mod Lists
 pub mod Recording
 pub mod Calls
 pub mod Apart
-pub mod Keeping
-pub mod Pairs
-pub mod Fours
-pub mod Desks
+pub mod Sinks
+pub mod Taking
+pub mod Ports
+pub mod Recorders
+pub mod Rows
 pub mod Asking
 pub mod Receiving
 pub mod Ending

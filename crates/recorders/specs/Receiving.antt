@@ -1,32 +1,27 @@
 -- The caller's side of the ports: which lists came from which recorder (this project's own).
-use Rattle.std.specs.Prelude.{ℕ, ◌≡◌, ◌<◌, Bool, false, List, [], length, take, Some}
+use Rattle.std.specs.Prelude.{ℕ, ◌≡◌, ◌<◌, ◌≤◌, List, [], ◌++◌, length, All, Option, Some, None}
 use Rattle.atomic_table.specs.Seated.{TableId}
 use Rattle.gfxspec.specs.Commands.{Command}
 use Rattle.scenetext.specs.Scene.{Line}
 use Rattle.port.specs.declared.submission.Submission.{Submission}
 use Rattle.port.specs.History.{PortHistory, DrainHistory, of_port, port_history, drain_history}
-use Rattle.recorders.specs.declared.four.Four.{Four}
-use Rattle.recorders.specs.declared.pair.Handed.{Handed}
-use Rattle.recorders.specs.declared.shelf.Pair.{Pair}
-use Rattle.recorders.specs.Fours.{at_port}
-use Rattle.recorders.specs.Apart.{listed}
-use Rattle.recorders.specs.Pairs.{lists_of_sent, port_of, is_second, shelf_of, IsBeyond}
-use Rattle.recorders.specs.Desks.{Desked, IsHanded, DeskHolds, LacksBy, SentAgrees}
+use Rattle.recorders.specs.declared.by_port.ByPort.{ByPort}
+use Rattle.recorders.specs.declared.recorded.Recorded.{Recorded}
+use Rattle.recorders.specs.declared.recorder.RecorderResult.{RecorderResult}
+use Rattle.recorders.specs.declared.record.RecordingEnd.{RecordingEnd}
+use Rattle.recorders.specs.Ports.{at_port, port_of}
+use Rattle.recorders.specs.Sinks.{lists_sent}
+use Rattle.recorders.specs.Apart.{listed, IsListed}
+use Rattle.recorders.specs.Recorders.{IsEnd, lists_of_context}
+use Rattle.recorders.specs.Rows.{row}
 use Rattle.recorders.specs.Asking.{Asked}
 
-pub record Receipts (A : Type 0) : Type 0 where
-  pub lines : List Line
-  pub queue : TableId
-  pub taken : List (Submission (List Command))
-  pub desks : Four (Desked A)
-  pub broken : Bool
-
--- what was taken of each port is what it is taken for
-abbrev pub TakenAgrees : List Line → List (Submission (List Command)) → Type 0
-TakenAgrees ls taken = (p : ℕ) → p < 4 → SentAgrees ls p (lists_of_sent (of_port p taken))
+-- what was taken of each port are the lists that their contexts and numbers name
+abbrev pub TakenAgrees : List Line → List (Submission (Recorded (List Command))) → Type 0
+TakenAgrees ls taken = (p : ℕ) → p < 4 → All (IsListed ls) (lists_sent (of_port p taken))
 
 -- passes that have sent nothing, each at its number, and a drain that has taken nothing
-pub record AreNew (queue : TableId) (passes : Four (PortHistory (List Command))) (drain : DrainHistory (List Command)) : Type 0 where
+pub record AreNew (queue : TableId) (passes : ByPort (PortHistory (Recorded (List Command)))) (drain : DrainHistory (Recorded (List Command))) : Type 0 where
   pub zero_is : passes.zero ≡ port_history queue 0 []
   pub one_is : passes.one ≡ port_history queue 1 []
   pub two_is : passes.two ≡ port_history queue 2 []
@@ -34,18 +29,52 @@ pub record AreNew (queue : TableId) (passes : Four (PortHistory (List Command)))
   pub drain_is : drain ≡ drain_history queue []
 
 module _ {A : Type 0} where
-  -- The lists of a desk are the first of those that were taken of its port; all of them, if none was dropped.
-  pub record IsDeskOf (ls : List Line) (queue : TableId) (sent : List (List Command)) (p : ℕ) (broken : Bool) (d : Desked A) : Type 0 where
-    pub lines_is : d.lines ≡ ls
-    pub queue_is : d.queue ≡ queue
-    pub number_is : d.number ≡ p
-    pub front : d.came ≡ take (length d.came) sent
-    pub whole : broken ≡ false → d.came ≡ sent
+  -- what a recorder was asked for
+  pub record IsResultOf (ls : List Line) (queue : TableId) (number : ℕ) (r : RecorderResult A) : Type 0 where
+    pub queue_is : r.pass.queue ≡ queue
+    pub port_is : r.pass.port ≡ number
+    pub sent : All (IsListed ls) (lists_sent r.pass.sent)
+    pub kept : All (IsListed ls) r.kept.items
+    pub end_is : IsEnd ls number r.end
 
-  abbrev pub AreDesks : List Line → TableId → List (Submission (List Command)) → Four (Desked A) → Bool → Type 0
-  AreDesks ls queue taken desks broken = (p : ℕ) → p < 4 → IsDeskOf ls queue (lists_of_sent (of_port p taken)) p broken (at_port desks p)
+-- a recorder as the caller holds it: what it was asked for, and what it handed over if it was joined
+pub record RecorderSeen (A : Type 0) : Type 0 where
+  pub lines : List Line
+  pub queue : TableId
+  pub number : ℕ
+  pub result : Option (RecorderResult A)
 
-  -- ---- as shelves
+pub record Receipts (A : Type 0) : Type 0 where
+  pub lines : List Line
+  pub queue : TableId
+  pub taken : List (Submission (Recorded (List Command)))
+  pub recorders : ByPort (RecorderSeen A)
+  pub rows : List (List (List Command))
+
+module _ {A : Type 0} where
+  -- joined, and it did not finish the list of this number
+  abbrev pub LacksBy : Option (RecorderResult A) → ℕ → ℕ → Type 0
+  LacksBy None k n = ⊥
+  LacksBy (Some r) k n = lists_of_context r.end k ≤ n
+
+  -- the same recorder, but for what it handed over
+  pub record IsSameRecorder (old new : RecorderSeen A) : Type 0 where
+    pub lines_is : new.lines ≡ old.lines
+    pub queue_is : new.queue ≡ old.queue
+    pub number_is : new.number ≡ old.number
+
+  abbrev pub AreSameRecorders : ByPort (RecorderSeen A) → ByPort (RecorderSeen A) → Type 0
+  AreSameRecorders old new = (p : ℕ) → IsSameRecorder (at_port old p) (at_port new p)
+
+  pub record IsRecorderOf (ls : List Line) (queue : TableId) (p : ℕ) (r : RecorderSeen A) : Type 0 where
+    pub lines_is : r.lines ≡ ls
+    pub queue_is : r.queue ≡ queue
+    pub number_is : r.number ≡ p
+
+  abbrev pub AreRecorders : List Line → TableId → ByPort (RecorderSeen A) → Type 0
+  AreRecorders ls queue recorders = (p : ℕ) → p < 4 → IsRecorderOf ls queue p (at_port recorders p)
+
+  -- ---- as a source of lists
 
   abbrev pub receipt_frame : Receipts A → Asked
   receipt_frame s = record { lines = s.lines; queue = Some s.queue }
@@ -57,24 +86,30 @@ module _ {A : Type 0} where
   ReceiptAgrees s = TakenAgrees s.lines s.taken
 
   abbrev pub ReceiptHolds : Receipts A → ℕ → ℕ → Type 0
-  ReceiptHolds s k n = DeskHolds (at_port s.desks (port_of k)) (is_second k) n
+  ReceiptHolds s k n = n < length (row s.rows k)
 
   abbrev pub ReceiptLacks : Receipts A → ℕ → ℕ → Type 0
-  ReceiptLacks s k n = LacksBy (at_port s.desks (port_of k)).handed (is_second k) n
+  ReceiptLacks s k n = LacksBy (at_port s.recorders (port_of k)).result k n
+
+  -- for the same lines, with more lists taken
+  pub record IsMore (old new : Receipts A) : Type 0 where
+    pub frame : receipt_frame new ≡ receipt_frame old
+    pub rest : List (Submission (Recorded (List Command)))
+    pub more : new.taken ≡ old.taken ++ rest
 
   -- ---- at the end
 
   -- what the four recorders hand over
-  abbrev pub AreHanded : List Line → TableId → Four (Handed A) → Type 0
-  AreHanded ls queue handed = (p : ℕ) → p < 4 → IsHanded ls queue p (at_port handed p)
+  abbrev pub AreResults : List Line → TableId → ByPort (RecorderResult A) → Type 0
+  AreResults ls queue results = (p : ℕ) → p < 4 → IsResultOf ls queue p (at_port results p)
 
   -- there is no list of this number
-  abbrev pub HandedLacks : Four (Handed A) → ℕ → ℕ → Type 0
-  HandedLacks handed k n = IsBeyond (shelf_of (is_second k) (at_port handed (port_of k)).pair) n
+  abbrev pub ResultsLack : ByPort (RecorderResult A) → ℕ → ℕ → Type 0
+  ResultsLack results k n = lists_of_context (at_port results (port_of k)).end k ≤ n
 
   -- each pass is back, at its number
-  abbrev pub AreBack : TableId → Four (Handed A) → Type 0
-  AreBack queue handed = (p : ℕ) → p < 4 → ((at_port handed p).pass.queue ≡ queue) × ((at_port handed p).pass.port ≡ p)
+  abbrev pub AreBack : TableId → ByPort (RecorderResult A) → Type 0
+  AreBack queue results = (p : ℕ) → p < 4 → ((at_port results p).pass.queue ≡ queue) × ((at_port results p).pass.port ≡ p)
 
-  abbrev pub pairs_of : Four (Handed A) → Four (Pair A)
-  pairs_of handed = record { zero = handed.zero.pair; one = handed.one.pair; two = handed.two.pair; three = handed.three.pair }
+  abbrev pub ends_of : ByPort (RecorderResult A) → ByPort RecordingEnd
+  ends_of r = record { zero = r.zero.end; one = r.one.end; two = r.two.end; three = r.three.end }

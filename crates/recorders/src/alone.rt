@@ -1,16 +1,17 @@
 //! All contexts recorded first, by the caller.
 
-ghost use Rattle.std.specs.Prelude.{◌≡◌, map, MatchBool};
+ghost use Rattle.std.specs.Prelude.{◌≡◌, ◌<◌, All, map, length, false};
 ghost use Rattle.scenetext.specs.Seen.{line_value};
-ghost use Rattle.recorders.specs.Ending.{AloneHolds, AloneLacks};
+ghost use Rattle.recorders.specs.Apart.{IsListed};
+ghost use Rattle.recorders.specs.Recorders.{IsEnd, IsIdle};
 
-use crate::ending::least_stop;
-use crate::four::Four;
-use crate::pair::record_pair;
-use crate::received::port_number;
-use crate::shelf::{Pair, Shelf};
-use crate::shelves::Shelves;
-use crate::stop::Stop;
+use crate::by_port::ByPort;
+use crate::named::recorders_named;
+use crate::record::{RecordingEnd, record_lines};
+use crate::recorded::RecordedList;
+use crate::refusal::{RefusedLine, first_refused};
+use crate::rows::ListRows;
+use crate::source::ListSource;
 use cmdlist::CommandList;
 use scenetext::Line;
 use std::alloc::{AllocError, Allocator};
@@ -18,47 +19,40 @@ use std::marker::Model;
 
 /// All deferred contexts of a scene, recorded: their lists, and the first line that one of them refused.
 #[derive(Drop)]
-pub struct Kept<'a, A: Allocator> {
+pub struct RecordedLists<'a, A: Allocator> {
     lines: &'a [Line<A>],
-    pairs: Four<Pair<A>>,
+    rows: ListRows<A>,
+    ends: ByPort<RecordingEnd>,
 }
 
-impl<'a, A: Allocator> Model for Kept<'a, A> {
+impl<'a, A: Allocator> Model for RecordedLists<'a, A> {
     ghost use Rattle.std.specs.Prelude.{map};
     ghost use Rattle.scenetext.specs.Seen.{line_value};
-    ghost use Rattle.recorders.specs.Ending.{Alone, ArePairs};
+    ghost use Rattle.recorders.specs.Rows.{AreRows};
+    ghost use Rattle.recorders.specs.Ending.{Alone, AreEnds};
 
-    ghost Value = { Alone A };
+    ghost Value = { Alone };
 
-    ghost view = { λ s. record { lines = map line_value s.lines.now; pairs = s.pairs } };
+    ghost view = { λ s. record { lines = map line_value s.lines.now; rows = s.rows; ends = s.ends } };
 
-    ghost invariant = { λ s. ArePairs (map line_value s.lines.now) s.pairs };
+    ghost invariant = { λ s. AreRows (map line_value s.lines.now) s.rows × AreEnds (map line_value s.lines.now) s.ends };
 }
 
-impl<'a, A: Allocator> Kept<'a, A> {
-    ghost use Rattle.std.specs.Prelude.{◌<◌, ℕ, Option, MatchOption};
-    ghost use Rattle.recorders.specs.Fours.{at_port};
-    ghost use Rattle.recorders.specs.Pairs.{port_of, is_second, shelf_of};
+impl<'a, A: Allocator> RecordedLists<'a, A> {
+    ghost use Rattle.std.specs.Prelude.{ℕ, Option, MatchOption};
     ghost use Rattle.recorders.specs.Ending.{AloneLacks, AreRecorded};
 
     /// The first line that a deferred context refused. A list that was missing is not finished before it.
-    pub fn stop(&self) -> Option<Stop>
+    pub fn first_refused(&self) -> Option<RefusedLine>
         ensures { (missing : Option (ℕ × ℕ)) → MatchOption missing (Unit {0}) (λ name. AloneLacks self.now name.0 name.1) → AreRecorded self.now.lines result missing }
     {
         let _ = &self.lines;
-        least_stop(&self.pairs)
-    }
-
-    fn shelf(&self, context: u32) -> &Shelf<A>
-        requires { context < 8 }
-        ensures { result.now ≡ shelf_of (is_second context) (at_port self.now.pairs (port_of context)) }
-    {
-        self.pairs.at(port_number(context)).shelf(context >= 4)
+        first_refused(&self.ends)
     }
 }
 
-impl<'a, A: Allocator> Shelves<CommandList<A>> for Kept<'a, A> {
-    ghost use Rattle.std.specs.Prelude.{◌≡◌, ◌<◌, IfOk, MatchBool};
+impl<'a, A: Allocator> ListSource<CommandList<A>> for RecordedLists<'a, A> {
+    ghost use Rattle.std.specs.Prelude.{◌≡◌, ◌<◌, IfOk, IsTrue, MatchBool};
     ghost use Rattle.recorders.specs.Ending.{alone_frame, alone_right, AloneAgrees, AloneHolds, AloneLacks};
 
     ghost frame = { alone_frame };
@@ -79,7 +73,21 @@ impl<'a, A: Allocator> Shelves<CommandList<A>> for Kept<'a, A> {
         ensures found { IfOk result (λ there. MatchBool there (AloneHolds self.new context number) (AloneLacks self.new context number)) }
     {
         let _ = &self.lines;
-        Ok(self.shelf(context).has(u64::from(number)))
+        if self.rows.has(context, number) {
+            return Ok(true);
+        }
+        if u64::from(number) < self.ends.of_context(context).lists(context) {
+            return Err(AllocError);
+        }
+        Ok(false)
+    }
+
+    fn is_here(&self, context: u32, number: u32) -> bool
+        requires { context < 8 }
+        ensures { IsTrue result → AloneHolds self.now context number }
+    {
+        let _ = &self.lines;
+        self.rows.has(context, number)
     }
 
     fn list(&self, context: u32, number: u32) -> &CommandList<A>
@@ -88,21 +96,49 @@ impl<'a, A: Allocator> Shelves<CommandList<A>> for Kept<'a, A> {
         ensures { AloneAgrees self.now → result.now ≡ alone_right self.now context number }
     {
         let _ = &self.lines;
-        self.shelf(context).list(u64::from(number))
+        self.rows.list(context, number)
     }
 }
 
+/// The lists of a recorder's two contexts, where lines name one of them.
+fn record_kept<A: Allocator + Copy>(
+    alloc: A,
+    lines: &[Line<A>],
+    number: u32,
+    is_named: bool,
+) -> (Vec<RecordedList<A>, A>, RecordingEnd)
+    requires number { number < 4 }
+    requires named { is_named ≡ false → IsIdle (map line_value lines.now) number (length (map line_value lines.now)) }
+    ensures listed { All (IsListed (map line_value lines.now)) result.0.items }
+    ensures end { IsEnd (map line_value lines.now) number result.1 }
+{
+    let mut kept = Vec::new(alloc);
+    if !is_named {
+        return (kept, RecordingEnd::idle());
+    }
+    let end = record_lines(alloc, lines, number, &mut kept);
+    (kept, end)
+}
+
 /// Records all deferred contexts. This waits for nobody.
-pub fn record_alone<A: Allocator + Copy>(alloc: A, lines: &[Line<A>]) -> Kept<'_, A>
+pub fn record_alone<A: Allocator + Copy>(alloc: A, lines: &[Line<A>]) -> RecordedLists<'_, A>
     ensures { result.lines ≡ map line_value lines.now }
 {
-    Kept {
-        lines,
-        pairs: Four {
-            zero: record_pair(alloc, lines, 0),
-            one: record_pair(alloc, lines, 1),
-            two: record_pair(alloc, lines, 2),
-            three: record_pair(alloc, lines, 3),
-        },
-    }
+    let named = recorders_named(lines);
+    let (first, zero) = record_kept(alloc, lines, 0, named[0]);
+    let (second, one) = record_kept(alloc, lines, 1, named[1]);
+    let (third, two) = record_kept(alloc, lines, 2, named[2]);
+    let (fourth, three) = record_kept(alloc, lines, 3, named[3]);
+    let mut rows = ListRows::new(alloc);
+    rows.add_all(first);
+    rows.add_all(second);
+    rows.add_all(third);
+    rows.add_all(fourth);
+    let ends = ByPort {
+        zero,
+        one,
+        two,
+        three,
+    };
+    RecordedLists { lines, rows, ends }
 }

@@ -3,32 +3,36 @@
 //!
 //! A context's lists and its first refused line follow from its own lines alone, whatever the others do. So the contexts
 //! are recorded apart, contexts k and k + 4 by one recorder, while the caller takes the lines of the immediate context and
-//! asks for lists by context and number, through `Shelves`. Lines are counted from 0 here.
+//! asks for lists by context and number, through `ListSource`. Lines are counted from 0 here.
 //!
-//! The trick: while threads run, nothing is known of a list that came by a port but its type. So what the caller knows
-//! stands under one premise, that what came is what it is taken for; at the end the recorders' promises (sent is the
-//! beginning of what was recorded) and the settled ports (taken is sent) give it, and no list was looked at twice.
+//! The trick: each list carries its context and number. While threads run, nothing else is known of one that came by a
+//! port, so what the caller knows stands under one premise, that each is the list of that context and number. At the end the
+//! recorders' promises (all that was sent is so) and the settled ports (taken is sent) give it, and no list was looked at
+//! twice.
 #![tactic(auto)]
 
 mod alone;
+mod by_port;
 mod calls;
-mod desk;
-mod ending;
-mod four;
-mod pair;
-mod post;
+mod context;
+mod named;
+mod ports;
 mod received;
 mod record;
-mod shelf;
-mod shelves;
-mod stop;
-mod threads;
+mod recorded;
+mod recorder;
+mod refusal;
+mod rows;
+mod sink;
+mod source;
 
-pub use alone::{Kept, record_alone};
+pub use alone::{RecordedLists, record_alone};
+pub use by_port::ByPort;
 pub use calls::take_call;
-pub use four::Four;
-pub use pair::Handed;
-pub use received::{Received, receive};
-pub use shelves::Shelves;
-pub use stop::{Stop, earlier};
-pub use threads::{Opened, open_ports, settle};
+pub use ports::{OpenedPorts, open_ports, settle};
+pub use received::{ReceivedLists, receive};
+pub use record::RecordingEnd;
+pub use recorded::{ListPass, ListPorts, Recorded, RecordedList};
+pub use recorder::{RecorderResult, RecorderSetup};
+pub use refusal::{RefusedLine, earlier};
+pub use source::ListSource;

@@ -1,21 +1,20 @@
 //! The lists that the recorders send, as the caller gets them.
 
-ghost use Rattle.std.specs.Prelude.{◌≡◌, ◌<◌, ◌++◌, [], ◌∷◌, ℕ, List, map, length, Some, OnOk, OnErr, IfOk, MatchBool};
+ghost use Rattle.std.specs.Prelude.{◌≡◌, ◌<◌, ℕ, All, map, Some, IfOk, MatchBool};
 ghost use Rattle.scenetext.specs.Seen.{line_value};
-ghost use Rattle.gfxspec.specs.Commands.{Command};
-ghost use Rattle.port.specs.History.{port_history, drain_history};
-ghost use Rattle.port.specs.declared.submission.Submission.{Submission};
-ghost use Rattle.recorders.specs.Fours.{at_port, with_port};
-ghost use Rattle.recorders.specs.Pairs.{port_of, is_second};
-ghost use Rattle.recorders.specs.Desks.{IsCompleteBy, AreSameDesks};
-ghost use Rattle.recorders.specs.Receiving.{receipt_frame, receipt_right, ReceiptAgrees, ReceiptHolds, ReceiptLacks, AreNew, AreHanded, HandedLacks};
+ghost use Rattle.port.specs.History.{drain_history};
+ghost use Rattle.recorders.specs.Apart.{IsListed};
+ghost use Rattle.recorders.specs.Ports.{at_port, port_of};
+ghost use Rattle.recorders.specs.Receiving.{receipt_frame, receipt_right, ReceiptAgrees, ReceiptHolds, ReceiptLacks, AreNew, AreResults, ResultsLack, AreSameRecorders, IsMore};
 
-use crate::desk::{Desk, start};
-use crate::four::Four;
-use crate::pair::Handed;
-use crate::shelves::Shelves;
+use crate::by_port::ByPort;
+use crate::named::recorders_named;
+use crate::recorded::{ListPass, ListPorts, RecordedList};
+use crate::recorder::{Recorder, RecorderResult, RecorderSetup, start};
+use crate::rows::ListRows;
+use crate::source::ListSource;
 use cmdlist::CommandList;
-use port::{DrainPass, PortPass, Ports};
+use port::DrainPass;
 use scenetext::Line;
 use std::alloc::{AllocError, Allocator};
 use std::marker::Model;
@@ -23,93 +22,65 @@ use std::sync::Wait;
 use std::thread::{Scope, Threads};
 use workers::Gate;
 
-/// The port of a context's recorder.
-pub(crate) fn port_number(context: u32) -> u32
-    requires { context < 8 }
-    ensures value { result ≡ port_of context }
-    ensures below { result < 4 }
-{
-    if context < 4 { context } else { context - 4 }
-}
-
-/// Puts a list onto the desk of its port.
-fn add_at<'a, A: Allocator>(
-    desks: &mut Four<Desk<'a, A>>,
-    port: u32,
-    list: CommandList<A>,
-) -> Result<(), AllocError>
-    requires { port < 4 }
-    ensures ok { OnOk result (desks.new ≡ with_port desks.old port (record (at_port desks.old port) { came = (at_port desks.old port).came ++ list ∷ [] })) }
-    ensures err { OnErr result (desks.new ≡ desks.old) }
-{
-    match port {
-        0 => desks.zero.add(list),
-        1 => desks.one.add(list),
-        2 => desks.two.add(list),
-        _ => desks.three.add(list),
-    }
-}
-
-/// Joins the recorder of a port.
-fn join_at<'a, A: Allocator, R: Threads>(rt: &R, desks: &mut Four<Desk<'a, A>>, port: u32)
-    requires { port < 4 }
-    ensures { AreSameDesks desks.old desks.new }
-{
-    match port {
-        0 => desks.zero.join(rt),
-        1 => desks.one.join(rt),
-        2 => desks.two.join(rt),
-        _ => desks.three.join(rt),
-    }
-}
-
-/// Four desks, and what was taken out of the ports.
+/// The lists that have come from four recorders.
 #[derive(Drop)]
-pub struct Received<'a, A: Allocator, R: Threads + Wait> {
+pub struct ReceivedLists<'a, A: Allocator, R: Threads + Wait> {
     rt: &'a R,
+    alloc: A,
     lines: &'a [Line<A>],
-    ports: &'a Ports<CommandList<A>, A>,
-    drain: DrainPass<CommandList<A>>,
-    desks: Four<Desk<'a, A>>,
-    /// A list was dropped for want of memory.
-    broken: bool,
+    ports: &'a ListPorts<A>,
+    drain: DrainPass<RecordedList<A>>,
+    recorders: ByPort<Recorder<'a, A>>,
+    rows: ListRows<A>,
 }
 
-impl<'a, A: Allocator, R: Threads + Wait> Model for Received<'a, A, R> {
+impl<'a, A: Allocator, R: Threads + Wait> Model for ReceivedLists<'a, A, R> {
     ghost use Rattle.std.specs.Prelude.{◌≡◌, map};
     ghost use Rattle.scenetext.specs.Seen.{line_value};
-    ghost use Rattle.recorders.specs.Receiving.{Receipts, AreDesks};
+    ghost use Rattle.recorders.specs.Rows.{AreRows};
+    ghost use Rattle.recorders.specs.Receiving.{Receipts, AreRecorders, TakenAgrees};
 
     ghost Value = { Receipts A };
 
-    ghost view = { λ s. record { lines = map line_value s.lines.now; queue = s.ports.now.queue; taken = s.drain.taken; desks = s.desks; broken = s.broken } };
+    ghost view = { λ s. record { lines = map line_value s.lines.now; queue = s.ports.now.queue; taken = s.drain.taken; recorders = s.recorders; rows = s.rows } };
 
-    ghost invariant = { λ s. (s.drain.queue ≡ s.ports.now.queue) × AreDesks (map line_value s.lines.now) s.ports.now.queue s.drain.taken s.desks s.broken };
+    ghost invariant = { λ s. (s.drain.queue ≡ s.ports.now.queue) × AreRecorders (map line_value s.lines.now) s.ports.now.queue s.recorders × (TakenAgrees (map line_value s.lines.now) s.drain.taken → AreRows (map line_value s.lines.now) s.rows) };
 }
 
-impl<'a, A: Allocator, R: Threads + Wait> Received<'a, A, R> {
-    /// Takes a list out and puts it onto its desk. False where the queue is empty.
+/// Joins the recorder of a context, and takes the lists that it did not send.
+fn join_of<'a, A: Allocator, R: Threads>(
+    rt: &R,
+    alloc: A,
+    recorders: &mut ByPort<Recorder<'a, A>>,
+    context: u32,
+) -> Vec<RecordedList<A>, A>
+    requires { context < 8 }
+    ensures same { AreSameRecorders recorders.old recorders.new }
+    ensures listed { All (IsListed (at_port recorders.old (port_of context)).lines) result.items }
+{
+    match context {
+        0 | 4 => recorders.zero.join(rt, alloc),
+        1 | 5 => recorders.one.join(rt, alloc),
+        2 | 6 => recorders.two.join(rt, alloc),
+        _ => recorders.three.join(rt, alloc),
+    }
+}
+
+impl<'a, A: Allocator + Copy, R: Threads + Wait> ReceivedLists<'a, A, R> {
+    /// Takes a list out and puts it onto its row. False where the queue is empty.
     fn take_one(&mut self) -> Result<bool, AllocError>
-        ensures frame { receipt_frame self.new ≡ receipt_frame self.old }
-        ensures more { (rest : List (Submission (List Command))) × (self.new.taken ≡ self.old.taken ++ rest) }
+        ensures more { IsMore self.old self.new }
     {
-        if self.broken {
-            return Err(AllocError);
-        }
         let Some(next) = self.ports.next(self.rt, &mut self.drain) else {
             return Ok(false);
         };
-        if let Err(_) = add_at(&mut self.desks, next.port, next.list) {
-            self.broken = true;
-            return Err(AllocError);
-        }
+        self.rows.add(next.list)?;
         Ok(true)
     }
 
     /// Takes all lists out that are there.
-    fn empty(&mut self) -> Result<(), AllocError>
-        ensures frame { receipt_frame self.new ≡ receipt_frame self.old }
-        ensures more { (rest : List (Submission (List Command))) × (self.new.taken ≡ self.old.taken ++ rest) }
+    fn take_all(&mut self) -> Result<(), AllocError>
+        ensures more { IsMore self.old self.new }
     {
         let rt = self.rt;
         for _ in rt.forever() {
@@ -120,73 +91,53 @@ impl<'a, A: Allocator, R: Threads + Wait> Received<'a, A, R> {
         unreachable!()
     }
 
-    /// Takes lists out until all that a joined recorder sent have come.
-    fn complete(&mut self, port: u32) -> Result<(), AllocError>
-        requires { port < 4 }
-        ensures frame { receipt_frame self.new ≡ receipt_frame self.old }
-        ensures more { (rest : List (Submission (List Command))) × (self.new.taken ≡ self.old.taken ++ rest) }
-        ensures complete { OnOk result (IsCompleteBy (at_port self.new.desks port).handed (length (at_port self.new.desks port).came)) }
-    {
-        let rt = self.rt;
-        for _ in rt.forever() {
-            if self.desks.at(port).is_complete() {
-                return Ok(());
-            }
-            self.take_one()?;
-        }
-        unreachable!()
-    }
-
-    /// Joins a recorder.
-    fn join(&mut self, port: u32)
-        requires { port < 4 }
-        ensures frame { receipt_frame self.new ≡ receipt_frame self.old }
-        ensures taken { self.new.taken ≡ self.old.taken }
-    {
-        join_at(self.rt, &mut self.desks, port);
-    }
-
-    /// Whether a list is here; if it is not, and its recorder's lists have all come, it does not come.
-    fn has(&self, context: u32, number: u32) -> bool
+    /// Joins the recorder of a context, and takes its lists: those that it sent, and then the others.
+    fn join(&mut self, context: u32) -> Result<(), AllocError>
         requires { context < 8 }
-        ensures { MatchBool result (ReceiptHolds self.now context number) (IsCompleteBy (at_port self.now.desks (port_of context)).handed (length (at_port self.now.desks (port_of context)).came) → ReceiptLacks self.now context number) }
+        ensures more { IsMore self.old self.new }
     {
-        let desk = self.desks.at(port_number(context));
-        desk.has(context >= 4, u64::from(number))
+        let kept = join_of(self.rt, self.alloc, &mut self.recorders, context);
+        self.take_all()?;
+        self.rows.add_all(kept);
+        Ok(())
     }
+}
 
+impl<'a, A: Allocator, R: Threads + Wait> ReceivedLists<'a, A, R> {
     /// Joins all recorders, and gives what they handed over.
-    pub fn close(self) -> (Four<Handed<A>>, DrainPass<CommandList<A>>)
-        ensures handed { AreHanded self.entry.lines self.entry.queue result.0 }
-        ensures lacks { (k n : ℕ) → k < 8 → ReceiptLacks self.entry k n → HandedLacks result.0 k n }
+    pub fn close(self) -> (ByPort<RecorderResult<A>>, DrainPass<RecordedList<A>>)
+        ensures results { AreResults self.entry.lines self.entry.queue result.0 }
+        ensures lacks { (k n : ℕ) → k < 8 → ReceiptLacks self.entry k n → ResultsLack result.0 k n }
         ensures drain { result.1 ≡ drain_history self.entry.queue self.entry.taken }
     {
-        let Received {
+        let ReceivedLists {
             rt,
+            alloc: _,
             lines: _,
             ports: _,
             drain,
-            desks,
-            broken: _,
+            recorders,
+            rows: _,
         } = self;
-        let Four {
+        let ByPort {
             zero,
             one,
             two,
             three,
-        } = desks;
-        let handed = Four {
+        } = recorders;
+        let results = ByPort {
             zero: zero.close(rt),
             one: one.close(rt),
             two: two.close(rt),
             three: three.close(rt),
         };
-        (handed, drain)
+        (results, drain)
     }
 }
 
-impl<'a, A: Allocator, R: Threads + Wait> Shelves<CommandList<A>> for Received<'a, A, R> {
-    ghost use Rattle.std.specs.Prelude.{◌≡◌, ◌<◌, IfOk, MatchBool};
+impl<'a, A: Allocator + Copy, R: Threads + Wait> ListSource<CommandList<A>>
+    for ReceivedLists<'a, A, R> {
+    ghost use Rattle.std.specs.Prelude.{◌≡◌, ◌<◌, IfOk, IsTrue, MatchBool};
     ghost use Rattle.recorders.specs.Receiving.{receipt_frame, receipt_right, ReceiptAgrees, ReceiptHolds, ReceiptLacks};
 
     ghost frame = { receipt_frame };
@@ -206,17 +157,29 @@ impl<'a, A: Allocator, R: Threads + Wait> Shelves<CommandList<A>> for Received<'
         ensures agrees { ReceiptAgrees self.new → ReceiptAgrees self.old }
         ensures found { IfOk result (λ there. MatchBool there (ReceiptHolds self.new context number) (ReceiptLacks self.new context number)) }
     {
-        if self.has(context, number) {
+        if self.rows.has(context, number) {
             return Ok(true);
         }
-        self.empty()?;
-        if self.has(context, number) {
+        self.take_all()?;
+        if self.rows.has(context, number) {
             return Ok(true);
         }
-        let port = port_number(context);
-        self.join(port);
-        self.complete(port)?;
-        Ok(self.has(context, number))
+        self.join(context)?;
+        if self.rows.has(context, number) {
+            return Ok(true);
+        }
+        if self.recorders.of_context(context).may_give(context, number) {
+            return Err(AllocError);
+        }
+        Ok(false)
+    }
+
+    fn is_here(&self, context: u32, number: u32) -> bool
+        requires { context < 8 }
+        ensures { IsTrue result → ReceiptHolds self.now context number }
+    {
+        let _ = &self.lines;
+        self.rows.has(context, number)
     }
 
     fn list(&self, context: u32, number: u32) -> &CommandList<A>
@@ -225,12 +188,11 @@ impl<'a, A: Allocator, R: Threads + Wait> Shelves<CommandList<A>> for Received<'
         ensures { ReceiptAgrees self.now → result.now ≡ receipt_right self.now context number }
     {
         let _ = &self.lines;
-        let desk = self.desks.at(port_number(context));
-        desk.list(context >= 4, u64::from(number))
+        self.rows.list(context, number)
     }
 }
 
-/// Starts the four recorders.
+/// Starts the recorders whose contexts are named.
 pub fn receive<
     's,
     E,
@@ -238,36 +200,34 @@ pub fn receive<
     R: Threads + Wait + Sync + 's,
     G: Gate + Sync + 's,
 >(
-    rt: &'s R,
     scope: &'s Scope<'s, E>,
-    alloc: A,
-    ports: &'s Ports<CommandList<A>, A>,
-    gate: &'s G,
-    passes: Four<PortPass<CommandList<A>>>,
-    drain: DrainPass<CommandList<A>>,
-    lines: &'s [Line<A>],
-) -> Received<'s, A, R>
-    requires { AreNew ports.now.queue passes drain }
-    ensures frame { receipt_frame result ≡ record { lines = map line_value lines.now; queue = Some ports.now.queue } }
+    setup: RecorderSetup<'s, A, R, G>,
+    passes: ByPort<ListPass<A>>,
+    drain: DrainPass<RecordedList<A>>,
+) -> ReceivedLists<'s, A, R>
+    requires { AreNew setup.ports.now.queue passes drain }
+    ensures frame { receipt_frame result ≡ record { lines = map line_value setup.entry.lines.now; queue = Some setup.entry.ports.now.queue } }
 {
-    let Four {
+    let ByPort {
         zero,
         one,
         two,
         three,
     } = passes;
-    let desks = Four {
-        zero: start(rt, scope, alloc, ports, gate, zero, lines, 0),
-        one: start(rt, scope, alloc, ports, gate, one, lines, 1),
-        two: start(rt, scope, alloc, ports, gate, two, lines, 2),
-        three: start(rt, scope, alloc, ports, gate, three, lines, 3),
+    let named = recorders_named(setup.lines);
+    let recorders = ByPort {
+        zero: start(scope, &setup, zero, 0, named[0]),
+        one: start(scope, &setup, one, 1, named[1]),
+        two: start(scope, &setup, two, 2, named[2]),
+        three: start(scope, &setup, three, 3, named[3]),
     };
-    Received {
-        rt,
-        lines,
-        ports,
+    ReceivedLists {
+        rt: setup.rt,
+        alloc: setup.alloc,
+        lines: setup.lines,
+        ports: setup.ports,
         drain,
-        desks,
-        broken: false,
+        recorders,
+        rows: ListRows::new(setup.alloc),
     }
 }

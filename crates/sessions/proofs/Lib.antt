@@ -3,7 +3,8 @@ pub mod Spelled
 pub mod Played
 pub mod Reaching
 pub mod Tellings
-pub mod OwnSteps
+pub mod Steps
 pub mod Endings
 pub mod Ends
 pub mod Drawing
+pub mod Gathering

@@ -1,13 +1,11 @@
 -- Lines that are accepted and answered, one by one.
-use Rattle.std.proofs.Common.{◌≡◌, ◌∙◌, ap, sym, subst, ℕ, zero, suc, ◌+◌, ◌<◌, arith, List, [], ◌∷◌, ◌++◌, length, take, drop, append_assoc, None, refl}
-use Rattle.std.proofs.lemmas.List.{append-nil, take_more, drop_more}
-use Rattle.std.proofs.lemmas.List.Concat.{flat_map-append}
+use Rattle.std.proofs.Common.{◌≡◌, ◌∙◌, ap, sym, subst, ℕ, zero, suc, ◌+◌, ◌<◌, ◌≤◌, arith, List, [], ◌∷◌, ◌++◌, length, take, drop, append_assoc, None}
+use Rattle.std.proofs.lemmas.List.{append-nil}
 use Rattle.gfxspec.specs.declared.geometry.Size.{Size}
 use Rattle.scenetext.specs.Scene.{Line}
 use Rattle.scenetext.specs.Spelling.{IsLine, AreLines}
-use Rattle.recorders.specs.Apart.{a_line, line_at}
-use Rattle.sessions.specs.Answers.{Answer, refusal, answer_of, answers_behind, answers_or, answers_from, answer_line, answer_lines}
-use Rattle.sessions.specs.Playing.{AnsweredUpTo}
+use Rattle.recorders.specs.Apart.{line_at}
+use Rattle.sessions.specs.Answers.{refusal, answer_of, answers_behind, answers_or, answers_from}
 
 line_behind : (earlier ls : List Line) (i : ℕ) → i < length ls → AreLines earlier ls → IsLine (earlier ++ take i ls) (line_at ls i)
 line_behind earlier [] i below h = absurd (omega (arith, below))
@@ -23,33 +21,15 @@ behind-push size earlier (m ∷ ls) l =
     ap (λ xs. answer_of size earlier m.verb ++ xs) (behind-push size (earlier ++ m ∷ []) ls l ∙ ap (λ e. answers_behind size (earlier ++ m ∷ []) ls ++ answer_of size e l.verb) (append_assoc earlier (m ∷ []) ls))
     ∙ sym (append_assoc (answer_of size earlier m.verb) _ _)
 
-pub none_answered : (size : Size) (ls : List Line) → AnsweredUpTo size ls 0 []
-none_answered size ls = record { accepted = refl; written = refl }
-
-pub one_answered : (size : Size) (ls : List Line) (i : ℕ) (bytes more : List ℕ) → i < length ls → AnsweredUpTo size ls i bytes → refusal size (take i ls) (line_at ls i) ≡ None → more ≡ answer_lines (answer_of size (take i ls) (line_at ls i).verb) → AnsweredUpTo size ls (i + 1) (bytes ++ more)
-one_answered size ls i bytes more below h none is = record {
-  accepted =
-      h.accepted ∙ ap (λ ms. behind ++ answers_from size e ms) (drop_more ls i a_line below)
-      ∙ ap (λ r. behind ++ answers_or r (length e + 2) (now ++ answers_from size (e ++ l ∷ []) rest)) none
-      ∙ sym (append_assoc behind now (answers_from size (e ++ l ∷ []) rest))
-      ∙ ap (λ xs. xs ++ answers_from size (e ++ l ∷ []) rest) (sym (behind-push size [] e l))
-      ∙ ap (λ d. answers_behind size [] d ++ answers_from size d rest) (sym (take_more ls i a_line below));
-  written =
-      ap (λ b. b ++ more) h.written ∙ ap (λ m. answer_lines behind ++ m) is ∙ sym (flat_map-append answer_line behind now)
-      ∙ ap answer_lines (sym (behind-push size [] e l)) ∙ ap (λ d. answer_lines (answers_behind size [] d)) (sym (take_more ls i a_line below));
-}
-  where
-    e : List Line
-    e = take i ls
-
-    l : Line
-    l = line_at ls i
-
-    rest : List Line
-    rest = drop (i + 1) ls
-
-    now : List Answer
-    now = answer_of size e l.verb
-
-    behind : List Answer
-    behind = answers_behind size [] e
+-- lines that are accepted are answered one by one
+pub accepted_from : (size : Size) (e ls : List Line) (i : ℕ) → i ≤ length ls → ((j : ℕ) → j < i → refusal size (e ++ take j ls) (line_at ls j) ≡ None)
+    → answers_from size e ls ≡ answers_behind size e (take i ls) ++ answers_from size (e ++ take i ls) (drop i ls)
+accepted_from size e ls zero few none = ap (λ x. answers_from size x ls) (sym (append-nil e))
+accepted_from size e [] (suc i) few none = absurd (omega (arith, few))
+accepted_from size e (l ∷ ls) (suc i) few none =
+    let first = answer_of size e l.verb in
+    ap (λ o. answers_or o (length e + 2) (first ++ answers_from size (e ++ l ∷ []) ls)) (ap (λ x. refusal size x l) (sym (append-nil e)) ∙ none 0 (omega arith))
+    ∙ ap (λ r. first ++ r)
+    (accepted_from size (e ++ l ∷ []) ls i (omega (arith, few)) (λ j low. ap (λ x. refusal size x (line_at ls j)) (append_assoc e (l ∷ []) (take j ls)) ∙ none (suc j) (omega (arith, low))))
+    ∙ sym (append_assoc first (answers_behind size (e ++ l ∷ []) (take i ls)) _)
+    ∙ ap (λ x. (first ++ answers_behind size (e ++ l ∷ []) (take i ls)) ++ answers_from size x (drop i ls)) (append_assoc e (l ∷ []) (take i ls))

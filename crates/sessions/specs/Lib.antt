@@ -1,7 +1,8 @@
 pub mod Lists
 pub mod Answers
-pub mod Playing
 pub mod Telling
-pub mod Owning
+pub mod Taking
+pub mod Playing
 pub mod Writing
 pub mod Performing
+pub mod Gathering

@@ -9,11 +9,12 @@
 mod answer_text;
 mod answers;
 mod bytes;
-mod crewed;
 mod ending;
+mod executions;
 mod outcome;
-mod own;
 mod perform;
+mod play;
+mod run;
 mod threads;
 
 pub use bytes::{session, session_alone};

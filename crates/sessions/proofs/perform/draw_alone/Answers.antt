@@ -1,11 +1,10 @@
-use Rattle.std.proofs.Common.{◌∙◌, ap, sym, subst, map, []}
+use Rattle.std.proofs.Common.{rules, ◌∙◌, ap, sym, subst, map, []}
 use Rattle.scenetext.specs.Seen.{line_value}
 use Rattle.scenetext.specs.SeenScene.{scene_value}
 use Rattle.recorders.specs.Apart.{listed}
 use Rattle.recorders.specs.Asking.{Asked}
 use Rattle.recorders.specs.Ending.{AreRecorded}
-use Rattle.immediate.specs.Held.{Held}
-use Rattle.sessions.specs.Owning.{MayPlay, HasPlayed, missing_in}
+use Rattle.sessions.specs.Playing.{HasPlayed, missing_in}
 use Rattle.sessions.specs.Writing.{stopped_output, Draws}
 use Rattle.sessions.proofs.Endings.{no_target}
 use Rattle.sessions.proofs.Drawing.{sized}
@@ -17,23 +16,24 @@ returns-in-Err g c =
     subst (Draws scene) (sym c.stopped.ensures)
     (subst (λ n. Draws scene (stopped_output [] 1 n)) (sym c.number.ensures) (no_target scene c.in-Err.refusal c.in-Err.ensures.answer))
 
-pub play_alone-own-requires-clause-may : goal.play_alone-own-requires-clause-may
-play_alone-own-requires-clause-may g c κs within =
-    let own = c.new-2.result in
-    subst (λ ls. MayPlay (map line_value c.as_slice-lines.result.now) (λ k n. listed ls k n) own.immediate own.answers.text.items own.answers.marks.items) (sym c.record_alone-kept.ensures) c.new-2.ensures.may
+pub play_alone-played-requires-clause-may : goal.play_alone-played-requires-clause-may
+play_alone-played-requires-clause-may g c κs within = record {
+  sound = search rules;
+  lists = λ k n. ap (λ ls. listed ls k n) c.record_alone-recorded.ensures;
+  start = c.in-Ok.ensures.new;
+}
 
-pub end_alone-requires-clause-sized : goal.end_alone-requires-clause-sized
-end_alone-requires-clause-sized g c κs within = sized c.args.scene.now.size c.in-Ok.ensures.answer
+pub end-requires-clause-sized : goal.end-requires-clause-sized
+end-requires-clause-sized g c = sized c.args.scene.now.size c.in-Ok.ensures.answer
 
-pub end_alone-requires-clause-recorded : goal.end_alone-requires-clause-recorded
-end_alone-requires-clause-recorded g c κs within =
-    let own = c.play_alone-own in
-    let lines = ap (λ (a : Asked). a.lines) own.ensures.frame ∙ c.record_alone-kept.ensures ∙ c.as_slice-lines.ensures in
-    subst (λ ls. AreRecorded ls c.stop.result (missing_in own.result.pause)) lines (c.stop.ensures (missing_in own.result.pause) own.ensures.missing)
+pub end-requires-clause-recorded : goal.end-requires-clause-recorded
+end-requires-clause-recorded g c =
+    let played = c.play_alone-played in
+    let lines = ap (λ (a : Asked). a.lines) played.ensures.frame ∙ c.record_alone-recorded.ensures ∙ c.as_slice-lines.ensures in
+    subst (λ ls. AreRecorded ls c.first_refused.result (missing_in played.result.interruption)) lines (c.first_refused.ensures (missing_in played.result.interruption) played.ensures.missing)
 
-pub end_alone-requires-clause-played : goal.end_alone-requires-clause-played
-end_alone-requires-clause-played g c κs within =
-    let own = c.play_alone-own.result in
-    let size = ap (λ (h : Held). h.surface.size) c.new-2.ensures.immediate ∙ c.in-Ok.ensures.size in
-    subst (λ ls. HasPlayed c.args.scene.now.size ls own.immediate own.answers.text.items own.answers.marks.items own.pause) c.as_slice-lines.ensures
-    (subst (λ s. HasPlayed s (map line_value c.as_slice-lines.result.now) own.immediate own.answers.text.items own.answers.marks.items own.pause) size (c.play_alone-own.ensures.played tt))
+pub end-requires-clause-played : goal.end-requires-clause-played
+end-requires-clause-played g c =
+    let p = c.play_alone-played.result in
+    subst (λ ls. HasPlayed c.args.scene.now.size ls p) c.as_slice-lines.ensures
+    (subst (λ s. HasPlayed s (map line_value c.as_slice-lines.result.now) p) c.in-Ok.ensures.size (c.play_alone-played.ensures.played tt))

@@ -1,17 +1,6 @@
-use Rattle.std.proofs.Common.{subst, sym, ℕ}
 use Rattle.scenetext.specs.SeenScene.{scene_value}
-use Rattle.scenetext.specs.Spelling.{Spells}
-use Rattle.scenetext.specs.Reading.{Refused}
-use Rattle.sessions.specs.Writing.{Writes, drawing}
-use Rattle.sessions.proofs.Drawing.{unread}
+use Rattle.sessions.specs.Writing.{drawing}
 use Rattle.sessions.proofs.perform.perform_alone.Goals as goal
 
-pub returns-in-Err : goal.returns-in-Err
-returns-in-Err g c =
-    let text = c.args.text.items in
-    let e : ℕ × ℕ = (c.in-Err.line, c.in-Err.number) in
-    subst (Writes text) (sym c.stopped.ensures) (unread text e (subst (λ t. Refused t e) c.as_slice.ensures.value c.in-Err.ensures.refused))
-
-pub returns : goal.returns
-returns g c =
-    drawing (scene_value c.in-Ok.scene) _ (subst (λ t. Spells t (scene_value c.in-Ok.scene)) c.as_slice.ensures.value c.in-Ok.ensures.scene) c.draw_alone.ensures
+pub returns-in-Ok : goal.returns-in-Ok
+returns-in-Ok g c = drawing (scene_value c.in-Ok.scene) _ c.in-Ok.ensures.scene c.draw_alone.ensures

@@ -1,9 +1,8 @@
-use Rattle.std.proofs.Common.{◌∙◌, ap, sym, subst, map, []}
+use Rattle.std.proofs.Common.{rules, sym, subst, refl, map, []}
 use Rattle.scenetext.specs.Seen.{line_value}
 use Rattle.scenetext.specs.SeenScene.{scene_value}
 use Rattle.recorders.specs.Ending.{AreRecorded}
-use Rattle.immediate.specs.Held.{Held}
-use Rattle.sessions.specs.Owning.{HasPlayed, missing_in}
+use Rattle.sessions.specs.Playing.{HasPlayed, missing_in}
 use Rattle.sessions.specs.Writing.{stopped_output, Draws}
 use Rattle.sessions.proofs.Endings.{no_target}
 use Rattle.sessions.proofs.Drawing.{sized}
@@ -15,24 +14,26 @@ returns-in-Err g c =
     subst (Draws scene) (sym c.stopped.ensures)
     (subst (λ n. Draws scene (stopped_output [] 1 n)) (sym c.number.ensures) (no_target scene c.in-Err.refusal c.in-Err.ensures.answer))
 
+pub play_in_scope-round-requires-clause-may : goal.play_in_scope-round-requires-clause-may
+play_in_scope-round-requires-clause-may g c κs within = record { sound = search rules; lists = λ k n. refl; start = c.in-Ok.ensures.new }
+
 pub settle-deferred-requires-clause-back : goal.settle-deferred-requires-clause-back
-settle-deferred-requires-clause-back g c p low = let h = c.run_in_scope-round.ensures.handed p low in (h.queue_is, h.port_is)
+settle-deferred-requires-clause-back g c p low = let h = c.play_in_scope-round.ensures.results p low in (h.queue_is, h.port_is)
 
-pub end_by_crew-requires-clause-sized : goal.end_by_crew-requires-clause-sized
-end_by_crew-requires-clause-sized g c κs within = sized c.args.scene.now.size c.in-Ok.ensures.answer
+pub end-requires-clause-sized : goal.end-requires-clause-sized
+end-requires-clause-sized g c = sized c.args.scene.now.size c.in-Ok.ensures.answer
 
-pub end_by_crew-requires-clause-recorded : goal.end_by_crew-requires-clause-recorded
-end_by_crew-requires-clause-recorded g c κs within =
+pub end-requires-clause-recorded : goal.end-requires-clause-recorded
+end-requires-clause-recorded g c =
     let ls = map line_value c.as_slice-lines.result.now in
-    let round = c.run_in_scope-round in
-    let missing = missing_in round.result.own.pause in
-    subst (λ l. AreRecorded l c.settle-deferred.result missing) c.as_slice-lines.ensures (c.settle-deferred.ensures.stop ls missing round.ensures.handed round.ensures.missing)
+    let round = c.play_in_scope-round in
+    let missing = missing_in round.result.played.interruption in
+    subst (λ l. AreRecorded l c.settle-deferred.result missing) c.as_slice-lines.ensures (c.settle-deferred.ensures.refused ls missing round.ensures.results round.ensures.missing)
 
-pub end_by_crew-requires-clause-played : goal.end_by_crew-requires-clause-played
-end_by_crew-requires-clause-played g c κs within =
+pub end-requires-clause-played : goal.end-requires-clause-played
+end-requires-clause-played g c =
     let ls = map line_value c.as_slice-lines.result.now in
-    let handed = c.run_in_scope-round.ensures.handed in
-    let own = c.run_in_scope-round.result.own in
-    let size = ap (λ (h : Held). h.surface.size) c.new-own.ensures.immediate ∙ c.in-Ok.ensures.size in
-    subst (λ l. HasPlayed c.args.scene.now.size l own.immediate own.answers.text.items own.answers.marks.items own.pause) c.as_slice-lines.ensures
-    (subst (λ s. HasPlayed s ls own.immediate own.answers.text.items own.answers.marks.items own.pause) size (c.run_in_scope-round.ensures.played (c.settle-deferred.ensures.agrees ls handed)))
+    let round = c.play_in_scope-round in
+    let p = round.result.played in
+    subst (λ l. HasPlayed c.args.scene.now.size l p) c.as_slice-lines.ensures
+    (subst (λ s. HasPlayed s ls p) c.in-Ok.ensures.size (round.ensures.played (c.settle-deferred.ensures.agrees ls round.ensures.results)))

@@ -1,0 +1,176 @@
+-- What was taken of each port.
+use Rattle.std.proofs.Common.{◌≡◌, ◌∙◌, ap, sym, subst, refl, ℕ, zero, suc, ◌-◌, ◌<◌, ◌≤◌, arith, Bool, true, false, cond, eqb, nat_lt, List, [], ◌∷◌, ◌++◌, length, Some, None, Option}
+use Rattle.std.specs.Prelude.{unwrap_or, MatchOption, All, slice_index_or}
+use Rattle.std.proofs.lemmas.Bool.Decides.{nat_tests}
+use Rattle.std.proofs.lemmas.List.{append-nil, length-append, length_push, map-append, get_or_push, get_or_append_left}
+use Rattle.atomic_table.specs.Seated.{TableId}
+use Rattle.gfxspec.specs.Commands.{Command}
+use Rattle.scenetext.specs.Scene.{Line}
+use Rattle.port.specs.declared.submission.Submission.{Submission}
+use Rattle.port.specs.History.{of_port, with_if, PortHistory, DrainHistory, drain_history, AreAll, AllTaken}
+use Rattle.recorders.specs.declared.by_port.ByPort.{ByPort}
+use Rattle.recorders.specs.declared.recorded.Recorded.{Recorded}
+use Rattle.recorders.specs.declared.recorder.RecorderResult.{RecorderResult}
+use Rattle.recorders.specs.Ports.{at_port, port_of}
+use Rattle.recorders.specs.Sinks.{Way, Sender, lists_sent, sender_lists, sender_way}
+use Rattle.recorders.specs.Apart.{listed, IsListed}
+use Rattle.recorders.specs.Asking.{Asked}
+use Rattle.recorders.specs.Recorders.{IsRecording, lists_of_context}
+use Rattle.recorders.specs.Rows.{AreRows, IsNext, with_list}
+use Rattle.recorders.proofs.RowLemmas.{rows_more}
+use Rattle.std.proofs.lemmas.List.Elements.{All-tail}
+use Rattle.recorders.specs.Receiving.{Receipts, RecorderSeen, IsResultOf, IsRecorderOf, AreRecorders, AreSameRecorders, LacksBy, AreResults, AreBack, TakenAgrees, ReceiptAgrees, IsMore, receipt_frame, receipt_right}
+
+-- ---- four ports
+
+pub each_port : (F : ℕ → Type 0) → F 0 → F 1 → F 2 → F 3 → (p : ℕ) → p < 4 → F p
+each_port F zero_is one_is two_is three_is zero low = zero_is
+each_port F zero_is one_is two_is three_is (suc zero) low = one_is
+each_port F zero_is one_is two_is three_is (suc (suc zero)) low = two_is
+each_port F zero_is one_is two_is three_is (suc (suc (suc zero))) low = three_is
+each_port F zero_is one_is two_is three_is (suc (suc (suc (suc p)))) low = absurd (omega (arith, low))
+
+pub port_low : (k : ℕ) → k < 8 → port_of k < 4
+port_low k low = by (nat_lt k 4) refl
+  where
+    by : (b : Bool) → nat_lt k 4 ≡ b → cond b k (k - 4) < 4
+    by true e = grind (arith, nat_tests)
+    by false e = grind (arith, nat_tests)
+
+-- ---- of each port
+
+with_if-append : {L : Type 0} (b : Bool) (x : Submission L) (xs ys : List (Submission L)) → with_if b x (xs ++ ys) ≡ with_if b x xs ++ ys
+with_if-append true x xs ys = refl
+with_if-append false x xs ys = refl
+
+of_port-append : {L : Type 0} (p : ℕ) (xs ys : List (Submission L)) → of_port p (xs ++ ys) ≡ of_port p xs ++ of_port p ys
+of_port-append p [] ys = refl
+of_port-append p (x ∷ xs) ys = ap (with_if (eqb x.port p) x) (of_port-append p xs ys) ∙ with_if-append (eqb x.port p) x (of_port p xs) (of_port p ys)
+
+lists-append : (p : ℕ) (xs ys : List (Submission (Recorded (List Command)))) → lists_sent (of_port p (xs ++ ys)) ≡ lists_sent (of_port p xs) ++ lists_sent (of_port p ys)
+lists-append p xs ys = ap lists_sent (of_port-append p xs ys) ∙ map-append (λ (y : Submission (Recorded (List Command))). y.list) (of_port p xs) (of_port p ys)
+
+front_all : (P : Recorded (List Command) → Type 0) (xs ys : List (Recorded (List Command))) → All P (xs ++ ys) → All P xs
+front_all P xs ys h k d low =
+    let sum = length-append xs ys in
+    subst P (get_or_append_left xs ys d k low) (h k d (omega (arith, low, sum)))
+
+-- what is taken later changes nothing of what came before
+pub agrees_before : (ls : List Line) (taken rest all : List (Submission (Recorded (List Command)))) → all ≡ taken ++ rest → TakenAgrees ls all → TakenAgrees ls taken
+agrees_before ls taken rest all more agrees p low =
+    front_all (IsListed ls) _ _ (subst (All (IsListed ls)) (ap (λ xs. lists_sent (of_port p xs)) more ∙ lists-append p taken rest) (agrees p low))
+
+-- the one that was taken last
+pub last_agrees : (ls : List Line) (taken : List (Submission (Recorded (List Command)))) (x : Submission (Recorded (List Command))) → x.port < 4 → TakenAgrees ls (taken ++ x ∷ []) → IsListed ls x.list
+last_agrees ls taken x low agrees =
+    let same : eqb x.port x.port ≡ true = grind (arith, nat_tests) in
+    let one : lists_sent (of_port x.port (x ∷ [])) ≡ x.list ∷ [] = ap (λ b. lists_sent (with_if b x [])) same in
+    let all : lists_sent (of_port x.port (taken ++ x ∷ [])) ≡ lists_sent (of_port x.port taken) ++ x.list ∷ [] = lists-append x.port taken (x ∷ []) ∙ ap (λ ys. lists_sent (of_port x.port taken) ++ ys) one in
+    let long = length_push (lists_sent (of_port x.port taken)) x.list in
+    let count = ap length all in
+    subst (IsListed ls) (ap (λ xs. slice_index_or xs (length (lists_sent (of_port x.port taken))) x.list) all ∙ get_or_push (lists_sent (of_port x.port taken)) x.list x.list _ refl)
+    (agrees x.port low (length (lists_sent (of_port x.port taken))) x.list (omega (arith, long, count)))
+
+-- of receipts for the same lines
+pub more_agrees : {A : Type 0} (s t : Receipts A) → IsMore s t → ReceiptAgrees t → ReceiptAgrees s
+more_agrees s t m agrees =
+    agrees_before s.lines s.taken m.rest t.taken m.more (subst (λ ls. TakenAgrees ls t.taken) (ap (λ (a : Asked). a.lines) m.frame) agrees)
+
+-- ---- at the end
+
+some_queue : (a b : TableId) → Some a ≡ Some b → a ≡ b
+some_queue a b h = ap (λ o. unwrap_or o a) h
+
+pub results_for : {A : Type 0} (ls : List Line) (queue : TableId) (s : Receipts A) (results : ByPort (RecorderResult A)) → receipt_frame s ≡ record { lines = ls; queue = Some queue } → AreResults s.lines s.queue results → AreResults ls queue results
+results_for ls queue s results e h =
+    subst (λ q. AreResults ls q results) (some_queue s.queue queue (ap (λ (x : Asked). x.queue) e)) (subst (λ xs. AreResults xs s.queue results) (ap (λ (x : Asked). x.lines) e) h)
+
+-- the right lists are those of the lines
+pub right_for : {A : Type 0} (ls : List Line) (queue : TableId) (s : Receipts A) → receipt_frame s ≡ record { lines = ls; queue = Some queue } → receipt_right s ≡ listed ls
+right_for ls queue s e = let right : Asked → ℕ → ℕ → List Command = λ a k n. listed a.lines k n in ap right e
+
+pub agrees_for : {A : Type 0} (ls : List Line) (queue : TableId) (s : Receipts A) (drain : DrainHistory (Recorded (List Command))) → receipt_frame s ≡ record { lines = ls; queue = Some queue } → drain ≡ drain_history s.queue s.taken → TakenAgrees ls drain.taken → ReceiptAgrees s
+agrees_for ls queue s drain e is agrees =
+    subst (λ xs. TakenAgrees xs s.taken) (sym (ap (λ (a : Asked). a.lines) e)) (subst (TakenAgrees ls) (ap (λ (d : DrainHistory (Recorded (List Command))). d.taken) is) agrees)
+
+-- the drain behind one call that takes out
+pub after_next : {L : Type 0} (X : Type 0) (P Q : Submission L → Type 0) (o : Option (Submission L)) (old new : DrainHistory L) → MatchOption o ((new ≡ old) × X) (λ s. P s × Q s × (new ≡ drain_history old.queue (old.taken ++ s ∷ []))) → (new.queue ≡ old.queue) × (rest : List (Submission L)) × (new.taken ≡ old.taken ++ rest)
+after_next X P Q None old new h =
+    (ap (λ (d : DrainHistory _). d.queue) h.0, [], ap (λ (d : DrainHistory _). d.taken) h.0 ∙ sym (append-nil old.taken))
+after_next X P Q (Some s) old new h = (ap (λ (d : DrainHistory _). d.queue) h.2, s ∷ [], ap (λ (d : DrainHistory _). d.taken) h.2)
+
+module _ {A : Type 0} (queue : TableId) (results : ByPort (RecorderResult A)) where
+  abbrev pub passes_of : ByPort (RecorderResult A) → List (PortHistory (Recorded (List Command)))
+  passes_of r = r.zero.pass ∷ r.one.pass ∷ r.two.pass ∷ r.three.pass ∷ []
+
+  pub all_back : AreBack queue results → AreAll queue (passes_of results)
+  all_back back =
+      let zero_is = back 0 (omega arith) in
+      let one_is = back 1 (omega arith) in
+      let two_is = back 2 (omega arith) in
+      let three_is = back 3 (omega arith) in
+      ((λ i. zero_is.1 i ∷ one_is.1 i ∷ two_is.1 i ∷ three_is.1 i ∷ []), each zero_is.0 one_is.0 two_is.0 three_is.0)
+    where
+      each : results.zero.pass.queue ≡ queue → results.one.pass.queue ≡ queue → results.two.pass.queue ≡ queue → results.three.pass.queue ≡ queue → All (λ (p : PortHistory (Recorded (List Command))). p.queue ≡ queue) (passes_of results)
+      each e0 e1 e2 e3 zero d low = e0
+      each e0 e1 e2 e3 (suc zero) d low = e1
+      each e0 e1 e2 e3 (suc (suc zero)) d low = e2
+      each e0 e1 e2 e3 (suc (suc (suc zero))) d low = e3
+      each e0 e1 e2 e3 (suc (suc (suc (suc k)))) d low = absurd (omega (arith, low))
+
+  -- all was taken that was sent, so what was taken earlier is what it is taken for
+  pub settled_agrees : (taken rest all : List (Submission (Recorded (List Command)))) → AllTaken (passes_of results) all → all ≡ taken ++ rest → (ls : List Line) → AreResults ls queue results → TakenAgrees ls taken
+  settled_agrees taken rest all settled more ls h =
+      agrees_before ls taken rest all more
+      (each_port (λ p. All (IsListed ls) (lists_sent (of_port p all))) (one 0 results.zero (h 0 (omega arith)) (settled 0 results.zero.pass (omega arith))) (one 1 results.one (h 1 (omega arith)) (settled 1 results.zero.pass (omega arith))) (one 2 results.two (h 2 (omega arith)) (settled 2 results.zero.pass (omega arith))) (one 3 results.three (h 3 (omega arith)) (settled 3 results.zero.pass (omega arith))))
+    where
+      one : (p : ℕ) (r : RecorderResult A) → IsResultOf ls queue p r → of_port r.pass.port all ≡ r.pass.sent → All (IsListed ls) (lists_sent (of_port p all))
+      one p r is same =
+          let sent : of_port p all ≡ r.pass.sent = ap (λ n. of_port n all) (sym is.port_is) ∙ same in
+          subst (λ xs. All (IsListed ls) (lists_sent xs)) (sym sent) is.sent
+
+-- ---- one recorder
+
+back_all : (P : Recorded (List Command) → Type 0) (xs ys : List (Recorded (List Command))) → All P (xs ++ ys) → All P ys
+back_all P [] ys h = h
+back_all P (x ∷ xs) ys h = back_all P xs ys (All-tail P x (xs ++ ys) h)
+
+same_way : (a b : Way) → Some a ≡ Some b → a ≡ b
+same_way a b h = ap (λ o. unwrap_or o a) h
+
+pub sent_and_kept : {A : Type 0} (ls : List Line) (queue : TableId) (number : ℕ) (s0 s : Sender) (r : RecorderResult A) → sender_way s ≡ sender_way s0 → s0.queue ≡ queue → s0.port ≡ number → IsRecording ls number (sender_lists s) r.end → r.pass.queue ≡ s.queue → r.pass.port ≡ s.port → lists_sent r.pass.sent ≡ s.sent → r.kept.items ≡ s.kept → IsResultOf ls queue number r
+sent_and_kept ls queue number s0 s r way at_queue at_port_ h r_queue r_port r_sent r_kept =
+    let w = same_way _ _ way in
+    record {
+      queue_is = r_queue ∙ ap (λ (x : Way). x.queue) w ∙ at_queue;
+      port_is = r_port ∙ ap (λ (x : Way). x.port) w ∙ at_port_;
+      sent = subst (All (IsListed ls)) (sym r_sent) (front_all (IsListed ls) s.sent s.kept h.listed);
+      kept = subst (All (IsListed ls)) (sym r_kept) (back_all (IsListed ls) s.sent s.kept h.listed);
+      end_is = h.end_is;
+    }
+
+pub same_recorders : {A : Type 0} (ls : List Line) (queue : TableId) (old new : ByPort (RecorderSeen A)) → AreSameRecorders old new → AreRecorders ls queue old → AreRecorders ls queue new
+same_recorders ls queue old new same h p low =
+    let s = same p in
+    let r = h p low in
+    record { lines_is = s.lines_is ∙ r.lines_is; queue_is = s.queue_is ∙ r.queue_is; number_is = s.number_is ∙ r.number_is }
+
+pub result_at : {A : Type 0} (ls : List Line) (queue : TableId) (p : ℕ) (d : RecorderSeen A) (r : RecorderResult A) → IsRecorderOf ls queue p d → IsResultOf d.lines d.queue d.number r → IsResultOf ls queue p r
+result_at ls queue p d r is h =
+    subst (λ n. IsResultOf ls queue n r) is.number_is (subst (λ q. IsResultOf ls q d.number r) is.queue_is (subst (λ xs. IsResultOf xs d.queue d.number r) is.lines_is h))
+
+pub lacks_same : {A : Type 0} (o : Option (RecorderResult A)) (r : RecorderResult A) → MatchOption o (Unit {0}) (λ q. r ≡ q) → (k n : ℕ) → LacksBy o k n → lists_of_context r.end k ≤ n
+lacks_same None r same k n l = absurd l
+lacks_same (Some q) r same k n l = subst (λ (x : RecorderResult _). lists_of_context x.end k ≤ n) (sym same) l
+
+-- ---- one list more
+
+pub took : (ls : List Line) (taken : List (Submission (Recorded (List Command)))) (rows new : List (List (List Command))) (x : Submission (Recorded (List Command))) → (TakenAgrees ls taken → AreRows ls rows) → x.port < 4 → IsNext rows x.list → new ≡ with_list rows x.list.context x.list.list → TakenAgrees ls (taken ++ x ∷ []) → AreRows ls new
+took ls taken rows new x h low next is agrees =
+    subst (AreRows ls) (sym is) (rows_more ls rows x.list next (last_agrees ls taken x low agrees) (h (agrees_before ls taken (x ∷ []) (taken ++ x ∷ []) refl agrees)))
+
+pub lost : (ls : List Line) (taken : List (Submission (Recorded (List Command)))) (rows new : List (List (List Command))) (x : Submission (Recorded (List Command))) → (TakenAgrees ls taken → AreRows ls rows) → new ≡ rows → TakenAgrees ls (taken ++ x ∷ []) → AreRows ls new
+lost ls taken rows new x h same agrees = subst (AreRows ls) (sym same) (h (agrees_before ls taken (x ∷ []) (taken ++ x ∷ []) refl agrees))
+
+pub four_recorders : {A : Type 0} (ls : List Line) (queue : TableId) (r : ByPort (RecorderSeen A)) → IsRecorderOf ls queue 0 r.zero → IsRecorderOf ls queue 1 r.one → IsRecorderOf ls queue 2 r.two → IsRecorderOf ls queue 3 r.three → AreRecorders ls queue r
+four_recorders ls queue r = each_port (λ p. IsRecorderOf ls queue p (at_port r p))

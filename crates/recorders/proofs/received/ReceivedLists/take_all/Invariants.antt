@@ -1,0 +1,5 @@
+use Rattle.recorders.specs.Receiving.{IsMore}
+use Rattle.recorders.proofs.received.ReceivedLists.take_all.Given as goal
+
+abbrev pub invariant-loop : goal.invariant-loop
+invariant-loop g l = IsMore l.initial.self l.self

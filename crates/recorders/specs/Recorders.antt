@@ -1,0 +1,42 @@
+-- What the recorder of contexts k and k + 4 gives (this project's own).
+use Rattle.std.specs.Prelude.{ℕ, ◌≡◌, ◌<◌, ◌+◌, ◌⊎◌, nat_lt, Bool, true, false, List, length, All, None, slice_index_or, if◌then◌else◌}
+use Rattle.gfxspec.specs.Commands.{Command}
+use Rattle.scenetext.specs.Scene.{Line}
+use Rattle.recorders.specs.declared.recorded.Recorded.{Recorded}
+use Rattle.recorders.specs.declared.record.RecordingEnd.{RecordingEnd}
+use Rattle.recorders.specs.Lists.{is_of}
+use Rattle.recorders.specs.Apart.{line_at, lists_behind, IsListed, AcceptsTo, IsStopOf, stop_or}
+
+-- where both contexts end
+abbrev pub end_place : List Line → RecordingEnd → ℕ
+end_place ls e = stop_or e.refused (length ls)
+
+-- each of the two accepts its lines up to the end, which is the first refused line of one of them, or the end of all lines; and it finished so many lists
+pub record IsEnd (ls : List Line) (k : ℕ) (e : RecordingEnd) : Type 0 where
+  pub first_counted : e.first_lists ≡ length (lists_behind ls k (end_place ls e))
+  pub second_counted : e.second_lists ≡ length (lists_behind ls (k + 4) (end_place ls e))
+  pub first_accepts : AcceptsTo ls k (end_place ls e)
+  pub second_accepts : AcceptsTo ls (k + 4) (end_place ls e)
+  pub refused_is : IsStopOf ls k (length ls) e.refused ⊎ IsStopOf ls (k + 4) (length ls) e.refused
+
+-- all lists that were put are those that their contexts and numbers name, and they are as many as were finished
+pub record IsRecording (ls : List Line) (k : ℕ) (lists : List (Recorded (List Command))) (e : RecordingEnd) : Type 0 where
+  pub listed : All (IsListed ls) lists
+  pub whole : length lists ≡ e.first_lists + e.second_lists
+  pub end_is : IsEnd ls k e
+
+abbrev pub lists_of_context : RecordingEnd → ℕ → ℕ
+lists_of_context e k = if nat_lt k 4 then e.first_lists else e.second_lists
+
+-- ---- without lines
+
+abbrev pub idle_end : RecordingEnd
+idle_end = record { first_lists = 0; second_lists = 0; refused = None }
+
+-- none of the first i lines is one of contexts k and k + 4
+abbrev pub IsIdle : List Line → ℕ → ℕ → Type 0
+IsIdle ls k i = (j : ℕ) → j < i → (is_of k (line_at ls j).actor ≡ false) × (is_of (k + 4) (line_at ls j).actor ≡ false)
+
+-- recorders that aren't named have no lines
+abbrev pub IdleUnless : List Line → List Bool → Type 0
+IdleUnless ls named = (length named ≡ 4) × ((k : ℕ) → k < 4 → slice_index_or named k true ≡ false → IsIdle ls k (length ls))

@@ -1,0 +1,203 @@
+//! A recorder's thread, as the caller holds it.
+
+ghost use Rattle.std.specs.Prelude.{◌≡◌, ◌<◌, [], All, map, length, false, MatchBool, MatchOption};
+ghost use Rattle.port.specs.History.{port_history};
+ghost use Rattle.scenetext.specs.Seen.{line_value};
+ghost use Rattle.recorders.specs.Apart.{IsListed};
+ghost use Rattle.recorders.specs.Recorders.{IsIdle};
+ghost use Rattle.recorders.specs.Receiving.{IsResultOf, LacksBy, IsSameRecorder};
+
+use crate::record::{RecordingEnd, record_lines};
+use crate::recorded::{ListPass, ListPorts, RecordedList};
+use crate::sink::ListSender;
+use scenetext::Line;
+use std::alloc::Allocator;
+use std::marker::Model;
+use std::mem;
+use std::sync::Wait;
+use std::thread::{Promise, PromisedHandle, Scope, Threads};
+use workers::Gate;
+
+/// What all recorders of a scene work with.
+#[derive(Drop)]
+pub struct RecorderSetup<'s, A: Allocator, R, G> {
+    pub rt: &'s R,
+    pub alloc: A,
+    pub ports: &'s ListPorts<A>,
+    pub gate: &'s G,
+    pub lines: &'s [Line<A>],
+}
+
+/// What a recorder hands over: its pass, the lists that it did not send, and how it ended.
+#[derive(Drop)]
+pub struct RecorderResult<A: Allocator> {
+    pub(crate) pass: ListPass<A>,
+    pub(crate) kept: Vec<RecordedList<A>, A>,
+    pub(crate) end: RecordingEnd,
+}
+
+/// What a recorder was asked for. Its promise is what it hands over.
+#[derive(Drop)]
+pub(crate) struct RecorderTask<'a, A: Allocator> {
+    lines: &'a [Line<A>],
+    ports: &'a ListPorts<A>,
+    number: u32,
+}
+
+impl<'a, A: Allocator> Promise<RecorderResult<A>> for RecorderTask<'a, A> {
+    ghost use Rattle.std.specs.Prelude.{map};
+    ghost use Rattle.scenetext.specs.Seen.{line_value};
+    ghost use Rattle.recorders.specs.Receiving.{IsResultOf};
+
+    ghost kept_by = { λ p r. IsResultOf (map line_value p.lines.now) p.ports.now.queue p.number r };
+}
+
+/// A recorder's thread, or what it handed over.
+#[derive(Drop)]
+pub(crate) struct Recorder<'a, A: Allocator> {
+    task: RecorderTask<'a, A>,
+    thread: Option<PromisedHandle<RecorderResult<A>, RecorderTask<'a, A>>>,
+    result: Option<RecorderResult<A>>,
+}
+
+impl<'a, A: Allocator> Model for Recorder<'a, A> {
+    ghost use Rattle.std.specs.Prelude.{◌≡◌, map, MatchOption, IsSome};
+    ghost use Rattle.scenetext.specs.Seen.{line_value};
+    ghost use Rattle.recorders.specs.Receiving.{RecorderSeen, IsResultOf};
+
+    ghost Value = { RecorderSeen A };
+
+    ghost view = { λ d. record { lines = map line_value d.task.lines.now; queue = d.task.ports.now.queue; number = d.task.number; result = d.result } };
+
+    ghost invariant = { λ d. MatchOption d.thread (IsSome d.result) (λ h. h.promise ≡ d.task) × MatchOption d.result (Unit {0}) (IsResultOf (map line_value d.task.lines.now) d.task.ports.now.queue d.task.number) };
+}
+
+/// Takes the lines of contexts `number` and `number + 4`, and sends their lists.
+fn record_and_send<A: Allocator + Copy, R: Wait, G: Gate>(
+    setup: RecorderSetup<'_, A, R, G>,
+    pass: ListPass<A>,
+    number: u32,
+) -> RecorderResult<A>
+    requires pass { pass ≡ port_history setup.ports.now.queue number [] }
+    requires number { number < 4 }
+    ensures { IsResultOf (map line_value setup.entry.lines.now) setup.entry.ports.now.queue number result }
+{
+    let mut sender = ListSender::new(setup.rt, setup.alloc, setup.ports, setup.gate, pass);
+    let end = record_lines(setup.alloc, setup.lines, number, &mut sender);
+    let (pass, kept) = sender.into_parts();
+    RecorderResult { pass, kept, end }
+}
+
+/// Starts a recorder, where lines name one of its contexts. Where no thread starts, the caller records.
+pub(crate) fn start<
+    's,
+    E,
+    A: Allocator + Copy + Send + Sync + 's,
+    R: Wait + Sync + 's,
+    G: Gate + Sync + 's,
+>(
+    scope: &'s Scope<'s, E>,
+    setup: &RecorderSetup<'s, A, R, G>,
+    pass: ListPass<A>,
+    number: u32,
+    is_named: bool,
+) -> Recorder<'s, A>
+    requires pass { pass ≡ port_history setup.now.ports.now.queue number [] }
+    requires number { number < 4 }
+    requires named { is_named ≡ false → IsIdle (map line_value setup.now.lines.now) number (length (map line_value setup.now.lines.now)) }
+    ensures lines { result.lines ≡ map line_value setup.now.lines.now }
+    ensures queue { result.queue ≡ setup.now.ports.now.queue }
+    ensures number { result.number ≡ number }
+{
+    let (rt, alloc, gate) = (setup.rt, setup.alloc, setup.gate);
+    let (ports, lines) = (setup.ports, setup.lines);
+    let task = RecorderTask {
+        lines,
+        ports,
+        number,
+    };
+    let promise = RecorderTask {
+        lines,
+        ports,
+        number,
+    };
+    if !is_named {
+        let idle = RecorderResult {
+            pass,
+            kept: Vec::new(alloc),
+            end: RecordingEnd::idle(),
+        };
+        return Recorder {
+            task,
+            thread: None,
+            result: Some(idle),
+        };
+    }
+    match scope.spawn_with(promise, move || {
+        let setup = RecorderSetup {
+            rt,
+            alloc,
+            ports,
+            gate,
+            lines,
+        };
+        record_and_send(setup, pass, number)
+    }) {
+        Ok(thread) => Recorder {
+            task,
+            thread: Some(thread),
+            result: None,
+        },
+        Err(refused) => Recorder {
+            task,
+            thread: None,
+            result: Some((refused.value)()),
+        },
+    }
+}
+
+impl<'a, A: Allocator> Recorder<'a, A> {
+    /// Joins the thread, if it was not joined, and takes the lists that it did not send.
+    pub(crate) fn join<R: Threads>(&mut self, rt: &R, alloc: A) -> Vec<RecordedList<A>, A>
+        ensures same { IsSameRecorder self.old self.new }
+        ensures listed { All (IsListed self.old.lines) result.items }
+    {
+        if let Some(thread) = self.thread.take() {
+            self.result = Some(thread.join(rt));
+        }
+        match &mut self.result {
+            None => Vec::new(alloc),
+            Some(result) => mem::replace(&mut result.kept, Vec::new(alloc)),
+        }
+    }
+
+    /// Whether a list may still come: the recorder was not joined, or it finished that list.
+    pub(crate) fn may_give(&self, context: u32, number: u32) -> bool
+        ensures { MatchBool result (Unit {0}) (LacksBy self.now.result context number) }
+    {
+        let _ = &self.task;
+        match &self.result {
+            None => true,
+            Some(result) => u64::from(number) < result.end.lists(context),
+        }
+    }
+
+    /// Joins the thread, if it was not joined, and gives what it handed over.
+    pub(crate) fn close<R: Threads>(self, rt: &R) -> RecorderResult<A>
+        ensures result { IsResultOf self.entry.lines self.entry.queue self.entry.number result }
+        ensures same { MatchOption self.entry.result (Unit {0}) (λ r. result ≡ r) }
+    {
+        let Recorder {
+            task: _,
+            thread,
+            result,
+        } = self;
+        if let Some(result) = result {
+            return result;
+        }
+        match thread {
+            Some(thread) => thread.join(rt),
+            None => unreachable!(),
+        }
+    }
+}

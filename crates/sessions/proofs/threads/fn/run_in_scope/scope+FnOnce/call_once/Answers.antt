@@ -1,6 +1,0 @@
-use Rattle.sessions.proofs.threads.fn.run_in_scope.«scope+FnOnce».call_once.Goals as goal
-
--- behind what it says of lifetimes the closure has its own requires, and then what is known of the type parameters
-pub scope-requires : goal.scope-requires
-scope-requires g c =
-    let known = c.requires.1.1.1 in (known.1.0, (known.1.1, (known.1.2, (known.1.3, (known.1.4, known.0)))))

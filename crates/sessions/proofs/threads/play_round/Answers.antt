@@ -1,0 +1,25 @@
+use Rattle.std.proofs.Common.{rules, ◌∙◌, sym, subst, map}
+use Rattle.scenetext.specs.Seen.{line_value}
+use Rattle.recorders.proofs.EndLemmas.{match_more}
+use Rattle.recorders.proofs.PortLemmas.{results_for, right_for, agrees_for}
+use Rattle.sessions.specs.Playing.{MayPlay, missing_in}
+use Rattle.sessions.proofs.threads.play_round.Goals as goal
+
+pub play_by_crew-played-requires-clause-may : goal.play_by_crew-played-requires-clause-may
+play_by_crew-played-requires-clause-may g c κs lives =
+    let ls = map line_value c.args.lines.now in
+    subst (λ w. MayPlay ls w c.args.immediate) (sym (right_for ls c.args.ports.now.queue c.receive-received.result c.receive-received.ensures.frame)) c.requires.may
+
+pub returns : goal.returns
+returns g c =
+    let ls = map line_value c.args.lines.now in
+    let queue = c.args.ports.now.queue in
+    let played = c.play_by_crew-played in
+    let closed = c.close-results in
+    let frame = played.ensures.frame ∙ c.receive-received.ensures.frame in
+    record {
+      results = results_for ls queue played.new.lists closed.result.0 frame closed.ensures.results;
+      queue_is = search rules;
+      played = λ agrees. played.ensures.played (agrees_for ls queue played.new.lists closed.result.1 frame closed.ensures.drain agrees);
+      missing = match_more (missing_in played.result.interruption) (λ name lacks low. closed.ensures.lacks name.0 name.1 low lacks) played.ensures.missing;
+    }

@@ -1,0 +1,141 @@
+//! The calls that run the pending commands, on the caller's thread or by a crew beside it.
+
+ghost use Rattle.std.specs.Prelude.{◌≡◌, ◌<◌, []};
+ghost use Rattle.gfxspec.specs.Recorded.{queries_open};
+ghost use Rattle.gfxspec.specs.Refusals.{AreAccepted};
+ghost use Rattle.sessions.specs.Taking.{verb_of, IsHere, HasRun};
+
+use crate::answer_text::Reply;
+use cmdlist::CommandList;
+use gfxspec::GfxError;
+use immediate::{ImmediateContext, TileCrew};
+use recorders::{ListSource, take_call};
+use scenetext::Verb;
+use std::alloc::Allocator;
+use std::sync::Wait;
+use std::thread::Threads;
+use workers::Gate;
+
+/// A call that runs the pending commands.
+#[derive(Clone, Copy, Debug)]
+pub(crate) enum Running {
+    Flush,
+    /// Of a context, its list of a number, and whether the state stays.
+    Execute(u32, u32, bool),
+    Query(u32),
+    Pixel(u32, u32),
+}
+
+/// The immediate context, as contracts see it that don't know who runs the tiles, and the calls that run nothing.
+pub(crate) trait RecordsCalls {
+    ghost use Rattle.scenetext.specs.Seen.{verb_value};
+    ghost use Rattle.recorders.specs.Calls.{TakesCall};
+    ghost use Rattle.immediate.specs.Held.{Held, held_more};
+
+    ghost held: { Self → Held };
+
+    /// Records the call that a verb is. A verb that is none does nothing.
+    fn record_verb<A: Allocator>(&mut self, verb: &Verb<A>) -> Result<(), GfxError>
+        ensures { TakesCall (λ (h : Held). h.pending) held_more (held self.old) (verb_value verb.now) (held self.new) result };
+}
+
+impl<A: Allocator + Copy + Send> RecordsCalls for ImmediateContext<A> {
+    ghost held = { λ context. context };
+
+    fn record_verb<B: Allocator>(&mut self, verb: &Verb<B>) -> Result<(), GfxError> {
+        take_call(self, verb)
+    }
+}
+
+/// A list that is here. It is finished, so its commands are accepted, and it leaves no query open.
+pub(crate) fn finished_list<A: Allocator, S: ListSource<CommandList<A>>>(
+    lists: &S,
+    of: u32,
+    number: u32,
+) -> &CommandList<A>
+    requires context { of < 8 }
+    requires held { S.holds lists.now of number }
+    ensures right { S.agrees lists.now → result.now ≡ S.right lists.now of number }
+    ensures none_open { queries_open result.now ≡ [] }
+    ensures accepted { AreAccepted result.now }
+{
+    let list = lists.list(of, number);
+    list.commands();
+    list
+}
+
+/// Makes a call on the caller's thread.
+pub(crate) fn run_alone<A: Allocator + Copy + Send, S: ListSource<CommandList<A>>>(
+    context: &mut ImmediateContext<A>,
+    lists: &S,
+    running: Running,
+) -> Result<Option<Reply>, GfxError>
+    requires { IsHere (S.holds lists.now) (verb_of running) }
+    ensures { HasRun (S.agrees lists.now) (S.right lists.now) (verb_of running) context.old context.new result }
+{
+    match running {
+        Running::Flush => {
+            context.flush_alone()?;
+            Ok(None)
+        }
+        Running::Execute(of, number, restore) => {
+            let list = finished_list(lists, of, number);
+            context.execute_alone(list, restore)?;
+            Ok(None)
+        }
+        Running::Query(query) => {
+            let count = context.get_data_alone(query)?;
+            Ok(Some(Reply::Counted { query, count }))
+        }
+        Running::Pixel(x, y) => {
+            let value = context.pixel_alone(x, y)?;
+            Ok(Some(Reply::Shown { x, y, value }))
+        }
+    }
+}
+
+/// What a session in threads works with: threads, memory, a crew for the tiles, and the gate by which tests look at it.
+#[derive(Drop)]
+pub(crate) struct Workers<'w, 'a, A: Allocator + Copy + Send, R, G> {
+    pub(crate) rt: &'w R,
+    pub(crate) alloc: A,
+    pub(crate) crew: TileCrew<'a, A>,
+    pub(crate) gate: &'w G,
+}
+
+/// Makes a call by a crew beside the caller.
+pub(crate) fn run_by_crew<
+    A: Allocator + Copy + Send + Sync,
+    S: ListSource<CommandList<A>>,
+    R: Threads + Wait + Sync,
+    G: Gate,
+>(
+    workers: &Workers<'_, '_, A, R, G>,
+    context: &mut ImmediateContext<A>,
+    lists: &S,
+    running: Running,
+) -> Result<Option<Reply>, GfxError>
+    requires { IsHere (S.holds lists.now) (verb_of running) }
+    ensures { HasRun (S.agrees lists.now) (S.right lists.now) (verb_of running) context.old context.new result }
+{
+    let (rt, crew, gate) = (workers.rt, &workers.crew, workers.gate);
+    match running {
+        Running::Flush => {
+            context.flush_by_crew(rt, crew, gate)?;
+            Ok(None)
+        }
+        Running::Execute(of, number, restore) => {
+            let list = finished_list(lists, of, number);
+            context.execute_by_crew(rt, list, restore, crew, gate)?;
+            Ok(None)
+        }
+        Running::Query(query) => {
+            let count = context.get_data_by_crew(rt, query, crew, gate)?;
+            Ok(Some(Reply::Counted { query, count }))
+        }
+        Running::Pixel(x, y) => {
+            let value = context.pixel_by_crew(rt, x, y, crew, gate)?;
+            Ok(Some(Reply::Shown { x, y, value }))
+        }
+    }
+}
