@@ -159,12 +159,19 @@ class StatesScene:
         self.scene.add(actor, "finish", restore)
         self.lists[actor].begin_anew(restore)
 
+    def add_executions(self):
+        """An execution, or some that stand behind one another; gives whether the last one restores the state."""
+        for _ in range(self.chance.choice([1, 1, 2, 4, 9])):
+            restore = int(self.chance.randrange(3) > 0)
+            self.scene.add("i", "exec", *self.chance.choice(self.finished), restore)
+            self.lists["i"].begin_anew(restore)
+        return restore
+
     def add_run(self, kind):
         """An execution, a flush or a question."""
         restore = 1
         if self.finished and kind < 2:
-            restore = self.chance.randrange(2)
-            self.scene.add("i", "exec", *self.chance.choice(self.finished), restore)
+            restore = self.add_executions()
         elif kind == 2:
             self.scene.add("i", "flush")
         elif kind == 3 and self.ended:

@@ -182,12 +182,17 @@ def node_explained(words, module):
 
 
 def explained(scene, x, y):
-    """The lines that changed a pixel, by the package: what it held before and behind each, where these differ."""
-    lines = {}
+    """The lines that changed a pixel, by the package: what it held before and behind each, where these differ.
+
+    The page looks into no list that left the pixel as it was, so the lines of such an execution are left out.
+    """
+    lines, executions = {}, {}
     for step in explain(scene, x, y).steps:
         before, after = ([*it.colour, it.depth, it.stencil] for it in (step.before, step.after))
-        lines.setdefault((step.item.number, step.executed_by), [before, after])[1] = after
-    return [[*line, after] for line, (before, after) in lines.items() if before != after]
+        for among, key in ((lines, (step.item.number, step.executed_by)), (executions, step.executed_by)):
+            among.setdefault(key, [before, after])[1] = after
+    same = {by for by, (before, after) in executions.items() if by and before == after}
+    return [[*line, after] for line, (before, after) in lines.items() if before != after and line[1] not in same]
 
 
 def why_no_device():
