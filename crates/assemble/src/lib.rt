@@ -11,4 +11,4 @@ mod sides;
 
 pub use draws::{Draw, places_law, triangle_count, triangles};
 pub use places::{Tri, Triangles};
-pub use sides::{culled, facing};
+pub use sides::{culled, facing, facing_by_area};

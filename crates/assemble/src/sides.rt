@@ -2,6 +2,7 @@
 
 ghost use Rattle.std.specs.Prelude.{◌≡◌};
 ghost use Rattle.gfxspec.specs.Facing.{facing_of, is_culled};
+ghost use Rattle.gfxspec.specs.Raster.{Triangle, area as area_of};
 ghost use Rattle.snap.specs.Corners.{triangle_of};
 
 use gfxspec::{Cull, Facing};
@@ -12,7 +13,13 @@ use snap::SnapTri;
 pub fn facing(triangle: &SnapTri, front_ccw: bool) -> Facing
     ensures { result ≡ facing_of front_ccw (triangle_of triangle.now) }
 {
-    let area = triangle.double_area();
+    facing_by_area(triangle.double_area(), front_ccw)
+}
+
+/// Which way a triangle faces, by twice its area with the sign of the order of its corners.
+pub fn facing_by_area(area: i64, front_ccw: bool) -> Facing
+    ensures { (t : Triangle) → area ≡ area_of t → result ≡ facing_of front_ccw t }
+{
     if area == 0 {
         return Facing::Empty;
     }

@@ -12,6 +12,9 @@ use crate::height::Linear;
 /// One unit of depth, in 2^40ths.
 pub(crate) const UNIT: u64 = 1_099_511_627_776;
 
+/// Half of the bits of a unit: what a rest is divided by at a time, so that each division is one of 64 bits.
+const HALF: u64 = 1_048_576;
+
 /// A number that is linear over the target, times 2^40 and divided by the area: its value at the centre of pixel (0, 0),
 /// and what a pixel to the right or down adds to it. Each is rounded up, and multiples of 2^64 are left out.
 #[derive(Clone, Copy, Debug)]
@@ -30,8 +33,10 @@ fn fraction(rest: i64, divisor: i64) -> u64
     ensures least { 1099511627776 * unsigned_abs rest ≤ result * unsigned_abs divisor }
     ensures most { result * unsigned_abs divisor < 1099511627776 * unsigned_abs rest + unsigned_abs divisor }
 {
-    let parts = u128::from(rest.unsigned_abs()) * u128::from(UNIT);
-    parts.div_ceil(u128::from(divisor.unsigned_abs())) as u64
+    let divisor = divisor.unsigned_abs();
+    let high = rest.unsigned_abs() * HALF;
+    let low = high % divisor * HALF;
+    high / divisor * HALF + low.div_ceil(divisor)
 }
 
 /// A division in 2^40ths, rounded up.

@@ -8,22 +8,21 @@
 mod reach;
 mod walk;
 
-ghost use Rattle.std.specs.Prelude.{◌≡◌, ◌≢◌, ◌↔◌, ℕ, ◌≤◌, ◌<◌, ◌^◌, ◌+◌, pos, ◌≤ℤ◌, ◌+ℤ◌, unsigned_abs, IsNone, IfSome, IsTrue};
+ghost use Rattle.std.specs.Prelude.{◌≡◌, ◌≢◌, ◌↔◌, ℕ, ◌≤◌, ◌<◌, ◌^◌, ◌+◌, ℤ, pos, neg_ℤ, ◌≤ℤ◌, ◌+ℤ◌, unsigned_abs, IsNone, IfSome, IsTrue};
 ghost use Rattle.gfxspec.specs.Limits.{side_bound, walk_bound};
-ghost use Rattle.gfxspec.specs.Raster.{Point, area, centre, covers, edge, edge_holds};
+ghost use Rattle.gfxspec.specs.Raster.{Edge, area, centre, covers, edge, edge_holds, side_of};
 ghost use Rattle.gfxspec.specs.Tiles.{IsIn};
 ghost use Rattle.snap.specs.Bounds.{step_bound};
 ghost use Rattle.snap.specs.Corners.{triangle_of};
-ghost use Rattle.snap.specs.Wide.{point_of, IsNear};
+ghost use Rattle.snap.specs.Sides.{IsSideOf, IsSmallSide};
 ghost use Rattle.edges.specs.Extremes.{IsWithinExtremes};
-ghost use Rattle.edges.specs.Function.{IsFunctionOf, IsSmall, IsTurned, linear};
+ghost use Rattle.edges.specs.Function.{IsFunctionOf, IsSmall, linear};
 ghost use Rattle.edges.specs.Partition.{SharedEdgeCoversOnce, SharedEdgeCoversAll};
 ghost use Rattle.edges.specs.Value.{edge_value, bias, goes_up_or_right};
 
 use crate::reach::centres_between;
 use gfxspec::PixelRect;
-use snap::SnapTri;
-use snap::corner::{Corner, between, corner_at, cross, negated_if, whole_pixel};
+use snap::{Side, Sides, SnapTri};
 use std::marker::Model;
 pub use walk::EdgeWalk;
 
@@ -55,15 +54,29 @@ impl Model for EdgeSet {
     ghost invariant = { IsSetOf };
 }
 
-/// What is taken off so that an edge that is neither top nor left doesn't hold on its own line.
-fn bias_of(dx: i64, dy: i64) -> i64
-    ensures value { result ≡ bias (goes_up_or_right dx dy) }
+/// What is taken off so that an edge that is neither top nor left doesn't hold on its own line, by what a pixel to the right
+/// or down adds to the side.
+fn bias_of(step_x: i64, step_y: i64) -> i64
+    ensures value { result ≡ bias (goes_up_or_right step_y (neg_ℤ step_x)) }
     ensures bound { unsigned_abs result ≤ 1 }
 {
-    if dy < 0 || (dy == 0 && dx > 0) { 0 } else { 1 }
+    let is_top_or_left = step_x > 0 || (step_x == 0 && step_y > 0);
+    if is_top_or_left { 0 } else { 1 }
 }
 
 impl EdgeFunction {
+    /// The function of an edge, from the side at it.
+    fn of(side: Side) -> EdgeFunction
+        requires { IsSmallSide side }
+        ensures { (e : Edge) (area : ℤ) → area ≢ pos 0 → area ≡ side_of e e.opposite → IsSideOf side area e.start e.end → IsFunctionOf result e }
+    {
+        EdgeFunction {
+            origin: side.origin - bias_of(side.step_x, side.step_y),
+            step_x: side.step_x,
+            step_y: side.step_y,
+        }
+    }
+
     /// The value at the centre of pixel (x, y).
     fn at(self, x: u32, y: u32) -> i64
         requires small { IsSmall self }
@@ -75,22 +88,6 @@ impl EdgeFunction {
     }
 }
 
-/// The function of the edge from `start` to `end`, turned where the opposite vertex would lie below 0.
-fn edge_function(start: Corner, end: Corner, turn: bool) -> EdgeFunction
-    requires first { IsNear start }
-    requires second { IsNear end }
-    ensures { (opposite : Point) → IsTurned turn (point_of start) (point_of end) opposite → IsFunctionOf result (record { start = point_of start; end = point_of end; opposite = opposite }) }
-{
-    let dx = negated_if(turn, between(start.x, end.x));
-    let dy = negated_if(turn, between(start.y, end.y));
-    let side = cross(dx, dy, between(start.x, 128), between(start.y, 128));
-    EdgeFunction {
-        origin: side - bias_of(dx, dy),
-        step_x: whole_pixel(negated_if(true, dy)),
-        step_y: whole_pixel(dx),
-    }
-}
-
 impl EdgeSet {
     /// The edges of a triangle, if it has an area
     /// (Direct3D 11.3 Functional Specification, "Rasterization Rules": top-left rule).
@@ -99,21 +96,25 @@ impl EdgeSet {
         ensures none { IsNone result ↔ (area (triangle_of triangle.now) ≡ pos 0) }
         ensures set { IfSome result (λ edges. edges ≡ triangle_of triangle.now) }
     {
-        let area = triangle.double_area();
-        if area == 0 {
+        EdgeSet::of_sides(&Sides::of(triangle))
+    }
+
+    /// The edges of a triangle whose sides are known, if it has an area.
+    #[inline(always)]
+    pub fn of_sides(sides: &Sides) -> Option<EdgeSet>
+        ensures none { IsNone result ↔ (area (triangle_of sides.now.triangle) ≡ pos 0) }
+        ensures set { IfSome result (λ edges. edges ≡ triangle_of sides.now.triangle) }
+    {
+        if sides.area == 0 {
             return None;
         }
-        let turn = area < 0;
-        let a = corner_at(triangle, 0);
-        let b = corner_at(triangle, 1);
-        let c = corner_at(triangle, 2);
         Some(EdgeSet {
             functions: [
-                edge_function(b, c, turn),
-                edge_function(c, a, turn),
-                edge_function(a, b, turn),
+                EdgeFunction::of(sides.first),
+                EdgeFunction::of(sides.second),
+                EdgeFunction::of(sides.third),
             ],
-            triangle: *triangle,
+            triangle: sides.triangle,
         })
     }
 

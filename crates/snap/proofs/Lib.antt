@@ -1,1 +1,2 @@
 pub mod CoverLaws
+mod SideLaws

@@ -11,13 +11,13 @@ use crate::SnapTri;
 
 /// A corner, in numbers that are wide enough for their products.
 #[derive(Clone, Copy, Debug)]
-pub struct Corner {
-    pub x: i64,
-    pub y: i64,
+pub(crate) struct Corner {
+    pub(crate) x: i64,
+    pub(crate) y: i64,
 }
 
 /// Corner i.
-pub fn corner_at(triangle: &SnapTri, i: usize) -> Corner
+pub(crate) fn corner_at(triangle: &SnapTri, i: usize) -> Corner
     requires { i < 3 }
     ensures place { point_of result ≡ corner_of triangle.now i }
     ensures near { IsNear result }
@@ -29,7 +29,7 @@ pub fn corner_at(triangle: &SnapTri, i: usize) -> Corner
 }
 
 /// How far it is from one place to another.
-pub fn between(from: i64, to: i64) -> i64
+pub(crate) fn between(from: i64, to: i64) -> i64
     requires start { IsGridPlace from }
     requires end { IsGridPlace to }
     ensures value { result ≡ to -ℤ from }
@@ -39,7 +39,7 @@ pub fn between(from: i64, to: i64) -> i64
 }
 
 /// The cross product of (dx, dy) and (ex, ey).
-pub fn cross(dx: i64, dy: i64, ex: i64, ey: i64) -> i64
+pub(crate) fn cross(dx: i64, dy: i64, ex: i64, ey: i64) -> i64
     requires dx { unsigned_abs dx ≤ difference_bound }
     requires dy { unsigned_abs dy ≤ difference_bound }
     requires ex { unsigned_abs ex ≤ difference_bound }
@@ -51,7 +51,7 @@ pub fn cross(dx: i64, dy: i64, ex: i64, ey: i64) -> i64
 }
 
 /// Twice the area of a, b and p, with its sign.
-pub fn double_area(a: Corner, b: Corner, p: Corner) -> i64
+pub(crate) fn double_area(a: Corner, b: Corner, p: Corner) -> i64
     requires first { IsNear a }
     requires second { IsNear b }
     requires third { IsNear p }
@@ -67,7 +67,7 @@ pub fn double_area(a: Corner, b: Corner, p: Corner) -> i64
 }
 
 /// The number, or its opposite.
-pub fn negated_if(flip: bool, number: i64) -> i64
+pub(crate) fn negated_if(flip: bool, number: i64) -> i64
     requires { unsigned_abs number ≤ difference_bound }
     ensures value { result ≡ (if flip then neg_ℤ number else number) }
     ensures bound { unsigned_abs result ≤ difference_bound }
@@ -76,7 +76,7 @@ pub fn negated_if(flip: bool, number: i64) -> i64
 }
 
 /// What 256 places of 1/256 pixel come to.
-pub fn whole_pixel(each: i64) -> i64
+pub(crate) fn whole_pixel(each: i64) -> i64
     requires { unsigned_abs each ≤ difference_bound }
     ensures value { result ≡ pos 256 *ℤ each }
     ensures bound { unsigned_abs result ≤ step_bound }

@@ -1,11 +1,12 @@
-//! Snaps vertex positions to the rasterizer's grid, and does the arithmetic of corners that edges, facing and depth share.
+//! Snaps vertex positions to the rasterizer's grid, and computes a triangle's area and sides once for facing, edges and depth.
 //!
 //! A vertex coordinate is in 1/65,536 pixel, at most 268,435,456 either way; a snapped one is in 1/256 pixel, at most
 //! 1,048,576 either way. A `SnapTri` carries that range in its type, so nothing above asks for it again, and each
 //! 64-bit product of `corner` is shown to fit once.
 #![tactic(auto)]
 
-pub mod corner;
+mod corner;
+mod sides;
 
 ghost use Rattle.std.specs.Prelude.{◌≡◌, map, slice_index_or, pos, ◌≤◌, All};
 ghost use Rattle.gfxspec.specs.Items.{snapped_triangle};
@@ -14,6 +15,7 @@ ghost use Rattle.gfxspec.specs.Vertices.{IsPlaced};
 
 use crate::corner::{corner_at, double_area};
 use gfxspec::Vertex;
+pub use sides::{Side, Sides};
 
 /// A triangle's corners in 1/256 pixel, the leading one first.
 #[derive(Clone, Copy, Debug)]

@@ -1,9 +1,6 @@
 use Rattle.std.proofs.Common.{rules}
 use Rattle.depthplane.proofs.plane.size.Goals as goal
 
-pub double_area-requires : goal.double_area-requires
-double_area-requires c = search rules
-
 pub abs-requires : goal.abs-requires
 abs-requires c = search rules
 

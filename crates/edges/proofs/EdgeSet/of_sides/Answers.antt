@@ -1,0 +1,28 @@
+use Rattle.std.proofs.Common.{rules, pos, ◌≢◌}
+use Rattle.gfxspec.specs.Raster.{edge}
+use Rattle.snap.specs.Corners.{triangle_of}
+use Rattle.edges.specs.Function.{IsFunctionOf}
+use Rattle.edges.proofs.FunctionLaws.{each_edge, whole_first, whole_second}
+use Rattle.edges.proofs.EdgeSet.of_sides.Goals as goal
+
+pub invariant_of-result : goal.invariant_of-result
+invariant_of-result c =
+    let s = c.args.sides.now in
+    let t = triangle_of s.triangle in
+    let real : s.area ≢ pos 0 = search rules in
+    each_edge IsFunctionOf t c.of.result c.of-2.result c.of-3.result (record { origin = pos 0; step_x = pos 0; step_y = pos 0 })
+    (c.of.ensures (edge t 0) s.area real (whole_first t s.area s.area_is) s.first_is)
+    (c.of-2.ensures (edge t 1) s.area real (whole_second t s.area s.area_is) s.second_is)
+    (c.of-3.ensures (edge t 2) s.area real s.area_is s.third_is)
+
+pub returns-then-sides-eq0-clause-none : goal.returns-then-sides-eq0-clause-none
+returns-then-sides-eq0-clause-none c = search rules
+
+pub returns-then-sides-eq0-clause-set : goal.returns-then-sides-eq0-clause-set
+returns-then-sides-eq0-clause-set c = search rules
+
+pub returns-clause-none : goal.returns-clause-none
+returns-clause-none c = search rules
+
+pub returns-clause-set : goal.returns-clause-set
+returns-clause-set c = search rules
