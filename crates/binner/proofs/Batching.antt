@@ -16,12 +16,12 @@ use Rattle.binner.specs.declared.compiling.Compiling.{Compiling}
 use Rattle.binner.specs.declared.entry.Current.{Current}
 use Rattle.binner.specs.Meaning.{entry_of, AreBits}
 use Rattle.binner.specs.Compiling.{HasCompiled, HasRoom, IsSound, IsEntry, IsCurrent, Performs, SameTables}
-use Rattle.binner.specs.Compiled.{Compilation, IsCompilation}
+use Rattle.binner.specs.Compiled.{IsCompilation}
 use Rattle.binner.specs.Compiling.{tables, compilation_of}
 use Rattle.binner.specs.Batched.{IsBatch, MeansItems}
 use Rattle.gfxspec.specs.Tiles.{tile_rect}
 use Rattle.binner.specs.Lists.{at}
-use Rattle.binner.proofs.Accepted.{done, done_more, whole}
+use Rattle.binner.proofs.Accepted.{done, done_more}
 use Rattle.binner.proofs.Whole.{kept_sound, kept_means}
 use Rattle.binner.proofs.Noting.{nothing_open, zeros}
 use Rattle.binner.proofs.Ending.{program_means, program_fits}

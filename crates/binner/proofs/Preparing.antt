@@ -69,8 +69,8 @@ all_ready vs d h r = subst IsReady (sym (same_primitive vs d h)) r
 pub facing_is : (t : Primitive) (s : Settings) (f : Facing) (ccw : Bool) (corners : Triangle) → f ≡ facing_of ccw corners → ccw ≡ s.raster.front_ccw → corners ≡ snapped_triangle t → f ≡ facing t s
 facing_is t s f ccw corners h a b = h ∙ ap (λ c. facing_of c corners) a ∙ ap (facing_of s.raster.front_ccw) b
 
-pub kept_is : (t : Primitive) (s : Settings) (f : Facing) (mode : Cull) (culled : Bool) → f ≡ facing t s → mode ≡ s.raster.cull → culled ≡ is_culled mode f → culled ≡ false → is_culled s.raster.cull (facing t s) ≡ false
-kept_is t s f mode culled a b c h = ap (λ m. is_culled m (facing t s)) (sym b) ∙ ap (is_culled mode) (sym a) ∙ sym c ∙ h
+pub culled_is : (t : Primitive) (s : Settings) (f : Facing) (mode : Cull) (culled is : Bool) → f ≡ facing t s → mode ≡ s.raster.cull → culled ≡ is_culled mode f → culled ≡ is → is_culled s.raster.cull (facing t s) ≡ is
+culled_is t s f mode culled is a b c h = ap (λ m. is_culled m (facing t s)) (sym b) ∙ ap (is_culled mode) (sym a) ∙ sym c ∙ h
 
 -- ---- a dropped triangle
 

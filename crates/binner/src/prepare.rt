@@ -11,12 +11,12 @@ ghost use Rattle.binner.specs.Ready.{IsReady, common_rect};
 ghost use Rattle.binner.specs.Meaning.{IsSetupOf};
 
 use crate::setup::TriSetup;
-use assemble::{culled, facing};
+use assemble::{culled, facing_by_area};
 use cmdlist::State;
 use depthplane::{Plane, with_bias};
 use edges::EdgeSet;
 use gfxspec::{Facing, PixelRect, Size, Vertex};
-use snap::SnapTri;
+use snap::{Sides, SnapTri};
 
 /// The pixels of two rectangles.
 fn common(a: PixelRect, b: PixelRect) -> PixelRect
@@ -73,17 +73,18 @@ pub(crate) fn prepared(vertices: &[Vertex; 3], state: &State<'_>, size: Size) ->
 {
     let [first, second, third] = vertices;
     let corners = SnapTri::of(first, second, third);
-    let facing = facing(&corners, state.raster.front_ccw());
+    let sides = Sides::of(&corners);
+    let facing = facing_by_area(sides.area, state.raster.front_ccw());
     if culled(state.raster.cull(), facing) {
         return None;
     }
-    let edges = EdgeSet::of(&corners)?;
+    let edges = EdgeSet::of_sides(&sides)?;
     let bounds = within_reach(&edges, state);
     if !is_seen(bounds, size) {
         return None;
     }
     let bias = state.raster.depth_bias();
-    let plane = Plane::of_biased(&corners, [first.z, second.z, third.z], bias);
+    let plane = Plane::of_sides(&sides, [first.z, second.z, third.z], bias);
     Some(TriSetup {
         edges,
         plane,

@@ -12,7 +12,7 @@ use crate::height::Linear;
 /// One unit of depth, in 2^40ths.
 pub(crate) const UNIT: u64 = 1_099_511_627_776;
 
-/// Half of the bits of a unit: what a rest is divided by at a time, so that each division is one of 64 bits.
+/// A unit is this times itself: a rest is scaled in two steps, so that each division is one of 64 bits.
 const HALF: u64 = 1_048_576;
 
 /// A number that is linear over the target, times 2^40 and divided by the area: its value at the centre of pixel (0, 0),

@@ -1,4 +1,4 @@
-use Rattle.std.proofs.Common.{rules, arith, sym, subst, ◌≡◌, ◌++◌, ◌∷◌, [], ℕ}
+use Rattle.std.proofs.Common.{rules, sym, subst, ◌≡◌, ℕ}
 use Rattle.gfxspec.specs.State.{Settings}
 use Rattle.meaning.specs.OneMore.{settings_with}
 use Rattle.cmdlist.specs.Seen.{state_value, command_value}
