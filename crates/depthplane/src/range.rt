@@ -26,7 +26,7 @@ impl Plane {
         if value % UNIT >= NEAR {
             return with_bias(whole, self.bias());
         }
-        let height = self.height.at(x, y);
+        let height = self.height().at(x, y);
         with_bias(mended(whole, height, self.area), self.bias())
     }
 
@@ -43,7 +43,7 @@ impl Plane {
         ensures greatest { result.1 ≡ greatest_corner self.now rect }
         ensures between { (x y : ℕ) → IsIn rect x y → (result.0 ≤ depth_of self.now x y) × (depth_of self.now x y ≤ result.1) }
     {
-        let _height = &self.height;
+        let _area = self.area;
         let right = rect.right - 1;
         let bottom = rect.bottom - 1;
         let a = self.depth(rect.left, rect.top);

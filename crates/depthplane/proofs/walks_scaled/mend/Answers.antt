@@ -4,7 +4,7 @@ use Rattle.std.specs.Prelude.{slice_set}
 use Rattle.std.proofs.lemmas.Int.{to_z-of_z}
 use Rattle.std.proofs.lemmas.List.{get_or-set_same, get_or-set_other}
 use Rattle.gfxspec.specs.Raster.{centre}
-use Rattle.depthplane.specs.Height.{DeepTriangle, height, size_of}
+use Rattle.depthplane.specs.Height.{height, size_of}
 use Rattle.depthplane.specs.Mended.{mended_by}
 use Rattle.depthplane.proofs.walks_scaled.mend.Goals as goal
 
@@ -19,12 +19,12 @@ loop-j-preserved c =
     let now = c.args.plane.now in
     let i = c.loop-j.invariant in
     let f : FitsSigned w64 p.area = search rules in
-    let g : FitsSigned w128 c.at-height.result = search rules in
+    let g : FitsSigned w128 c.at-there.result = search rules in
     let depth : ℕ → ℕ = λ k. mended_by (height now (centre (x + k) y)) (size_of now) (slice_index c.args.depths k) in
-    let there : c.at-height.result ≡ height now (centre (x + j) y) =
-    c.at-height.ensures.value ∙ c.plane.invariant.value (x + j) y ∙ ap (λ (d : DeepTriangle). height d (centre (x + j) y)) c.plane.view_is in
+    let there : c.at-there.result ≡ height now (centre (x + j) y) =
+    c.at-there.ensures.value ∙ c.height-height.ensures.value (x + j) y in
     let size : p.area ≡ size_of now = c.plane.invariant.area_is ∙ ap size_of c.plane.view_is in
-    let same : v ≡ mended_by c.at-height.result p.area (slice_index c.args.depths j) = simp to_z-of_z at c.mended.ensures in
+    let same : v ≡ mended_by c.at-there.result p.area (slice_index c.args.depths j) = simp to_z-of_z at c.mended.ensures in
     let here : v ≡ depth j = same ∙ (λ k. mended_by (there k) (size k) (slice_index c.args.depths j)) in
     record {
       long = search rules;

@@ -8,10 +8,9 @@ use Rattle.depthplane.proofs.plane.Plane.range.Goals as goal
 
 pub returns-clause-between : goal.returns-clause-between
 returns-clause-between c = λ x y is.
-    let p = c.self.inside in
     let now = c.args.self.now in
     let r = c.args.rect in
-    let value : (x y : ℕ) → value_at p.height x y ≡ height now (centre x y) = λ x y. c.self.invariant.value x y ∙ ap (λ (d : DeepTriangle). height d (centre x y)) c.self.view_is in
+    let value : (x y : ℕ) → value_at c.self.invariant.linear x y ≡ height now (centre x y) = λ x y. c.self.invariant.value x y ∙ ap (λ (d : DeepTriangle). height d (centre x y)) c.self.view_is in
     let wide = c.requires.wide in
     let high = c.requires.high in
     let first = c.depth-a.ensures (c.requires.covered r.left r.top (record { left = omega arith; right = wide; top = omega arith; bottom = high })) in
@@ -20,6 +19,6 @@ returns-clause-between c = λ x y is.
     let fourth = c.depth-d.ensures (c.requires.covered (r.right - 1) (r.bottom - 1) (record { left = omega (arith, wide); right = omega (arith, wide); top = omega (arith, high); bottom = omega (arith, high) })) in
     let least : c.min-3.result ≡ least_corner now r = omega (arith, first, second, third, fourth, c.min.ensures, c.min-2.ensures, c.min-3.ensures) in
     let greatest : c.max-3.result ≡ greatest_corner now r = omega (arith, first, second, third, fourth, c.max.ensures, c.max-2.ensures, c.max-3.ensures) in
-    let low = corners_least now p.height r c.requires.wide c.requires.high value c.requires.covered x y is in
-    let above = corners_greatest now p.height r c.requires.wide c.requires.high value c.requires.covered x y is in
+    let low = corners_least now c.self.invariant.linear r c.requires.wide c.requires.high value c.requires.covered x y is in
+    let above = corners_greatest now c.self.invariant.linear r c.requires.wide c.requires.high value c.requires.covered x y is in
     (omega (arith, least, low), omega (arith, greatest, above))
