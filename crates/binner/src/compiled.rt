@@ -246,7 +246,7 @@ impl<A: Allocator + Copy> Compiled<A> {
         match self.triangles.get(number as usize) {
             Some(triangle) => {
                 let bounds = u64::from(triangle.bounds.left);
-                bounds ^ triangle.plane.prefetch() ^ triangle.edges.step_x(0).unsigned_abs()
+                bounds ^ triangle.plane.prefetch() ^ triangle.edges.prefetch()
             }
             None => 0,
         }

@@ -190,11 +190,12 @@ pub(crate) fn add_to_tiles<A: Allocator + Copy>(
     if left >= right || top >= bottom {
         return Ok(());
     }
+    let edges = setup.edges.unpacked();
     'rows: for row in top..bottom {
         'columns: for column in left..right {
             let rect = rect_at(size, column, row);
             let tile = row * along + column;
-            add_triangle(lists, tile, rect, &setup.edges, current, number)?;
+            add_triangle(lists, tile, rect, &edges, current, number)?;
         }
     }
     Ok(())

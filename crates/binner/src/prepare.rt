@@ -86,7 +86,7 @@ pub(crate) fn prepared(vertices: &[Vertex; 3], state: &State<'_>, size: Size) ->
     let bias = state.raster.depth_bias();
     let plane = Plane::of_sides(&sides, [first.z, second.z, third.z], bias);
     Some(TriSetup {
-        edges,
+        edges: edges.packed(),
         plane,
         bounds,
         front: is_front(facing),

@@ -7,17 +7,17 @@ ghost use Rattle.gfxspec.specs.Raster.{is_empty};
 ghost use Rattle.depthplane.specs.Height.{AreDepths};
 
 use depthplane::Plane;
-use edges::EdgeSet;
+use edges::PackedEdges;
 use gfxspec::PixelRect;
 use std::mem::size_of;
 
 // What a list keeps for each of up to 65,536 triangles.
-const _: () = prove!(size_of::<TriSetup>() <= 208);
+const _: () = prove!(size_of::<TriSetup>() <= 136);
 
 /// A triangle that is not dropped. No pixel outside of `bounds` is reached.
 #[derive(Drop)]
 pub struct TriSetup {
-    pub edges: EdgeSet,
+    pub edges: PackedEdges,
     pub plane: Plane,
     pub bounds: PixelRect,
     /// Whether it uses the front operations.

@@ -5,6 +5,7 @@
 //! cover rule, ties included, and a step from pixel to pixel is one addition.
 #![tactic(auto)]
 
+mod packed;
 mod reach;
 mod walk;
 
@@ -22,6 +23,7 @@ ghost use Rattle.edges.specs.Value.{edge_value, bias, goes_up_or_right};
 
 use crate::reach::centres_between;
 use gfxspec::PixelRect;
+pub use packed::PackedEdges;
 use snap::{Side, Sides, SnapTri};
 use std::marker::Model;
 pub use walk::EdgeWalk;

@@ -92,18 +92,18 @@ pub(crate) fn draw<A: Allocator>(
     let first = (clip.left - rect.left) / 8;
     let past = (clip.right - rect.left + 7) / 8;
     let left = rect.left + 8 * first;
-    let steps = triangle.edges.steps();
-    let edges = triangle.edges.walk(left, clip.top);
+    let set = triangle.edges.unpacked();
+    let steps = set.steps();
+    let edges = set.walk(left, clip.top);
     let plane = &triangle.plane;
-    let set = &triangle.edges;
     if plane.is_biased() {
         let biased = plane.walk_eight_biased(left, clip.top);
         return draw_spans(
-            block, set, plane, edges, biased, steps, mask, brush, clip, first, past,
+            block, &set, plane, edges, biased, steps, mask, brush, clip, first, past,
         );
     }
     let walk = plane.walk_eight(left, clip.top);
     draw_spans(
-        block, set, plane, edges, walk, steps, mask, brush, clip, first, past,
+        block, &set, plane, edges, walk, steps, mask, brush, clip, first, past,
     )
 }

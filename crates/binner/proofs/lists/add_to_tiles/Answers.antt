@@ -21,7 +21,8 @@ columns-preserved g c =
     let w = tiles_along old.size.width in
     let y = c.rows.row in
     let x = c.columns.column in
-    let moved = subst (λ a. ChangesAt (y * a + x) (AddsTriangle tri (tile_rect mid.size (y * a + x)) s n) mid new) c.tiles_along-along.ensures.value c.in_ok-add_triangle.ensures.added in
+    let same = subst (λ e. ChangesAt (y * c.tiles_along-along.result + x) (AddsTriangle e (tile_rect mid.size (y * c.tiles_along-along.result + x)) s n) mid new) c.unpacked-edges.ensures c.in_ok-add_triangle.ensures.added in
+    let moved = subst (λ a. ChangesAt (y * a + x) (AddsTriangle tri (tile_rect mid.size (y * a + x)) s n) mid new) c.tiles_along-along.ensures.value same in
     let here = subst (λ z. ChangesAt (y * w + x) (AddsTriangle tri (tile_rect z (y * w + x)) s n) mid new) c.columns.invariant.size moved in
     let right : c.tiles_along-right.result ≡ tiles_along (min c.args.setup.now.bounds.right old.size.width) = search rules in
     column_done (λ k. AddsTriangle tri (tile_rect old.size k) s n) old w (c.args.setup.now.bounds.left / 32) c.tiles_along-right.result (c.args.setup.now.bounds.top / 32) mid new y x (search rules)

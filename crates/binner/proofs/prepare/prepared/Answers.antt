@@ -1,11 +1,13 @@
-use Rattle.std.proofs.Common.{rules, ap, refl, sym, subst, ◌∙◌, [], pos, true, false, min, max, get_or, w32, w64, FitsSigned}
+use Rattle.std.proofs.Common.{rules, ap, refl, sym, subst, ◌≡◌, ◌<◌, ◌&&◌, ◌∙◌, ℕ, [], pos, true, false, min, max, get_or, w32, w64, FitsSigned}
 use Rattle.std.proofs.lemmas.Int.{to_z-of_z}
 use Rattle.gfxspec.specs.declared.geometry.Vertex.{Vertex}
 use Rattle.gfxspec.specs.Depth.{biased}
 use Rattle.gfxspec.specs.Vertices.{IsDepth}
 use Rattle.gfxspec.proofs.Threes.{All_three}
 use Rattle.gfxspec.specs.Assembly.{Primitive}
-use Rattle.gfxspec.specs.Items.{face_setting, snapped_triangle}
+use Rattle.gfxspec.specs.Items.{face_setting, in_scissor, is_in_rect, snapped_triangle}
+use Rattle.gfxspec.specs.Limits.{side_bound}
+use Rattle.gfxspec.specs.Raster.{Triangle, centre, covers}
 use Rattle.snap.specs.Corners.{triangle_of}
 use Rattle.depthplane.specs.Height.{AreDepths, DeepTriangle}
 use Rattle.assemble.specs.Triangle.{primitive_of}
@@ -47,8 +49,8 @@ invariant_of-result c =
     let lowest = simp to_z-of_z at c.with_bias.ensures in
     let highest = simp to_z-of_z at c.with_bias-2.ensures in
     record {
-      same = ap (λ d. d.triangle) plane ∙ sym c.in_ok-edges.ensures.set;
-      solid = solid _ c.in_ok-edges.edges c.in_ok-edges.ensures.set (search rules);
+      same = ap (λ d. d.triangle) plane ∙ sym (c.packed.ensures ∙ c.in_ok-edges.ensures.set);
+      solid = solid _ c.packed.result (c.packed.ensures ∙ c.in_ok-edges.ensures.set) (search rules);
       deep = subst AreDepths (sym plane) (record { z0 = ready.first.deep; z1 = ready.second.deep; z2 = ready.third.deep });
       least = lowest ∙ ap (biased c.depth_bias-bias.result) (c.min-2.ensures ∙ ap (λ m. min m (get_or c.args.vertices.now 2 none).z) c.min.ensures) ∙ ap (λ (d : DeepTriangle). biased d.bias (min (min d.z0 d.z1) d.z2)) (sym plane);
       greatest = highest ∙ ap (biased c.depth_bias-bias.result) (c.max-2.ensures ∙ ap (λ m. max m (get_or c.args.vertices.now 2 none).z) c.max.ensures) ∙ ap (λ (d : DeepTriangle). biased d.bias (max (max d.z0 d.z1) d.z2)) (sym plane);
@@ -67,8 +69,9 @@ returns-clause-setup c =
     let plane = simp to_z-of_z at c.of_sides-plane.ensures in
     let facing = simp to_z-of_z at c.facing_by_area-facing.ensures in
     let faces = facing_is t s c.facing_by_area-facing.result c.front_ccw.result _ (facing (triangle_of c.of-sides.result.triangle) c.of-sides.result.area_is) c.front_ccw.ensures corners in
+    let Reach : Triangle → Type 0 = λ e. (x y : ℕ) → x < side_bound → y < side_bound → (is_in_rect c.within_reach-bounds.result x y && covers e (centre x y)) ≡ (covers e (centre x y) && in_scissor s x y) in
     record {
-      edges = c.in_ok-edges.ensures.set ∙ corners;
+      edges = c.packed.ensures ∙ c.in_ok-edges.ensures.set ∙ corners;
       z0 = ap (λ d. d.z0) plane ∙ ap (λ (p : Primitive). p.first.z) same;
       z1 = ap (λ d. d.z1) plane ∙ ap (λ (p : Primitive). p.second.z) same;
       z2 = ap (λ d. d.z2) plane ∙ ap (λ (p : Primitive). p.third.z) same;
@@ -76,7 +79,7 @@ returns-clause-setup c =
       kept = culled_is t s c.facing_by_area-facing.result c.cull.result c.culled.result false faces c.cull.ensures c.culled.ensures c.if-culled.false;
       face = λ d. c.is_front.ensures d ∙ ap (λ f. face_setting f d) faces;
       rgba = ap (λ (p : Primitive). p.first.rgba) same;
-      reach = c.within_reach-bounds.ensures.reach;
+      reach = subst Reach (sym c.packed.ensures) c.within_reach-bounds.ensures.reach;
     }
 
 pub bounds-vertices-0 : goal.bounds-vertices-0
