@@ -1,7 +1,8 @@
 -- Cells whose depth test has one outcome.
 use Rattle.std.proofs.Common.{◌≡◌, ◌∙◌, ap, sym, subst, refl, arith, ℕ, zero, suc, ◌+◌, ◌-◌, ◌*◌, ◌^◌, ◌<◌, ◌≤◌, Bool, true, false, ◌&&◌, ◌||◌, nat_lt, Option, Some, None}
 use Rattle.std.specs.Int.{bit_at, to_le_bytes, w32}
-use Rattle.std.specs.Prelude.{nat_le, not, ◌==◌, IfSome, IsTrue, if◌then◌else◌}
+use Rattle.std.proofs.lemmas.List.{get_or-replicate}
+use Rattle.std.specs.Prelude.{slice_index, replicate, nat_le, not, ◌==◌, IfSome, IsTrue, if◌then◌else◌}
 use Rattle.std.proofs.lemmas.Bool.Decides.{nat_tests}
 use Rattle.gfxspec.specs.declared.pixel.Pixel.{Pixel}
 use Rattle.gfxspec.specs.declared.pixel.DepthStencil.{DepthStencil}
@@ -22,31 +23,34 @@ use Rattle.tileprog.specs.declared.brush.Brush.{Brush}
 use Rattle.tileprog.specs.declared.kind.Tests.TheVariants.{Depth, Stencil}
 use Rattle.tileprog.specs.Alike.{opposite}
 use Rattle.tileprog.specs.Brushes.{tested_by, drawn_by}
-use Rattle.tileprog.specs.Cells.{nearest, InRows, AllHave, AreCovered, IsStill, IsUnwritten}
+use Rattle.tileprog.specs.Cells.{InRows, AllHave, AreCovered, IsStill, IsUnwritten}
 use Rattle.tileprog.specs.Columns.{RowDrew}
 use Rattle.tileprog.specs.Kinds.{tests_of}
 use Rattle.tileprog.specs.Strokes.{Stroke, stroked}
 use Rattle.tileprog.specs.Within.{in_box}
 use Rattle.tileprog.proofs.AlikeLaws.{otherwise}
-use Rattle.tileprog.proofs.Lanes.{rule_of, deep_enough, stencil_lane, stencil_passes_both, both_lanes, lane_kept, lane_unpainted, kept_all}
+use Rattle.tileprog.proofs.Lanes.{has_none, rule_of, deep_enough, stencil_lane, stencil_passes_both, both_lanes, lane_kept, lane_unpainted, kept_all}
 
--- ---- the nearest depth
+-- ---- against the greatest and the least depth
 
-pub nearest_fails : (func : Compare) (least greatest z a b : ℕ) → nearest func least greatest ≡ Some z → least ≤ a → a ≤ greatest → compares func z b ≡ false → compares func a b ≡ false
-nearest_fails func least greatest z a b is p q h = subst P is (by func) h
-  where
-    P : Option ℕ → Type 0
-    P o = IfSome o (λ z. compares func z b ≡ false → compares func a b ≡ false)
+pub less_keeps : (a b d e : ℕ) → a ≤ d → e ≤ b → compares Less a b ≡ false → compares Less d e ≡ false
+less_keeps a b d e p q h = grind (arith, nat_tests)
 
-    by : (func : Compare) → IfSome (nearest func least greatest) (λ z. compares func z b ≡ false → compares func a b ≡ false)
-    by Never = λ h. refl
-    by Less = λ h. grind (arith, nat_tests)
-    by Equal = tt
-    by LessEqual = λ h. grind (arith, nat_tests)
-    by Greater = λ h. grind (arith, nat_tests)
-    by NotEqual = tt
-    by GreaterEqual = λ h. grind (arith, nat_tests)
-    by Always = λ h. absurd cc
+pub less_equal_keeps : (a b d e : ℕ) → a ≤ d → e ≤ b → compares LessEqual a b ≡ false → compares LessEqual d e ≡ false
+less_equal_keeps a b d e p q h = grind (arith, nat_tests)
+
+pub greater_keeps : (a b d e : ℕ) → d ≤ a → b ≤ e → compares Greater a b ≡ false → compares Greater d e ≡ false
+greater_keeps a b d e p q h = grind (arith, nat_tests)
+
+pub greater_equal_keeps : (a b d e : ℕ) → d ≤ a → b ≤ e → compares GreaterEqual a b ≡ false → compares GreaterEqual d e ≡ false
+greater_equal_keeps a b d e p q h = grind (arith, nat_tests)
+
+-- a number that is compared with each of eight and passes nowhere
+pub fails_there : (func : Compare) (z n m j : ℕ) → (bit_at m j == 1) ≡ compares func (slice_index (replicate 8 z) j) n → j < 8 → m ≡ 0 → compares func z n ≡ false
+fails_there func z n m j is h none = (λ t. compares func (sym (get_or-replicate 8 j z 0 h) t) n) ∙ sym is ∙ has_none m j none
+
+pub zero_is : (n : ℕ) → (n == 0) ≡ true → n ≡ 0
+zero_is n h = grind (arith, nat_tests, h)
 
 -- ---- from lanes to pixels
 

@@ -1,8 +1,6 @@
 -- Cells of a column: eight rows of a span, whose depth test has one outcome.
-use Rattle.std.specs.Prelude.{ℕ, ◌≡◌, ◌+◌, ◌<◌, ◌≤◌, Bool, true, false, ◌&&◌, Option, Some, None, IfSome, IsTrue}
+use Rattle.std.specs.Prelude.{ℕ, ◌≡◌, ◌+◌, ◌<◌, ◌≤◌, Bool, true, false, ◌&&◌, IfSome, IsTrue}
 use Rattle.gfxspec.specs.declared.geometry.PixelRect.{PixelRect}
-use Rattle.gfxspec.specs.declared.state.Compare.{Compare}
-use Rattle.gfxspec.specs.declared.state.Compare.TheVariants.{Never, Less, Equal, LessEqual, Greater, NotEqual, GreaterEqual, Always}
 use Rattle.gfxspec.specs.DepthStencil.{DepthStencilSetting, depth_passes}
 use Rattle.gfxspec.specs.Raster.{Triangle, edge, covers, centre}
 use Rattle.classify.specs.Region.{HoldsEverywhere}
@@ -15,17 +13,6 @@ use Rattle.tileblock.specs.Block.{Block, pixel_at}
 use Rattle.tileprog.specs.declared.cells.Cell.{Cell}
 use Rattle.tileprog.specs.declared.column.Column.{Column}
 use Rattle.tileprog.specs.Edges.{passes_edges}
-
--- of depths between two the one that passes wherever any of them does
-abbrev pub nearest : Compare → ℕ → ℕ → Option ℕ
-nearest Never least greatest = Some least
-nearest Less least greatest = Some least
-nearest Equal least greatest = None
-nearest LessEqual least greatest = Some least
-nearest Greater least greatest = Some greatest
-nearest NotEqual least greatest = None
-nearest GreaterEqual least greatest = Some greatest
-nearest Always least greatest = Some least
 
 -- eight columns from x on, and the rows of a rectangle from one on and before another, counted within it
 pub record InRows (r : PixelRect) (x from past u v : ℕ) : Type 0 where

@@ -1,11 +1,11 @@
 //! Cells of a column: eight rows of a span, whose depths are asked about together.
 
-ghost use Rattle.std.specs.Prelude.{◌≡◌, ◌<◌, ◌≤◌, ◌+◌, ℕ, true, false, IsTrue, IfSome};
+ghost use Rattle.std.specs.Prelude.{◌≡◌, ◌<◌, ◌≤◌, ◌+◌, ℕ, true, false, IsTrue, IfSome, slice_index};
 ghost use Rattle.gfxspec.specs.DepthStencil.{compares};
 ghost use Rattle.classify.specs.Region.{IsReal};
 ghost use Rattle.depthplane.specs.Place.{depth_of};
 ghost use Rattle.tileblock.specs.SpanStored.{lane_pixel};
-ghost use Rattle.tileprog.specs.Cells.{nearest, InRows, AllHave, AreCovered, EdgesAre, IsUnwritten, IsLong, Tells, IsCell};
+ghost use Rattle.tileprog.specs.Cells.{InRows, AllHave, AreCovered, EdgesAre, IsUnwritten, IsLong, Tells, IsCell};
 ghost use Rattle.tileprog.specs.Columns.{IsColumn};
 ghost use Rattle.tileprog.specs.Strokes.{IsNamed};
 
@@ -16,7 +16,7 @@ use classify::{Class, classify};
 use depthplane::Plane;
 use edges::EdgeSet;
 use gfxspec::{Compare, PixelRect};
-use lanes::depth_mask;
+use lanes::{depth_mask, greater8, lesser8};
 use std::alloc::Allocator;
 use tileblock::{DepthBounds, TileBlock};
 
@@ -28,21 +28,38 @@ pub(crate) struct Cell {
     pub(crate) deep: Option<bool>,
 }
 
-/// Of depths from `least` to `greatest` the one that passes wherever any of them does, if there is one.
+/// In each lane the greatest of the depths that are stored in eight rows of a span.
 #[inline(always)]
-fn nearest(func: Compare, least: u32, greatest: u32) -> Option<u32>
-    ensures { result ≡ nearest func least greatest }
+fn greatest_each<A: Allocator>(block: &TileBlock<A>, span: u32, row: u32) -> [u32; 8]
+    requires span { span < 4 }
+    requires row { row + 8 ≤ 32 }
+    ensures { (k j : ℕ) → k < 8 → j < 8 → (lane_pixel block.now span (row + k) j).ds.depth ≤ slice_index result j }
 {
-    match func {
-        Compare::Never | Compare::Less | Compare::LessEqual | Compare::Always => Some(least),
-        Compare::Greater | Compare::GreaterEqual => Some(greatest),
-        Compare::Equal | Compare::NotEqual => None,
+    let mut all = [0; 8];
+    for k in 0..8u32 {
+        all = greater8(&all, &block.depth_span(span, row + k));
     }
+    all
 }
 
-/// Whether a depth passes against none of those that are stored in eight rows of a span.
+/// In each lane the least of the depths that are stored in eight rows of a span.
 #[inline(always)]
-fn passes_nowhere<A: Allocator>(
+fn least_each<A: Allocator>(block: &TileBlock<A>, span: u32, row: u32) -> [u32; 8]
+    requires span { span < 4 }
+    requires row { row + 8 ≤ 32 }
+    ensures { (k j : ℕ) → k < 8 → j < 8 → slice_index result j ≤ (lane_pixel block.now span (row + k) j).ds.depth }
+{
+    let mut all = [u32::MAX; 8];
+    for k in 0..8u32 {
+        all = lesser8(&all, &block.depth_span(span, row + k));
+    }
+    all
+}
+
+/// Whether no depth from `depth` on passes against any of those that are stored in eight rows of a span, under a comparison for lesser
+/// depths. The first row is looked at before the others.
+#[inline(always)]
+fn fail_from<A: Allocator>(
     block: &TileBlock<A>,
     span: u32,
     row: u32,
@@ -51,18 +68,40 @@ fn passes_nowhere<A: Allocator>(
 ) -> bool
     requires span { span < 4 }
     requires row { row + 8 ≤ 32 }
-    ensures { IsTrue result → (k j : ℕ) → k < 8 → j < 8 → compares func depth (lane_pixel block.now span (row + k) j).ds.depth ≡ false }
+    requires order { (a b d e : ℕ) → a ≤ d → e ≤ b → compares func a b ≡ false → compares func d e ≡ false }
+    ensures { IsTrue result → (k j a : ℕ) → k < 8 → j < 8 → depth ≤ a → compares func a (lane_pixel block.now span (row + k) j).ds.depth ≡ false }
 {
-    for k in 0..8u32 {
-        let passing = depth_mask(func, &[depth; 8], &block.depth_span(span, row + k));
-        if passing != 0 {
-            return false;
-        }
+    let first = depth_mask(func, &[depth; 8], &block.depth_span(span, row));
+    if first != 0 {
+        return false;
     }
-    true
+    depth_mask(func, &[depth; 8], &greatest_each(block, span, row)) == 0
 }
 
-/// Whether no depth from `least` to `greatest` passes against any of those that are stored in eight rows of a span.
+/// Whether no depth as far as `depth` passes against any of those that are stored in eight rows of a span, under a comparison for greater
+/// depths. The first row is looked at before the others.
+#[inline(always)]
+fn fail_to<A: Allocator>(
+    block: &TileBlock<A>,
+    span: u32,
+    row: u32,
+    func: Compare,
+    depth: u32,
+) -> bool
+    requires span { span < 4 }
+    requires row { row + 8 ≤ 32 }
+    requires order { (a b d e : ℕ) → d ≤ a → b ≤ e → compares func a b ≡ false → compares func d e ≡ false }
+    ensures { IsTrue result → (k j a : ℕ) → k < 8 → j < 8 → a ≤ depth → compares func a (lane_pixel block.now span (row + k) j).ds.depth ≡ false }
+{
+    let first = depth_mask(func, &[depth; 8], &block.depth_span(span, row));
+    if first != 0 {
+        return false;
+    }
+    depth_mask(func, &[depth; 8], &least_each(block, span, row)) == 0
+}
+
+/// Whether no depth from `least` to `greatest` passes against any of those that are stored in eight rows of a span. Of equality that isn't
+/// asked.
 #[inline(always)]
 fn all_fail<A: Allocator>(
     block: &TileBlock<A>,
@@ -76,10 +115,14 @@ fn all_fail<A: Allocator>(
     ensures { IsTrue result → (k j a : ℕ) → k < 8 → j < 8 → range.least ≤ a → a ≤ range.greatest
         → compares func a (lane_pixel block.now span (row + k) j).ds.depth ≡ false }
 {
-    let Some(depth) = nearest(func, range.least, range.greatest) else {
-        return false;
-    };
-    passes_nowhere(block, span, row, func, depth)
+    match func {
+        Compare::Never => true,
+        Compare::Less => fail_from(block, span, row, Compare::Less, range.least),
+        Compare::LessEqual => fail_from(block, span, row, Compare::LessEqual, range.least),
+        Compare::Greater => fail_to(block, span, row, Compare::Greater, range.greatest),
+        Compare::GreaterEqual => fail_to(block, span, row, Compare::GreaterEqual, range.greatest),
+        Compare::Equal | Compare::NotEqual | Compare::Always => false,
+    }
 }
 
 /// The eight rows of a column from `row` on.
@@ -108,9 +151,7 @@ fn edges_outcome(set: &EdgeSet, rect: PixelRect) -> Option<bool>
     ensures { IfSome result (λ all. EdgesAre all set.now rect) }
 {
     match classify(set, rect) {
-        Class::Cut(cut) => {
-            if cut == 0 { Some(true) } else { None }
-        }
+        Class::Cut(cut) => { if cut == 0 { Some(true) } else { None } }
         Class::Outside => Some(false),
     }
 }

@@ -5,16 +5,16 @@ ghost use Rattle.tileprog.specs.Strokes.{IsNamed};
 ghost use Rattle.tileprog.specs.Kinds.{tests_of};
 ghost use Rattle.tileprog.specs.declared.kind.Tests.TheVariants.{Open, Depth};
 ghost use Rattle.tileprog.specs.Columns.{IsColumn, ColumnDrew};
+ghost use Rattle.tileprog.specs.Made.{AreOf};
 
 use crate::brush::Brush;
 use crate::column::Column;
-use crate::kind::Tests;
+use crate::kind::MadeTests;
 use crate::rows::{depth_row, open_row};
 use crate::stencils::stencil_column;
 use depthplane::{Plane, Walks};
 use edges::{EdgeSet, EdgeWalk};
 use gfxspec::Compare;
-use lanes::StencilTest;
 use std::alloc::Allocator;
 use tileblock::TileBlock;
 
@@ -185,6 +185,7 @@ pub(crate) fn draw_column<A: Allocator, W: Walks>(
     edges: EdgeWalk<'_>,
     plane: &Plane,
     walk: W,
+    tests: &MadeTests<'_>,
     brush: &Brush,
 ) -> u32
     requires column { IsColumn column.now plane.now.triangle block.old.rect }
@@ -194,16 +195,16 @@ pub(crate) fn draw_column<A: Allocator, W: Walks>(
     requires left { block.old.rect.left ≤ (W.place walk).left }
     requires top { block.old.rect.top ≤ (W.place walk).top }
     requires named { IsNamed plane.now column.now.mask block.old.rect }
+    requires tests { AreOf tests.now brush.now }
     ensures { ColumnDrew (record { brush = brush.now; plane = plane.now; mask = column.now.mask; clip = column.now.clip }) block.old block.new column.now.x result }
 {
-    match brush.tests {
-        Tests::Open => open_column(block, column, edges, plane, *brush),
-        Tests::Depth(func, write) => {
-            depth_column(block, column, edges, walk, func, write, *brush)
+    match tests {
+        MadeTests::Nothing => open_column(block, column, edges, plane, *brush),
+        MadeTests::DepthAlone(func, write) => {
+            depth_column(block, column, edges, walk, *func, *write, *brush)
         }
-        Tests::Stencil => {
-            let test = StencilTest::of(&brush.state, brush.front, brush.reference);
-            stencil_column(block, column, set, plane, edges, walk, &test, brush)
+        MadeTests::Both(test) => {
+            stencil_column(block, column, set, plane, edges, walk, test, brush)
         }
     }
 }

@@ -14,7 +14,9 @@ ghost use Rattle.tileprog.specs.Strokes.{IsNamed};
 
 use crate::brush::Brush;
 use crate::column::Column;
-use crate::spans::{cover, draw_alike, draw_depths, draw_open, draw_stencils, keep_alike, lanes_in};
+use crate::spans::{
+    cover, draw_alike, draw_depths, draw_open, draw_stencils, keep_alike, lanes_in,
+};
 use depthplane::{Plane, Walks};
 use edges::EdgeWalk;
 use gfxspec::Compare;

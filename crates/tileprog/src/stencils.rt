@@ -94,9 +94,7 @@ fn alike_rows<A: Allocator>(
 {
     let mut passed = 0u32;
     for at in row..row + 8 {
-        let more = alike_row(
-            block, column, plane, at, deep, always, still, test, brush,
-        );
+        let more = alike_row(block, column, plane, at, deep, always, still, test, brush);
         passed += more;
     }
     passed
@@ -298,7 +296,11 @@ fn each_cell<A: Allocator, W: Walks>(
 fn untested(brush: &Brush) -> Option<bool>
     ensures { IfSome result (λ deep. (deep ≡ true) × (brush.now.state.depth ≡ false)) }
 {
-    if brush.state.depth() { None } else { Some(true) }
+    if brush.state.depth() {
+        None
+    } else {
+        Some(true)
+    }
 }
 
 /// A column in the rows of the clip rectangle, row by row.

@@ -21,11 +21,11 @@ returns c =
     let low : r.left ≤ k.x = search rules in
     let bottom : r.top + row + 8 ≤ r.bottom = search rules in
     let within : (u v : ℕ) → InRows r k.x row (row + 8) u v → IsIn cell u v = λ u v here.
-        let a = here.left in let b = here.right in let d = here.top in let f = here.bottom in
-        record { left = omega (arith, a, e.left); right = omega (arith, b, e.right); top = omega (arith, d, e.top); bottom = omega (arith, f, e.bottom) } in
+    let a = here.left in let b = here.right in let d = here.top in let f = here.bottom in
+    record { left = omega (arith, a, e.left); right = omega (arith, b, e.right); top = omega (arith, d, e.top); bottom = omega (arith, f, e.bottom) } in
     let inside : (u v : ℕ) → InRows r k.x row (row + 8) u v → IsIn r u v = λ u v here.
-        let a = here.left in let b = here.right in let d = here.top in let f = here.bottom in let g = long.right in
-        record { left = omega (arith, a, low); right = omega (arith, b, g); top = omega (arith, d); bottom = omega (arith, f, bottom) } in
+    let a = here.left in let b = here.right in let d = here.top in let f = here.bottom in let g = long.right in
+    record { left = omega (arith, a, low); right = omega (arith, b, g); top = omega (arith, d); bottom = omega (arith, f, bottom) } in
     let by : (all : Bool) → EdgesAre all t cell → AreCovered all k.mask t r k.x row (row + 8) = λ all. elim all as (λ a. EdgesAre a t cell → AreCovered a k.mask t r k.x row (row + 8)) [
       | true ↦ λ h u v here. all_pass k.mask t (centre u v) (λ i l. h i l u v (within u v here))
       | false ↦ λ h u v here. none_pass (passes_edges k.mask t (centre u v)) k.mask t (centre u v) (c.requires.named.covered u v (inside u v here)) (h u v (within u v here)) refl

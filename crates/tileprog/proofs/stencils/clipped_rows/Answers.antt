@@ -17,7 +17,7 @@ returns g c =
     let row = k.clip.top - c.rect-rect.result.top in
     let past = k.clip.bottom - c.rect-rect.result.top in
     let rows = rows_are s (g.W.Walks.place c.args.walk).plane old c.each_row.new.block k.x (old.rect.top + row) (old.rect.top + past) k.clip.top k.clip.bottom c.each_row.result c.each_row.ensures
-        (ap (λ (p : Places). p.plane) c.requires.walk) (omega (arith, top_is, within.top)) (omega (arith, top_is, within.top, within.high)) in
+    (ap (λ (p : Places). p.plane) c.requires.walk) (omega (arith, top_is, within.top)) (omega (arith, top_is, within.top, within.high)) in
     column_behind s old c.each_row.new.block k.x k.clip.top k.clip.bottom c.each_row.result rows refl refl (omega (arith, within.top, within.bottom, tile.bottom))
 
 pub each_row-requires-clause-known : goal.each_row-requires-clause-known

@@ -1,5 +1,5 @@
 use Rattle.std.proofs.Common.{◌≡◌, ℕ, ◌<◌, length, slice_index, min}
-use Rattle.tileblock.proofs.extremes.lesser8.Given as goal
+use Rattle.lanes.proofs.values.lesser8.Given as goal
 
 abbrev pub invariant-loop-j : goal.invariant-loop-j
 invariant-loop-j l =

@@ -1,5 +1,5 @@
 use Rattle.std.proofs.Common.{◌≡◌, ℕ, ◌<◌, length, slice_index, max}
-use Rattle.tileblock.proofs.extremes.greater8.Given as goal
+use Rattle.lanes.proofs.values.greater8.Given as goal
 
 abbrev pub invariant-loop-j : goal.invariant-loop-j
 invariant-loop-j l =
