@@ -1,12 +1,12 @@
 -- Where an operation keeps what is stored.
 use Rattle.std.proofs.Common.{◌≡◌, ◌∙◌, ap, sym, arith, ℕ, ◌-◌, ◌<◌, Bool, true, false, min, w8}
-use Rattle.std.specs.Prelude.{◌==◌, max, bit_and}
+use Rattle.std.specs.Prelude.{◌==◌, max, bit_and, if◌then◌else◌}
 use Rattle.std.specs.Int.{bit_at}
 use Rattle.std.proofs.lemmas.Nat.Bits.{bit_at-lt, bit_at-zero, bit_at_ones, bit_at_and, bit_at_or, bit_at_not, same_from_bits_below}
 use Rattle.std.proofs.lemmas.Nat.{or_of_8, and_le_l}
 use Rattle.gfxspec.specs.declared.state.StencilOp.{StencilOp}
 use Rattle.gfxspec.specs.declared.state.StencilOp.TheVariants.{Keep}
-use Rattle.gfxspec.specs.DepthStencil.{masked, stencil_result}
+use Rattle.gfxspec.specs.DepthStencil.{masked, stencil_result, chosen_op}
 use Rattle.lanes.specs.Stencil.{StencilRule, has, stencil_after}
 
 -- the bits of a byte under a mask and beside it are the byte
@@ -60,6 +60,13 @@ module _ (r : StencilRule) (v : ℕ) (small : r.setting.write_mask < 256) (fits 
   all_kept false d is = keeps r r.face.fail v small fits is.0
   all_kept true false is = keeps r r.face.depth_fail v small fits is.1
   all_kept true true is = keeps r r.face.pass v small fits is.2
+
+-- the result of the operation that two outcomes choose
+pub operated_by : (r : StencilRule) (v : ℕ) (p d : Bool) (a b e : ℕ) → a ≡ stencil_result r.face.pass v r.reference → b ≡ stencil_result r.face.depth_fail v r.reference → e ≡ stencil_result r.face.fail v r.reference
+    → (if p then (if d then a else b) else e) ≡ stencil_result (chosen_op r.face p d) v r.reference
+operated_by r v true true a b e ia ib ie = ia
+operated_by r v true false a b e ia ib ie = ib
+operated_by r v false d a b e ia ib ie = ie
 
 -- ---- masks of all lanes, and of none
 

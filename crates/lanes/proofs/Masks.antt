@@ -183,6 +183,9 @@ module _ (f : ℕ → ℕ → ℕ) (xs : List ℕ) (long : length xs ≡ 8) (j :
 pub long_with : (f : ℕ → ℕ → ℕ) (xs : List ℕ) (y : ℕ) → length xs ≡ 8 → length (zip2 f xs (replicate 8 y)) ≡ 8
 long_with f xs y long = length-zip2 f xs (replicate 8 y) long ∙ long
 
+pub long_both : (f : ℕ → ℕ → ℕ) (xs ys : List ℕ) → length xs ≡ 8 → length ys ≡ 8 → length (zip2 f xs ys) ≡ 8
+long_both f xs ys lx ly = length-zip2 f xs ys (lx ∙ sym ly) ∙ lx
+
 -- in each lane one of two, by a comparison
 module _ (xs ys vs ws : List ℕ) (lx : length xs ≡ 8) (ly : length ys ≡ 8) (la : length vs ≡ 8) (lb : length ws ≡ 8) where
   abbrev pub by_less : List ℕ

@@ -1,10 +1,10 @@
 //! The stencil test of eight pixels.
 
-ghost use Rattle.std.specs.Prelude.{◌≡◌, ℕ, ◌<◌, ◌==◌, true, IsTrue, bit_and, slice_index, if◌then◌else◌, min, ◌+◌, ◌-◌};
+ghost use Rattle.std.specs.Prelude.{◌≡◌, ℕ, ◌<◌, ◌==◌, true, IsTrue, bit_and, bit_or, bit_xor, slice_index, if◌then◌else◌, min, ◌+◌, ◌-◌, ◌%◌};
 ghost use Rattle.std.specs.Int.{bit_at};
 ghost use Rattle.gfxspec.specs.DepthStencil.{compares, masked};
 ghost use Rattle.lanes.specs.Stencil.{has, reference_passes, stencil_after};
-ghost use Rattle.lanes.specs.ByteChange.{IsChange, changed};
+ghost use Rattle.lanes.specs.ByteChange.{IsChange, AreChanges, changed_at};
 
 use gfxspec::{Compare, StencilOp};
 use states::DepthStencilState;
@@ -43,32 +43,62 @@ impl ByteChange {
             flip,
         }
     }
+}
+
+/// A change of eight values side by side: each of its numbers stands there eight times, so that a loop over spans reads them as
+/// they are.
+#[derive(Clone, Copy, Debug)]
+struct ByteChanges {
+    raise: [u8; 8],
+    lower: [u8; 8],
+    turn: [u8; 8],
+    flip: [u8; 8],
+}
+
+impl ByteChanges {
+    /// The change of an operation by a reference.
+    fn of(op: StencilOp, reference: u8) -> ByteChanges
+        ensures { AreChanges result op reference }
+    {
+        let change = ByteChange::of(op, reference);
+        ByteChanges {
+            raise: [change.raise; 8],
+            lower: [change.lower; 8],
+            turn: [change.turn; 8],
+            flip: [change.flip; 8],
+        }
+    }
 
     /// Eight values changed.
     #[inline(always)]
     fn onto_each(&self, stored: &[u8; 8]) -> [u8; 8]
-        ensures { (j : ℕ) → j < 8 → slice_index result j ≡ changed self.now (slice_index stored.now j) }
+        ensures { (j : ℕ) → j < 8 → slice_index result j ≡ changed_at self.now j (slice_index stored.now j) }
     {
-        let lowered = lowered_each(raised_each(*stored, self.raise), self.lower);
-        let turned = u8x8::from_array(lowered) + u8x8::splat(self.turn);
-        (turned ^ u8x8::splat(self.flip)).to_array()
+        let ByteChanges {
+            raise,
+            lower,
+            turn,
+            flip,
+        } = *self;
+        turned_each(lowered_each(raised_each(*stored, raise), lower), turn, flip)
     }
 }
 
 /// The stencil test of a depth-stencil state, of one face and with one reference, made once for many pixels. Contracts
-/// see it as these three.
+/// see it as these three. Numbers that stand beside eight values stand there eight times.
 #[derive(Debug, Drop)]
 pub struct StencilTest {
     state: DepthStencilState,
     front: bool,
     reference: u8,
     func: Compare,
-    compared: u8,
-    read_mask: u8,
-    write_mask: u8,
-    fail: ByteChange,
-    depth_fail: ByteChange,
-    pass: ByteChange,
+    compared: [u8; 8],
+    read_mask: [u8; 8],
+    write_mask: [u8; 8],
+    kept_mask: [u8; 8],
+    fail: ByteChanges,
+    depth_fail: ByteChanges,
+    pass: ByteChanges,
     /// Whether the operation where both tests pass keeps what is stored, where the stencil test fails, and wherever.
     pass_keeps: bool,
     fail_keeps: bool,
@@ -87,13 +117,13 @@ impl Model for StencilTest {
 }
 
 impl StencilTest {
-    /// The test of a state for front-facing or back-facing triangles. It is inlined, so that loops over many values have its numbers in
-    /// registers.
-    #[inline(always)]
+    /// The test of a state for front-facing or back-facing triangles.
+    #[inline]
     pub fn of(state: &DepthStencilState, front: bool, reference: u8) -> StencilTest
         ensures { result ≡ record { setting = state.now; face = if front then state.now.front else state.now.back; reference = reference } }
     {
         let face = if front { state.front() } else { state.back() };
+        let mask = state.write_mask();
         let pass_keeps = face.pass == StencilOp::Keep;
         let fail_keeps = face.fail == StencilOp::Keep;
         StencilTest {
@@ -101,12 +131,13 @@ impl StencilTest {
             front,
             reference,
             func: face.func,
-            compared: reference & state.read_mask(),
-            read_mask: state.read_mask(),
-            write_mask: state.write_mask(),
-            fail: ByteChange::of(face.fail, reference),
-            depth_fail: ByteChange::of(face.depth_fail, reference),
-            pass: ByteChange::of(face.pass, reference),
+            compared: [reference & state.read_mask(); 8],
+            read_mask: [state.read_mask(); 8],
+            write_mask: [mask; 8],
+            kept_mask: [!mask; 8],
+            fail: ByteChanges::of(face.fail, reference),
+            depth_fail: ByteChanges::of(face.depth_fail, reference),
+            pass: ByteChanges::of(face.pass, reference),
             pass_keeps,
             fail_keeps,
             all_keep: pass_keeps && fail_keeps && face.depth_fail == StencilOp::Keep,
@@ -128,6 +159,14 @@ impl StencilTest {
         self.all_keep
     }
 
+    /// Whether the test passes at every value.
+    #[inline(always)]
+    pub fn always_passes(&self) -> bool
+        ensures { IsTrue result → (v : ℕ) → reference_passes self.now v ≡ true }
+    {
+        self.func == Compare::Always
+    }
+
     /// Bit j is set where the test passes at stored value j
     /// (Direct3D 11.3 Functional Specification, "Output Merger Stage", depth and stencil state).
     #[inline(always)]
@@ -137,19 +176,23 @@ impl StencilTest {
         if self.func == Compare::Always {
             return 255;
         }
-        byte_mask(
-            self.func,
-            &[self.compared; 8],
-            &under(self.read_mask, stored),
-        )
+        byte_mask(self.func, &self.compared, &under(self.read_mask, *stored))
     }
 
     /// What one operation leaves of eight values, in the bits of the write mask.
     #[inline(always)]
-    fn changed_by(&self, change: ByteChange, stored: &[u8; 8]) -> [u8; 8]
-        ensures { (j : ℕ) → j < 8 → slice_index result j ≡ masked self.now.setting.write_mask (changed change (slice_index stored.now j)) (slice_index stored.now j) }
+    fn changed_by(&self, change: ByteChanges, stored: &[u8; 8]) -> [u8; 8]
+        ensures { (j : ℕ) → j < 8 → slice_index result j ≡ masked self.now.setting.write_mask (changed_at change j (slice_index stored.now j)) (slice_index stored.now j) }
     {
-        masked_each(self.write_mask, &change.onto_each(stored), stored)
+        self.masked_each(&change.onto_each(stored), stored)
+    }
+
+    /// The bits of new values where the write mask has ones, and else those of the old.
+    #[inline(always)]
+    fn masked_each(&self, new: &[u8; 8], old: &[u8; 8]) -> [u8; 8]
+        ensures { (j : ℕ) → j < 8 → slice_index result j ≡ masked self.now.setting.write_mask (slice_index new.now j) (slice_index old.now j) }
+    {
+        either_each(under(self.write_mask, *new), under(self.kept_mask, *old))
     }
 
     /// What is stored after the tests, where bit j of `passing` says whether the stencil test passes at value j, and
@@ -171,46 +214,53 @@ impl StencilTest {
             &self.depth_fail.onto_each(stored),
         );
         let new = select_bytes8(passing, &passed, &self.fail.onto_each(stored));
-        masked_each(self.write_mask, &new, stored)
+        self.masked_each(&new, stored)
     }
 }
 
-/// Eight values that go up by a number, no further than 255.
+/// Eight values, each of which goes up by a number, no further than 255.
 #[inline(always)]
-fn raised_each(values: [u8; 8], by: u8) -> [u8; 8]
-    ensures { (j : ℕ) → j < 8 → slice_index result j ≡ min (slice_index values j + by) 255 }
+fn raised_each(values: [u8; 8], by: [u8; 8]) -> [u8; 8]
+    ensures { (j : ℕ) → j < 8 → slice_index result j ≡ min (slice_index values j + slice_index by j) 255 }
 {
     u8x8::from_array(values)
-        .saturating_add(u8x8::splat(by))
+        .saturating_add(u8x8::from_array(by))
         .to_array()
 }
 
-/// Eight values that go down by a number, no further than 0.
+/// Eight values, each of which goes down by a number, no further than 0.
 #[inline(always)]
-fn lowered_each(values: [u8; 8], by: u8) -> [u8; 8]
-    ensures { (j : ℕ) → j < 8 → slice_index result j ≡ slice_index values j - by }
+fn lowered_each(values: [u8; 8], by: [u8; 8]) -> [u8; 8]
+    ensures { (j : ℕ) → j < 8 → slice_index result j ≡ slice_index values j - slice_index by j }
 {
     u8x8::from_array(values)
-        .saturating_sub(u8x8::splat(by))
+        .saturating_sub(u8x8::from_array(by))
         .to_array()
+}
+
+/// Eight values, each of which goes up by a number, round from 255 to 0, and then has bits turned over.
+#[inline(always)]
+fn turned_each(values: [u8; 8], by: [u8; 8], flip: [u8; 8]) -> [u8; 8]
+    ensures { (j : ℕ) → j < 8 → slice_index result j ≡ bit_xor ((slice_index values j + slice_index by j) % 256) (slice_index flip j) }
+{
+    let turned = u8x8::from_array(values) + u8x8::from_array(by);
+    (turned ^ u8x8::from_array(flip)).to_array()
 }
 
 /// The bits of a mask in each of eight values.
 #[inline(always)]
-fn under(mask: u8, stored: &[u8; 8]) -> [u8; 8]
-    ensures { (j : ℕ) → j < 8 → slice_index result j ≡ bit_and (slice_index stored.now j) mask }
+fn under(mask: [u8; 8], values: [u8; 8]) -> [u8; 8]
+    ensures { (j : ℕ) → j < 8 → slice_index result j ≡ bit_and (slice_index values j) (slice_index mask j) }
 {
-    (u8x8::from_array(*stored) & u8x8::splat(mask)).to_array()
+    (u8x8::from_array(values) & u8x8::from_array(mask)).to_array()
 }
 
-/// The bits of new values where the mask has ones, and else those of the old.
+/// The bits that either of two values has, of eight side by side.
 #[inline(always)]
-fn masked_each(mask: u8, new: &[u8; 8], old: &[u8; 8]) -> [u8; 8]
-    ensures { (j : ℕ) → j < 8 → slice_index result j ≡ masked mask (slice_index new.now j) (slice_index old.now j) }
+fn either_each(a: [u8; 8], b: [u8; 8]) -> [u8; 8]
+    ensures { (j : ℕ) → j < 8 → slice_index result j ≡ bit_or (slice_index a j) (slice_index b j) }
 {
-    let changed = u8x8::from_array(*new) & u8x8::splat(mask);
-    let kept = u8x8::from_array(*old) & u8x8::splat(!mask);
-    (changed | kept).to_array()
+    (u8x8::from_array(a) | u8x8::from_array(b)).to_array()
 }
 
 /// Bit j is set where the comparison holds of new value j, on the left, and old value j.

@@ -2,35 +2,13 @@
 
 ghost use Rattle.std.specs.Prelude.{◌≡◌, ℕ, ◌<◌, ◌≤◌, min, max, slice_index};
 
+use lanes::{greater8, lesser8};
+
 /// What the values that were looked at lie between, lane by lane.
 #[derive(Clone, Copy)]
 pub(crate) struct Extremes {
     pub(crate) least: [u32; 8],
     pub(crate) greatest: [u32; 8],
-}
-
-/// The lesser of two values in each lane.
-#[inline]
-fn lesser8(a: &[u32; 8], b: &[u32; 8]) -> [u32; 8]
-    ensures { (j : ℕ) → j < 8 → slice_index result j ≡ min (slice_index a.now j) (slice_index b.now j) }
-{
-    let mut all = [0; 8];
-    for j in 0..8usize {
-        all[j] = a[j].min(b[j]);
-    }
-    all
-}
-
-/// The greater of two values in each lane.
-#[inline]
-fn greater8(a: &[u32; 8], b: &[u32; 8]) -> [u32; 8]
-    ensures { (j : ℕ) → j < 8 → slice_index result j ≡ max (slice_index a.now j) (slice_index b.now j) }
-{
-    let mut all = [0; 8];
-    for j in 0..8usize {
-        all[j] = a[j].max(b[j]);
-    }
-    all
 }
 
 impl Extremes {

@@ -1,7 +1,8 @@
 -- Cells whose depth test has one outcome.
-use Rattle.std.proofs.Common.{◌≡◌, ◌∙◌, ap, sym, subst, refl, arith, ℕ, ◌+◌, ◌-◌, ◌*◌, ◌<◌, ◌≤◌, Bool, true, false, ◌&&◌, ◌||◌, nat_lt, Option, Some, None}
-use Rattle.std.specs.Int.{bit_at}
-use Rattle.std.specs.Prelude.{nat_le, not, ◌==◌, IfSome, if◌then◌else◌}
+use Rattle.std.proofs.Common.{◌≡◌, ◌∙◌, ap, sym, subst, refl, arith, ℕ, zero, suc, ◌+◌, ◌-◌, ◌*◌, ◌^◌, ◌<◌, ◌≤◌, Bool, true, false, ◌&&◌, ◌||◌, nat_lt, Option, Some, None}
+use Rattle.std.specs.Int.{bit_at, to_le_bytes, w32}
+use Rattle.std.proofs.lemmas.List.{get_or-replicate}
+use Rattle.std.specs.Prelude.{slice_index, replicate, nat_le, not, ◌==◌, IfSome, IsTrue, if◌then◌else◌}
 use Rattle.std.proofs.lemmas.Bool.Decides.{nat_tests}
 use Rattle.gfxspec.specs.declared.pixel.Pixel.{Pixel}
 use Rattle.gfxspec.specs.declared.pixel.DepthStencil.{DepthStencil}
@@ -11,43 +12,45 @@ use Rattle.gfxspec.specs.declared.state.Compare.TheVariants.{Never, Less, Equal,
 use Rattle.gfxspec.specs.DepthStencil.{DepthStencilSetting, TestOutcome, compares, depth_passes}
 use Rattle.gfxspec.specs.Color.{written_color}
 use Rattle.gfxspec.specs.Tiles.{IsIn}
-use Rattle.gfxspec.specs.Raster.{Triangle, Point, edge, edge_holds}
+use Rattle.gfxspec.specs.Raster.{Triangle, Point, edge, edge_holds, covers, is_empty}
 use Rattle.tileprog.specs.Edges.{passes_edges}
 use Rattle.depthplane.specs.Height.{DeepTriangle}
 use Rattle.depthplane.specs.Place.{depth_of}
-use Rattle.lanes.specs.Stencil.{reference_passes, stencil_after}
+use Rattle.lanes.specs.Stencil.{StencilRule, reference_passes, stencil_after}
 use Rattle.tileblock.specs.Block.{Block, pixel_at}
 use Rattle.tileblock.specs.SpanStored.{lane_pixel}
 use Rattle.tileprog.specs.declared.brush.Brush.{Brush}
-use Rattle.tileprog.specs.declared.cells.Cell.{Cell}
 use Rattle.tileprog.specs.declared.kind.Tests.TheVariants.{Depth, Stencil}
 use Rattle.tileprog.specs.Alike.{opposite}
 use Rattle.tileprog.specs.Brushes.{tested_by, drawn_by}
-use Rattle.tileprog.specs.Cells.{nearest, InRows, AllHave, AreOpen, IsUnwritten, Tells}
+use Rattle.tileprog.specs.Cells.{InRows, AllHave, AreCovered, IsStill, IsUnwritten}
 use Rattle.tileprog.specs.Columns.{RowDrew}
 use Rattle.tileprog.specs.Kinds.{tests_of}
 use Rattle.tileprog.specs.Strokes.{Stroke, stroked}
 use Rattle.tileprog.specs.Within.{in_box}
 use Rattle.tileprog.proofs.AlikeLaws.{otherwise}
-use Rattle.tileprog.proofs.Lanes.{rule_of, deep_enough, stencil_lane, stencil_passes_both, both_lanes}
+use Rattle.tileprog.proofs.Lanes.{has_none, rule_of, deep_enough, stencil_lane, stencil_passes_both, both_lanes, lane_kept, lane_unpainted, kept_all}
 
--- ---- the nearest depth
+-- ---- against the greatest and the least depth
 
-pub nearest_fails : (func : Compare) (least greatest z a b : ℕ) → nearest func least greatest ≡ Some z → least ≤ a → a ≤ greatest → compares func z b ≡ false → compares func a b ≡ false
-nearest_fails func least greatest z a b is p q h = subst P is (by func) h
-  where
-    P : Option ℕ → Type 0
-    P o = IfSome o (λ z. compares func z b ≡ false → compares func a b ≡ false)
+pub less_keeps : (a b d e : ℕ) → a ≤ d → e ≤ b → compares Less a b ≡ false → compares Less d e ≡ false
+less_keeps a b d e p q h = grind (arith, nat_tests)
 
-    by : (func : Compare) → IfSome (nearest func least greatest) (λ z. compares func z b ≡ false → compares func a b ≡ false)
-    by Never = λ h. refl
-    by Less = λ h. grind (arith, nat_tests)
-    by Equal = tt
-    by LessEqual = λ h. grind (arith, nat_tests)
-    by Greater = λ h. grind (arith, nat_tests)
-    by NotEqual = tt
-    by GreaterEqual = λ h. grind (arith, nat_tests)
-    by Always = λ h. absurd cc
+pub less_equal_keeps : (a b d e : ℕ) → a ≤ d → e ≤ b → compares LessEqual a b ≡ false → compares LessEqual d e ≡ false
+less_equal_keeps a b d e p q h = grind (arith, nat_tests)
+
+pub greater_keeps : (a b d e : ℕ) → d ≤ a → b ≤ e → compares Greater a b ≡ false → compares Greater d e ≡ false
+greater_keeps a b d e p q h = grind (arith, nat_tests)
+
+pub greater_equal_keeps : (a b d e : ℕ) → d ≤ a → b ≤ e → compares GreaterEqual a b ≡ false → compares GreaterEqual d e ≡ false
+greater_equal_keeps a b d e p q h = grind (arith, nat_tests)
+
+-- a number that is compared with each of eight and passes nowhere
+pub fails_there : (func : Compare) (z n m j : ℕ) → (bit_at m j == 1) ≡ compares func (slice_index (replicate 8 z) j) n → j < 8 → m ≡ 0 → compares func z n ≡ false
+fails_there func z n m j is h none = (λ t. compares func (sym (get_or-replicate 8 j z 0 h) t) n) ∙ sym is ∙ has_none m j none
+
+pub zero_is : (n : ℕ) → (n == 0) ≡ true → n ≡ 0
+zero_is n h = grind (arith, nat_tests, h)
 
 -- ---- from lanes to pixels
 
@@ -78,50 +81,58 @@ untested_cell s d b x row past off = λ u v is here. ap (λ t. not t || compares
 
 -- ---- row by row
 
-mapped : (o : Option Bool) (P Q : Bool → Type 0) → ((b : Bool) → P b → Q b) → IfSome o P → IfSome o Q
+pub mapped : (o : Option Bool) (P Q : Bool → Type 0) → ((b : Bool) → P b → Q b) → IfSome o P → IfSome o Q
 mapped None P Q f h = h
 mapped (Some b) P Q f h = f b h
 
--- the first of the rows that a cell tells of
-pub row_told : (c : Cell) (s : DepthStencilSetting) (d : DeepTriangle) (mask : ℕ) (b : Block) (x row : ℕ) → row < c.until → Tells c s d mask b x row → IfSome c.deep (λ deep. AllHave deep s d b x row (row + 1))
-row_told c s d mask b x row more h =
-    mapped c.deep (λ deep. AllHave deep s d b x row c.until) (λ deep. AllHave deep s d b x row (row + 1))
-    (λ deep all u v is here. let o = here.bottom in all u v is (record { left = here.left; right = here.right; top = here.top; bottom = omega (arith, o, more) })) h.deep
-
-pub row_open : (c : Cell) (s : DepthStencilSetting) (d : DeepTriangle) (mask : ℕ) (b : Block) (x row : ℕ) → row < c.until → Tells c s d mask b x row → c.covered ≡ true → AreOpen mask d.triangle b.rect x row (row + 1)
-row_open c s d mask b x row more h all = λ u v here.
+pub first_have : (deep : Bool) (s : DepthStencilSetting) (d : DeepTriangle) (b : Block) (x row past : ℕ) → row < past → AllHave deep s d b x row past → AllHave deep s d b x row (row + 1)
+first_have deep s d b x row past more all = λ u v is here.
     let o = here.bottom in
-    h.covered all u v (record { left = here.left; right = here.right; top = here.top; bottom = omega (arith, o, more) })
+    all u v is (record { left = here.left; right = here.right; top = here.top; bottom = omega (arith, o, more) })
+
+-- the first of rows whose depth test has one outcome
+pub first_told : (known : Option Bool) (s : DepthStencilSetting) (d : DeepTriangle) (b : Block) (x row past : ℕ) → row < past → IfSome known (λ deep. AllHave deep s d b x row past) → IfSome known (λ deep. AllHave deep s d b x row (row + 1))
+first_told known s d b x row past more h =
+    mapped known (λ deep. AllHave deep s d b x row past) (λ deep. AllHave deep s d b x row (row + 1)) (λ deep all. first_have deep s d b x row past more all) h
+
+-- a row of rows that are covered
+pub row_covered : (mask : ℕ) (t : Triangle) (r : PixelRect) (x row at past : ℕ) → row ≤ at → at < past → AreCovered true mask t r x row past → AreCovered true mask t r x at (at + 1)
+row_covered mask t r x row at past more less all = λ u v here.
+    let l = here.top in
+    let o = here.bottom in
+    all u v (record { left = here.left; right = here.right; top = omega (arith, l, more); bottom = omega (arith, o, less) })
 
 -- a drawn row leaves those below it
-pub rows_told : (c : Cell) (s : DepthStencilSetting) (d : DeepTriangle) (mask : ℕ) (k : Stroke) (old new : Block) (x row y n : ℕ) → Tells c s d mask old x row → RowDrew k old new x y n → y ≡ old.rect.top + row → Tells c s d mask new x (row + 1)
-rows_told c s d mask k old new x row y n h drew y_is =
-    record {
-      covered = λ all u v here.
-          let top_is = ap (λ (r : PixelRect). r.top) drew.drew.rect in
-          let t = here.top in
-          let o = here.bottom in
-          h.covered all u v (record { left = here.left; right = here.right; top = omega (arith, t, top_is); bottom = omega (arith, o, top_is) });
-      deep = mapped c.deep (λ deep. AllHave deep s d old x row c.until) (λ deep. AllHave deep s d new x (row + 1) c.until) (λ deep all. below deep all) h.deep;
-      unwritten = h.unwritten;
-    }
+pub rest_have : (deep : Bool) (s : DepthStencilSetting) (d : DeepTriangle) (k : Stroke) (old new : Block) (x row past y n : ℕ) → AllHave deep s d old x row past → RowDrew k old new x y n → y ≡ old.rect.top + row → AllHave deep s d new x (row + 1) past
+rest_have deep s d k old new x row past y n all drew y_is = λ u v is here.
+    let top_is = ap (λ (r : PixelRect). r.top) drew.drew.rect in
+    let t = here.top in
+    let o = here.bottom in
+    let was : IsIn old.rect u v = subst (λ (r : PixelRect). IsIn r u v) drew.drew.rect is in
+    let beside : in_box x (x + 8) y (y + 1) u v ≡ false = outside u v (omega (arith, t, y_is, top_is)) in
+    let same : pixel_at new u v ≡ pixel_at old u v = drew.drew.pixels u v was ∙ ap (λ c. if c then stroked k u v (pixel_at old u v) else pixel_at old u v) beside in
+    ap (λ (p : Pixel). depth_passes s (depth_of d u v) p.ds.depth) same
+    ∙ all u v was (record { left = here.left; right = here.right; top = omega (arith, t, top_is); bottom = omega (arith, o, top_is) })
   where
-    below : (deep : Bool) → AllHave deep s d old x row c.until → AllHave deep s d new x (row + 1) c.until
-    below deep all = λ u v is here.
-        let top_is = ap (λ (r : PixelRect). r.top) drew.drew.rect in
-        let t = here.top in
-        let o = here.bottom in
-        let was : IsIn old.rect u v = subst (λ (r : PixelRect). IsIn r u v) drew.drew.rect is in
-        let beside : in_box x (x + 8) y (y + 1) u v ≡ false = outside u v (omega (arith, t, y_is, top_is)) in
-        let same : pixel_at new u v ≡ pixel_at old u v = drew.drew.pixels u v was ∙ ap (λ c. if c then stroked k u v (pixel_at old u v) else pixel_at old u v) beside in
-        ap (λ (p : Pixel). depth_passes s (depth_of d u v) p.ds.depth) same
-        ∙ all u v was (record { left = here.left; right = here.right; top = omega (arith, t, top_is); bottom = omega (arith, o, top_is) })
+    outside : (u v : ℕ) → y + 1 ≤ v → in_box x (x + 8) y (y + 1) u v ≡ false
+    outside u v h = plain
       where
-        outside : (u v : ℕ) → y + 1 ≤ v → in_box x (x + 8) y (y + 1) u v ≡ false
-        outside u v h = plain
-          where
-            plain : ((nat_le x u && nat_lt u (x + 8)) && (nat_le y v && nat_lt v (y + 1))) ≡ false
-            plain = grind (arith, nat_tests, h)
+        plain : ((nat_le x u && nat_lt u (x + 8)) && (nat_le y v && nat_lt v (y + 1))) ≡ false
+        plain = grind (arith, nat_tests, h)
+
+pub rest_told : (known : Option Bool) (s : DepthStencilSetting) (d : DeepTriangle) (k : Stroke) (old new : Block) (x row past y n : ℕ) → IfSome known (λ deep. AllHave deep s d old x row past) → RowDrew k old new x y n → y ≡ old.rect.top + row
+    → IfSome known (λ deep. AllHave deep s d new x (row + 1) past)
+rest_told known s d k old new x row past y n h drew y_is =
+    mapped known (λ deep. AllHave deep s d old x row past) (λ deep. AllHave deep s d new x (row + 1) past) (λ deep all. rest_have deep s d k old new x row past y n all drew y_is) h
+
+-- where depth isn't tested
+pub untested_told : (known : Option Bool) (s : DepthStencilSetting) (d : DeepTriangle) (b : Block) (x row past : ℕ) → IfSome known (λ deep. (deep ≡ true) × (s.depth ≡ false)) → IfSome known (λ deep. AllHave deep s d b x row past)
+untested_told known s d b x row past h =
+    mapped known (λ deep. (deep ≡ true) × (s.depth ≡ false)) (λ deep. AllHave deep s d b x row past)
+    (λ deep is. subst (λ t. AllHave t s d b x row past) (sym is.0) (untested_cell s d b x row past is.1)) h
+
+pub untested_unwritten : (known : Option Bool) (s : DepthStencilSetting) → IfSome known (λ deep. (deep ≡ true) × (s.depth ≡ false)) → IfSome known (IsUnwritten s)
+untested_unwritten known s h = mapped known (λ deep. (deep ≡ true) × (s.depth ≡ false)) (IsUnwritten s) (λ deep is e. ap (λ t. t && s.write) is.1) h
 
 -- ---- lanes
 
@@ -153,6 +164,36 @@ module _ (b : Brush) (kind : tests_of b.state ≡ Stencil) (z : ℕ) (p : Pixel)
   alike_bit true ed = stencil_passes_both b kind z p.ds passing deep ep (ed refl)
   alike_bit false ed = refl
 
+-- a lane at which nothing changes
+module _ (b : Brush) (kind : tests_of b.state ≡ Stencil) (r : StencilRule) (rule : r ≡ rule_of b) (z : ℕ) (p : Pixel) (deep : Bool) (stays : IsUnwritten b.state deep) (still : IsStill b r deep)
+    (small : p.ds.stencil < 256) where
+  still_passes : true ≡ reference_passes (rule_of b) p.ds.stencil
+  still_passes = sym (still.passes p.ds.stencil) ∙ ap (λ r. reference_passes r p.ds.stencil) rule
+
+  still_after : p.ds.stencil ≡ stencil_after (rule_of b) true deep p.ds.stencil
+  still_after = sym (still.stencil p.ds.stencil small) ∙ ap (λ r. stencil_after r true deep p.ds.stencil) rule
+
+  same_either : (t : Bool) (n : ℕ) → n ≡ (if t then n else n)
+  same_either true n = refl
+  same_either false n = refl
+
+  unpassed : (d t u : Bool) → d ≡ false → u ≡ (t && (true && d)) → u ≡ false
+  unpassed d true u e f = f ∙ e
+  unpassed d false u e f = f
+
+  still_color : (d t u : Bool) (q : ℕ) → q < 2 ^ 32 → to_le_bytes w32 q ≡ p.rgba → deep ≡ d → u ≡ (t && (true && deep)) → p ≡ record { rgba = if u then written_color b.blend b.rgba p.rgba else p.rgba; ds = p.ds }
+  still_color true t u q fits is e f = let kept = still.colors e in lane_kept b p u q fits is (kept_all q b.write.keep b.write.flip fits kept.0 kept.1)
+  still_color false t u q fits is e f = lane_unpainted b p u (unpassed deep t u e f)
+
+  pub still_lane : (t u : Bool) (q : ℕ) → q < 2 ^ 32 → to_le_bytes w32 q ≡ p.rgba → (t ≡ true → deep ≡ deep_enough b z p.ds) → u ≡ (t && (true && deep)) → p ≡ (if t then drawn_by b z p else p)
+  still_lane t u q fits is ed eu =
+      still_color deep t u q fits is refl eu
+      ∙ (λ i. record { rgba = if u then written_color b.blend b.rgba p.rgba else p.rgba; ds = record { depth = p.ds.depth; stencil = same_either t p.ds.stencil i } })
+      ∙ alike_lane b kind z p true deep p.ds.stencil still_passes still_after stays t u ed eu
+
+  pub still_bit : (t : Bool) → (t ≡ true → deep ≡ deep_enough b z p.ds) → (t && (true && deep)) ≡ (t && (tested_by b z p.ds).passed)
+  still_bit t ed = alike_bit b kind z p true deep p.ds.stencil still_passes still_after stays t ed
+
 -- ---- edges
 
 -- where all edges hold the named ones do
@@ -164,3 +205,32 @@ all_pass mask t p holds =
     either : (b : Bool) → (not b || true) ≡ true
     either true = refl
     either false = refl
+
+-- where the triangle covers nothing, not all named edges hold
+pub none_pass : (b : Bool) (mask : ℕ) (t : Triangle) (p : Point) → (IsTrue (passes_edges mask t p) → IsTrue (covers t p)) → covers t p ≡ false → passes_edges mask t p ≡ b → passes_edges mask t p ≡ false
+none_pass false mask t p inside none is = is
+none_pass true mask t p inside none is = absurd (never (sym (inside is) ∙ none))
+  where
+    never : true ≡ false → ⊥
+    never h = cc
+
+pub none_cover : (t : Triangle) (p : Point) (i : ℕ) → i < 3 → edge_holds (edge t i) p ≡ false → covers t p ≡ false
+none_cover t p zero h out = ap (λ e. not (is_empty t) && (e && (edge_holds (edge t 1) p && edge_holds (edge t 2) p))) out ∙ never (not (is_empty t))
+  where
+    never : (a : Bool) → (a && false) ≡ false
+    never true = refl
+    never false = refl
+none_cover t p (suc zero) h out = ap (λ e. not (is_empty t) && (edge_holds (edge t 0) p && (e && edge_holds (edge t 2) p))) out ∙ never (not (is_empty t)) (edge_holds (edge t 0) p)
+  where
+    never : (a b : Bool) → (a && (b && false)) ≡ false
+    never true true = refl
+    never true false = refl
+    never false b = refl
+none_cover t p (suc (suc zero)) h out = ap (λ e. not (is_empty t) && (edge_holds (edge t 0) p && (edge_holds (edge t 1) p && e))) out ∙ never (not (is_empty t)) (edge_holds (edge t 0) p) (edge_holds (edge t 1) p)
+  where
+    never : (a b c : Bool) → (a && (b && (c && false))) ≡ false
+    never true true true = refl
+    never true true false = refl
+    never true false c = refl
+    never false b c = refl
+none_cover t p (suc (suc (suc i))) h out = absurd (omega arith)

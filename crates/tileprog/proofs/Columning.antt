@@ -1,21 +1,16 @@
 -- A column of spans, row by row.
-use Rattle.std.proofs.Common.{◌≡◌, ◌∙◌, ap, sym, subst, arith, ℕ, ◌+◌, ◌-◌, ◌*◌, ◌≤◌}
+use Rattle.std.proofs.Common.{◌≡◌, ◌∙◌, ap, sym, subst, refl, arith, ℕ, zero, suc, ◌+◌, ◌-◌, ◌*◌, ◌<◌, ◌≤◌}
 use Rattle.gfxspec.specs.declared.geometry.PixelRect.{PixelRect}
 use Rattle.gfxspec.specs.Items.{sum_below}
 use Rattle.depthplane.specs.Height.{DeepTriangle}
 use Rattle.tileblock.specs.Block.{Block}
-use Rattle.tileprog.specs.Columns.{RowDrew, ColumnDrew}
+use Rattle.tileprog.specs.Columns.{RowDrew, ColumnDrew, SoFar, Continues}
 use Rattle.tileprog.specs.Counting.{column_sum, stroke_count}
 use Rattle.tileprog.specs.Strokes.{Stroke, Drew, IsWithin}
 use Rattle.tileprog.specs.Within.{in_box}
 use Rattle.tileprog.proofs.Ones.{row_counted}
 use Rattle.tileprog.proofs.Stroking.{one_row, rows_from, rows_to, one_column, columns_to}
 use Rattle.tileprog.proofs.Summing.{row_waits, column_waits, column_counted}
-
--- the rows above y are drawn, and n of their pixels passed
-pub record SoFar (s : Stroke) (old mid : Block) (x y n : ℕ) : Type 0 where
-  pub drew : Drew s old mid (in_box x (x + 8) s.clip.top y)
-  pub count : n ≡ column_sum x s.clip.top (y - s.clip.top) (stroke_count s old)
 
 pub no_row : (s : Stroke) (old : Block) (x y : ℕ) → y ≡ s.clip.top → SoFar s old old x y 0
 no_row s old x y e =
@@ -38,6 +33,72 @@ all_rows s old new x y n e was few =
       count = was.count ∙ ap (λ v. column_sum x s.clip.top (v - s.clip.top) (stroke_count s old)) e;
       few = few;
     }
+
+-- ---- rows behind any that were drawn above
+
+plus_none : (n : ℕ) → n ≡ n + 0
+plus_none n = omega arith
+
+plus_both : (a n m : ℕ) → a + n + m ≡ a + (n + m)
+plus_both a n m = omega arith
+
+pub none_yet : (s : Stroke) (b : Block) (x y : ℕ) → Continues s b b x y y 0
+none_yet s b x y = record {
+  rect = refl;
+  order = omega arith;
+  few = omega arith;
+  so_far = λ old before h. subst (λ n. SoFar s old b x y n) (plus_none before) h;
+}
+
+pub row_behind : (s : Stroke) (plane : DeepTriangle) (start mid new : Block) (x y z w at n m : ℕ) → IsWithin s.clip start.rect → s.clip.top ≤ z → Continues s start mid x y z n → RowDrew (record s { plane = plane }) mid new x at m → plane ≡ s.plane → at ≡ z → w ≡ z + 1 → Continues s start new x y w (n + m)
+row_behind s plane start mid new x y z w at n m within below was drawn d same e =
+    let o = was.order in
+    let f = was.few in
+    let g = drawn.few in
+    record {
+      rect = drawn.drew.rect ∙ was.rect;
+      order = omega (arith, o, e);
+      few = omega (arith, o, e, f, g);
+      so_far = λ old before h.
+          let inside : IsWithin s.clip old.rect = subst (λ r. IsWithin s.clip r) h.drew.rect within in
+          subst (λ k. SoFar s old new x w k) (plus_both before n m)
+          (row_more s plane old mid new x z w at (before + n) m inside below (was.so_far old before h) drawn d same e);
+    }
+
+pub rows_behind : (s : Stroke) (start mid new : Block) (x y z a b w n m : ℕ) → Continues s start mid x y z n → Continues s mid new x a b m → a ≡ z → b ≡ w → Continues s start new x y w (n + m)
+rows_behind s start mid new x y z a b w n m was more e f =
+    let o = was.order in
+    let p = more.order in
+    let g = was.few in
+    let h = more.few in
+    record {
+      rect = more.rect ∙ was.rect;
+      order = omega (arith, o, p, e, f);
+      few = omega (arith, o, p, e, f, g, h);
+      so_far = λ old before k.
+          subst (λ v. SoFar s old new x v (before + (n + m))) f
+          (subst (λ q. SoFar s old new x b q) (plus_both before n m) (more.so_far old (before + n) (subst (λ v. SoFar s old mid x v (before + n)) (sym e) (was.so_far old before k))));
+    }
+
+-- the same in the words of another plane, and from and to other rows
+pub rows_are : (s : Stroke) (plane : DeepTriangle) (old new : Block) (x a b y z n : ℕ) → Continues (record s { plane = plane }) old new x a b n → plane ≡ s.plane → a ≡ y → b ≡ z → Continues s old new x y z n
+rows_are s plane old new x a b y z n h d e f =
+    let P : DeepTriangle → ℕ → ℕ → Type 0 = λ p u v. Continues (record s { plane = p }) old new x u v n in
+    subst (λ v. P s.plane y v) f (subst (λ u. P s.plane u b) e (subst (λ p. P p a b) d h))
+
+-- rows of which nothing is reached
+pub rows_missed : (s : Stroke) (b : Block) (x y n : ℕ) → IsWithin s.clip b.rect → s.clip.top ≤ y → ((v : ℕ) → y ≤ v → v < y + n → RowDrew s b b x v 0) → Continues s b b x y (y + n) 0
+rows_missed s b x y zero within below h = subst (λ z. Continues s b b x y z 0) (plus_none y) (none_yet s b x y)
+rows_missed s b x y (suc n) within below h =
+    row_behind s s.plane b b b x y (y + n) (y + suc n) (y + n) 0 0 within (omega arith) (rows_missed s b x y n within below (λ v l m. h v l (omega arith))) (h (y + n) (omega arith) (omega arith)) refl refl (omega arith)
+
+pub column_behind : (s : Stroke) (old new : Block) (x y z n : ℕ) → Continues s old new x y z n → y ≡ s.clip.top → z ≡ s.clip.bottom → s.clip.bottom ≤ s.clip.top + 32 → ColumnDrew s old new x n
+column_behind s old new x y z n h e f most =
+    let few = h.few in
+    all_rows s old new x z n f (subst (λ k. SoFar s old new x z k) (none_plus n) (h.so_far old 0 (no_row s old x y e))) (omega (arith, few, e, f, most))
+  where
+    none_plus : (n : ℕ) → 0 + n ≡ n
+    none_plus n = omega arith
 
 -- a column in the words of the whole stroke
 pub column_is : (s : Stroke) (mid new : Block) (mask : ℕ) (clip : PixelRect) (a x n : ℕ) → ColumnDrew (record s { mask = mask; clip = clip }) mid new a n → mask ≡ s.mask → clip ≡ s.clip → a ≡ x → ColumnDrew s mid new x n

@@ -9,7 +9,10 @@ use Rattle.gfxspec.specs.DepthStencil.{depth_passes}
 use Rattle.lanes.specs.Stencil.{has}
 use Rattle.tileblock.specs.Block.{Block, pixel_at}
 use Rattle.tileblock.specs.SpanStored.{SpanStored, lane_pixel}
-use Rattle.tileprog.specs.Cells.{AllHave}
+use Rattle.gfxspec.specs.declared.geometry.PixelRect.{PixelRect}
+use Rattle.tileprog.specs.declared.column.Column.{Column}
+use Rattle.tileprog.specs.Cells.{AllHave, AreCovered}
+use Rattle.tileprog.proofs.Lanes.{has_all, has_none}
 use Rattle.tileprog.specs.Columns.{RowDrew}
 use Rattle.tileprog.specs.Counting.{eight, one_if, stroke_count}
 use Rattle.tileprog.specs.Edges.{passes_edges}
@@ -27,6 +30,14 @@ pub lanes_at : (e : EdgePlace) (t : Triangle) (x y mask left right cover : ℕ) 
 lanes_at e t x y mask left right cover is h =
     let P : EdgePlace → Type 0 = λ e. (j : ℕ) → j < 8 → has cover j ≡ ((nat_le left (x + j) && nat_lt (x + j) right) && passes_edges mask e.triangle (centre (x + j) e.y)) in
     subst P is h
+
+-- where all lanes are left, and the named edges hold at each
+pub all_lanes_covered : (k : Column) (t : Triangle) (r : PixelRect) (row : ℕ) → k.within ≡ 255 → AreCovered true k.mask t r k.x row (row + 1)
+    → (j : ℕ) → j < 8 → has 255 j ≡ ((nat_le k.clip.left (k.x + j) && nat_lt (k.x + j) k.clip.right) && passes_edges k.mask t (centre (k.x + j) (r.top + row)))
+all_lanes_covered k t r row all covered j h =
+    let clip = sym (k.lanes j h) ∙ has_all k.within j all h in
+    let edges = covered (k.x + j) (r.top + row) (record { left = omega arith; right = omega (arith, h); top = omega arith; bottom = omega arith }) in
+    has_all 255 j refl h ∙ (λ i. sym clip i && sym edges i)
 
 module _ (s : Stroke) (old : Block) (span row x y cover : ℕ) (x_is : old.rect.left + 8 * span ≡ x) (y_is : old.rect.top + row ≡ y) (sound : IsNamed s.plane s.mask old.rect) (within : IsWithin s.clip old.rect)
     (lanes : (j : ℕ) → j < 8 → has cover j ≡ ((nat_le s.clip.left (x + j) && nat_lt (x + j) s.clip.right) && passes_edges s.mask s.plane.triangle (centre (x + j) y)))
@@ -68,3 +79,15 @@ module _ (s : Stroke) (old : Block) (span row x y cover : ℕ) (x_is : old.rect.
         let is = in_rect s old.rect x y cover sound lanes top bottom within j reach in
         (λ i. depth_passes s.brush.state (eight_are s old.rect x y cover sound lanes top bottom j h i) (pixel_at old (x_is i + j) (y_is i)).ds.depth)
         ∙ all (x + j) y is (record { left = omega arith; right = omega (arith, h); top = omega (arith, y_is); bottom = omega (arith, y_is) })
+
+-- a span at whose pixels not all named edges hold
+pub row_uncovered : (s : Stroke) (old : Block) (span row x y : ℕ) → old.rect.left + 8 * span ≡ x → old.rect.top + row ≡ y → IsNamed s.plane s.mask old.rect → IsWithin s.clip old.rect → s.clip.top ≤ y → y < s.clip.bottom
+    → ((j : ℕ) → j < 8 → passes_edges s.mask s.plane.triangle (centre (x + j) y) ≡ false) → RowDrew s old old x y 0
+row_uncovered s old span row x y x_is y_is sound within top bottom none =
+    row_missed s old span row x y 0 x_is y_is sound within
+    (λ j h. has_none 0 j refl ∙ sym (no_both (nat_le s.clip.left (x + j) && nat_lt (x + j) s.clip.right)) ∙ (λ i. (nat_le s.clip.left (x + j) && nat_lt (x + j) s.clip.right) && sym (none j h) i))
+    top bottom refl
+  where
+    no_both : (b : Bool) → (b && false) ≡ false
+    no_both true = refl
+    no_both false = refl

@@ -1,10 +1,11 @@
 -- Cells of a column: eight rows of a span, whose depth test has one outcome.
-use Rattle.std.specs.Prelude.{ℕ, ◌≡◌, ◌+◌, ◌<◌, ◌≤◌, Bool, true, false, ◌&&◌, Option, Some, None, IfSome, IsTrue}
+use Rattle.std.specs.Prelude.{ℕ, ◌≡◌, ◌+◌, ◌<◌, ◌≤◌, Bool, true, false, ◌&&◌, IfSome, IsTrue}
 use Rattle.gfxspec.specs.declared.geometry.PixelRect.{PixelRect}
-use Rattle.gfxspec.specs.declared.state.Compare.{Compare}
-use Rattle.gfxspec.specs.declared.state.Compare.TheVariants.{Never, Less, Equal, LessEqual, Greater, NotEqual, GreaterEqual, Always}
 use Rattle.gfxspec.specs.DepthStencil.{DepthStencilSetting, depth_passes}
-use Rattle.gfxspec.specs.Raster.{Triangle, centre}
+use Rattle.gfxspec.specs.Raster.{Triangle, edge, covers, centre}
+use Rattle.classify.specs.Region.{HoldsEverywhere}
+use Rattle.lanes.specs.Stencil.{StencilRule, reference_passes, stencil_after}
+use Rattle.tileprog.specs.declared.brush.Brush.{Brush}
 use Rattle.gfxspec.specs.Tiles.{IsIn}
 use Rattle.depthplane.specs.Height.{DeepTriangle}
 use Rattle.depthplane.specs.Place.{depth_of}
@@ -12,17 +13,6 @@ use Rattle.tileblock.specs.Block.{Block, pixel_at}
 use Rattle.tileprog.specs.declared.cells.Cell.{Cell}
 use Rattle.tileprog.specs.declared.column.Column.{Column}
 use Rattle.tileprog.specs.Edges.{passes_edges}
-
--- of depths between two the one that passes wherever any of them does
-abbrev pub nearest : Compare → ℕ → ℕ → Option ℕ
-nearest Never least greatest = Some least
-nearest Less least greatest = Some least
-nearest Equal least greatest = None
-nearest LessEqual least greatest = Some least
-nearest Greater least greatest = Some greatest
-nearest NotEqual least greatest = None
-nearest GreaterEqual least greatest = Some greatest
-nearest Always least greatest = Some least
 
 -- eight columns from x on, and the rows of a rectangle from one on and before another, counted within it
 pub record InRows (r : PixelRect) (x from past u v : ℕ) : Type 0 where
@@ -39,18 +29,36 @@ AllHave deep s d b x from past = (u v : ℕ) → IsIn b.rect u v → InRows b.re
 abbrev pub IsUnwritten : DepthStencilSetting → Bool → Type 0
 IsUnwritten s deep = deep ≡ true → (s.depth && s.write) ≡ false
 
--- the named edges hold at all pixels there
-abbrev pub AreOpen : ℕ → Triangle → PixelRect → ℕ → ℕ → ℕ → Type 0
-AreOpen mask t r x from past = (u v : ℕ) → InRows r x from past u v → passes_edges mask t (centre u v) ≡ true
+-- the named edges hold at all pixels there, or not all of them at any
+abbrev pub AreCovered : Bool → ℕ → Triangle → PixelRect → ℕ → ℕ → ℕ → Type 0
+AreCovered all mask t r x from past = (u v : ℕ) → InRows r x from past u v → passes_edges mask t (centre u v) ≡ all
 
--- what a cell tells of the rows from one on
+-- all edges hold at each centre of a rectangle, or the triangle covers none
+abbrev pub EdgesAre : Bool → Triangle → PixelRect → Type 0
+EdgesAre true t r = (i : ℕ) → i < 3 → HoldsEverywhere (edge t i) r
+EdgesAre false t r = (u v : ℕ) → IsIn r u v → covers t (centre u v) ≡ false
+
+-- what a cell tells of the eight rows from one on
 pub record Tells (c : Cell) (s : DepthStencilSetting) (d : DeepTriangle) (mask : ℕ) (b : Block) (x row : ℕ) : Type 0 where
-  pub covered : IsTrue c.covered → AreOpen mask d.triangle b.rect x row c.until
-  pub deep : IfSome c.deep (λ deep. AllHave deep s d b x row c.until)
+  pub covered : IfSome c.covered (λ all. AreCovered all mask d.triangle b.rect x row (row + 8))
+  pub deep : IfSome c.deep (λ deep. AllHave deep s d b x row (row + 8))
   pub unwritten : IfSome c.deep (IsUnwritten s)
+
+-- a column that the clip rectangle leaves whole, in all rows of a tile
+pub record IsLong (c : Column) (r : PixelRect) : Type 0 where
+  pub within : c.within ≡ 255
+  pub top : c.clip.top ≡ r.top
+  pub bottom : c.clip.bottom ≡ r.top + 32
+  pub right : c.x + 8 ≤ r.right
 
 -- no edge cuts a cell, which lies in the rectangle
 pub record IsCell (c : Column) (t : Triangle) (r : PixelRect) (row : ℕ) : Type 0 where
-  pub holds : AreOpen c.mask t r c.x row (row + 8)
+  pub holds : AreCovered true c.mask t r c.x row (row + 8)
   pub right : c.x + 8 ≤ r.right
   pub bottom : r.top + row + 8 ≤ r.bottom
+
+-- a brush changes no pixel at which the stencil test passes and the depth test has one outcome
+pub record IsStill (b : Brush) (r : StencilRule) (deep : Bool) : Type 0 where
+  pub passes : (v : ℕ) → reference_passes r v ≡ true
+  pub stencil : (v : ℕ) → v < 256 → stencil_after r true deep v ≡ v
+  pub colors : deep ≡ true → (b.write.keep ≡ 4294967295) × (b.write.flip ≡ 0)

@@ -37,3 +37,15 @@ pub record ColumnDrew (s : Stroke) (old new : Block) (x n : ℕ) : Type 0 where
   pub drew : Drew s old new (in_box x (x + 8) s.clip.top s.clip.bottom)
   pub count : n ≡ column_sum x s.clip.top (s.clip.bottom - s.clip.top) (stroke_count s old)
   pub few : n ≤ 256
+
+-- the clip's pixels in the eight columns from x on and the rows above y have had the stroke, and n of them passed
+pub record SoFar (s : Stroke) (old mid : Block) (x y n : ℕ) : Type 0 where
+  pub drew : Drew s old mid (in_box x (x + 8) s.clip.top y)
+  pub count : n ≡ column_sum x s.clip.top (y - s.clip.top) (stroke_count s old)
+
+-- so have, behind whatever was drawn above, those of the rows from y on and before z
+pub record Continues (s : Stroke) (mid new : Block) (x y z n : ℕ) : Type 0 where
+  pub rect : new.rect ≡ mid.rect
+  pub order : y ≤ z
+  pub few : n ≤ 8 * (z - y)
+  pub so_far : (old : Block) (before : ℕ) → SoFar s old mid x y before → SoFar s old new x z (before + n)

@@ -1,6 +1,7 @@
 pub mod Edges
 pub mod Hidden
 pub mod Kinds
+pub mod Made
 pub mod Painting
 pub mod Brushes
 pub mod SpanDrawn

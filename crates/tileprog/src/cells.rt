@@ -1,14 +1,11 @@
 //! Cells of a column: eight rows of a span, whose depths are asked about together.
 
-ghost use Rattle.std.specs.Prelude.{◌≡◌, ◌<◌, ◌≤◌, ◌+◌, ◌||◌, ℕ, true, false, IsTrue, IfSome};
+ghost use Rattle.std.specs.Prelude.{◌≡◌, ◌<◌, ◌≤◌, ◌+◌, ℕ, true, false, IsTrue, IfSome, slice_index};
 ghost use Rattle.gfxspec.specs.DepthStencil.{compares};
-ghost use Rattle.gfxspec.specs.Limits.{side_bound};
-ghost use Rattle.gfxspec.specs.Raster.{edge};
-ghost use Rattle.gfxspec.specs.Tiles.{IsInTile};
-ghost use Rattle.classify.specs.Region.{IsReal, HoldsEverywhere};
+ghost use Rattle.classify.specs.Region.{IsReal};
 ghost use Rattle.depthplane.specs.Place.{depth_of};
 ghost use Rattle.tileblock.specs.SpanStored.{lane_pixel};
-ghost use Rattle.tileprog.specs.Cells.{nearest, InRows, AllHave, AreOpen, IsUnwritten, Tells, IsCell};
+ghost use Rattle.tileprog.specs.Cells.{InRows, AllHave, AreCovered, EdgesAre, IsUnwritten, IsLong, Tells, IsCell};
 ghost use Rattle.tileprog.specs.Columns.{IsColumn};
 ghost use Rattle.tileprog.specs.Strokes.{IsNamed};
 
@@ -19,34 +16,50 @@ use classify::{Class, classify};
 use depthplane::Plane;
 use edges::EdgeSet;
 use gfxspec::{Compare, PixelRect};
-use lanes::depth_mask;
+use lanes::{depth_mask, greater8, lesser8};
 use std::alloc::Allocator;
 use tileblock::{DepthBounds, TileBlock};
 
-/// What is known of the pixels of a column in the rows before row `until` of the tile: whether all named edges hold there, and
+/// What is known of the pixels of a column in eight rows of the tile: whether all named edges hold at each of them, or at none, and
 /// whether the depth test passes at all or at none.
 #[derive(Clone, Copy)]
 pub(crate) struct Cell {
-    pub(crate) until: u32,
-    pub(crate) covered: bool,
+    pub(crate) covered: Option<bool>,
     pub(crate) deep: Option<bool>,
 }
 
-/// Of depths from `least` to `greatest` the one that passes wherever any of them does, if there is one.
+/// In each lane the greatest of the depths that are stored in eight rows of a span.
 #[inline(always)]
-fn nearest(func: Compare, least: u32, greatest: u32) -> Option<u32>
-    ensures { result ≡ nearest func least greatest }
+fn greatest_each<A: Allocator>(block: &TileBlock<A>, span: u32, row: u32) -> [u32; 8]
+    requires span { span < 4 }
+    requires row { row + 8 ≤ 32 }
+    ensures { (k j : ℕ) → k < 8 → j < 8 → (lane_pixel block.now span (row + k) j).ds.depth ≤ slice_index result j }
 {
-    match func {
-        Compare::Never | Compare::Less | Compare::LessEqual | Compare::Always => Some(least),
-        Compare::Greater | Compare::GreaterEqual => Some(greatest),
-        Compare::Equal | Compare::NotEqual => None,
+    let mut all = [0; 8];
+    for k in 0..8u32 {
+        all = greater8(&all, &block.depth_span(span, row + k));
     }
+    all
 }
 
-/// Whether a depth passes against none of those that are stored in eight rows of a span.
+/// In each lane the least of the depths that are stored in eight rows of a span.
 #[inline(always)]
-fn passes_nowhere<A: Allocator>(
+fn least_each<A: Allocator>(block: &TileBlock<A>, span: u32, row: u32) -> [u32; 8]
+    requires span { span < 4 }
+    requires row { row + 8 ≤ 32 }
+    ensures { (k j : ℕ) → k < 8 → j < 8 → slice_index result j ≤ (lane_pixel block.now span (row + k) j).ds.depth }
+{
+    let mut all = [u32::MAX; 8];
+    for k in 0..8u32 {
+        all = lesser8(&all, &block.depth_span(span, row + k));
+    }
+    all
+}
+
+/// Whether no depth from `depth` on passes against any of those that are stored in eight rows of a span, under a comparison for lesser
+/// depths. The first row is looked at before the others.
+#[inline(always)]
+fn fail_from<A: Allocator>(
     block: &TileBlock<A>,
     span: u32,
     row: u32,
@@ -55,18 +68,40 @@ fn passes_nowhere<A: Allocator>(
 ) -> bool
     requires span { span < 4 }
     requires row { row + 8 ≤ 32 }
-    ensures { IsTrue result → (k j : ℕ) → k < 8 → j < 8 → compares func depth (lane_pixel block.now span (row + k) j).ds.depth ≡ false }
+    requires order { (a b d e : ℕ) → a ≤ d → e ≤ b → compares func a b ≡ false → compares func d e ≡ false }
+    ensures { IsTrue result → (k j a : ℕ) → k < 8 → j < 8 → depth ≤ a → compares func a (lane_pixel block.now span (row + k) j).ds.depth ≡ false }
 {
-    for k in 0..8u32 {
-        let passing = depth_mask(func, &[depth; 8], &block.depth_span(span, row + k));
-        if passing != 0 {
-            return false;
-        }
+    let first = depth_mask(func, &[depth; 8], &block.depth_span(span, row));
+    if first != 0 {
+        return false;
     }
-    true
+    depth_mask(func, &[depth; 8], &greatest_each(block, span, row)) == 0
 }
 
-/// Whether no depth from `least` to `greatest` passes against any of those that are stored in eight rows of a span.
+/// Whether no depth as far as `depth` passes against any of those that are stored in eight rows of a span, under a comparison for greater
+/// depths. The first row is looked at before the others.
+#[inline(always)]
+fn fail_to<A: Allocator>(
+    block: &TileBlock<A>,
+    span: u32,
+    row: u32,
+    func: Compare,
+    depth: u32,
+) -> bool
+    requires span { span < 4 }
+    requires row { row + 8 ≤ 32 }
+    requires order { (a b d e : ℕ) → d ≤ a → b ≤ e → compares func a b ≡ false → compares func d e ≡ false }
+    ensures { IsTrue result → (k j a : ℕ) → k < 8 → j < 8 → a ≤ depth → compares func a (lane_pixel block.now span (row + k) j).ds.depth ≡ false }
+{
+    let first = depth_mask(func, &[depth; 8], &block.depth_span(span, row));
+    if first != 0 {
+        return false;
+    }
+    depth_mask(func, &[depth; 8], &least_each(block, span, row)) == 0
+}
+
+/// Whether no depth from `least` to `greatest` passes against any of those that are stored in eight rows of a span. Of equality that isn't
+/// asked.
 #[inline(always)]
 fn all_fail<A: Allocator>(
     block: &TileBlock<A>,
@@ -80,10 +115,14 @@ fn all_fail<A: Allocator>(
     ensures { IsTrue result → (k j a : ℕ) → k < 8 → j < 8 → range.least ≤ a → a ≤ range.greatest
         → compares func a (lane_pixel block.now span (row + k) j).ds.depth ≡ false }
 {
-    let Some(depth) = nearest(func, range.least, range.greatest) else {
-        return false;
-    };
-    passes_nowhere(block, span, row, func, depth)
+    match func {
+        Compare::Never => true,
+        Compare::Less => fail_from(block, span, row, Compare::Less, range.least),
+        Compare::LessEqual => fail_from(block, span, row, Compare::LessEqual, range.least),
+        Compare::Greater => fail_to(block, span, row, Compare::Greater, range.greatest),
+        Compare::GreaterEqual => fail_to(block, span, row, Compare::GreaterEqual, range.greatest),
+        Compare::Equal | Compare::NotEqual | Compare::Always => false,
+    }
 }
 
 /// The eight rows of a column from `row` on.
@@ -105,50 +144,53 @@ fn cell_rect(rect: PixelRect, column: &Column, row: u32) -> PixelRect
     }
 }
 
-/// Whether all edges of a triangle hold at each centre of a rectangle.
+/// Whether all edges of a triangle hold at each centre of a rectangle, or not all of them at any.
 #[inline(always)]
-fn all_hold(set: &EdgeSet, rect: PixelRect) -> bool
+fn edges_outcome(set: &EdgeSet, rect: PixelRect) -> Option<bool>
     requires { IsReal rect }
-    ensures { IsTrue result → (i : ℕ) → i < 3 → HoldsEverywhere (edge set.now i) rect }
+    ensures { IfSome result (λ all. EdgesAre all set.now rect) }
 {
     match classify(set, rect) {
-        Class::Cut(cut) => cut == 0,
-        Class::Outside => false,
+        Class::Cut(cut) => { if cut == 0 { Some(true) } else { None } }
+        Class::Outside => Some(false),
     }
 }
 
-/// Whether the eight rows of a column from `row` on lie in the tile's rectangle, and the clip rectangle has all rows of the tile. A
-/// triangle that is less high is drawn faster than asked about.
+/// Whether a clip rectangle leaves all of a column in all rows of a tile. A triangle that is less high is drawn faster than asked about.
 #[inline(always)]
-fn is_long(rect: PixelRect, column: &Column, row: u32) -> bool
+pub(crate) fn is_long(rect: PixelRect, column: &Column) -> bool
     requires column { column.now.x ≤ 4096 }
     requires top { rect.top ≤ 4096 }
-    requires row { row < 32 }
-    ensures right { IsTrue result → column.now.x + 8 ≤ rect.right }
-    ensures bottom { IsTrue result → rect.top + row + 8 ≤ rect.bottom }
+    ensures { IsTrue result → IsLong column.now rect }
 {
-    column.clip.top <= rect.top
-        && rect.bottom <= column.clip.bottom
+    column.within == 255
+        && column.clip.top == rect.top
+        && column.clip.bottom == rect.top + 32
         && column.x + 8 <= rect.right
-        && rect.top + row + 8 <= rect.bottom
 }
 
-/// Whether no edge cuts the eight rows of a column from `row` on, which lie in the rectangle.
+/// Whether the named edges hold at all pixels of the eight rows of a column from `row` on, or not all of them at any.
 #[inline(always)]
-fn is_cell(set: &EdgeSet, rect: PixelRect, column: &Column, mask: u8, row: u32) -> bool
+fn cover_outcome(
+    set: &EdgeSet,
+    plane: &Plane,
+    rect: PixelRect,
+    column: &Column,
+    mask: u8,
+    row: u32,
+) -> Option<bool>
     requires same { mask ≡ column.now.mask }
-    requires column { IsColumn column.now set.now rect }
-    requires row { row < 32 }
-    ensures { IsTrue result → IsCell column.now set.now rect row }
+    requires set { set.now ≡ plane.now.triangle }
+    requires column { IsColumn column.now plane.now.triangle rect }
+    requires long { IsLong column.now rect }
+    requires row { row + 8 ≤ 32 }
+    requires named { IsNamed plane.now column.now.mask rect }
+    ensures { IfSome result (λ all. AreCovered all column.now.mask plane.now.triangle rect column.now.x row (row + 8)) }
 {
-    let long = is_long(rect, column, row);
-    if !long {
-        return false;
-    }
     if mask == 0 {
-        return true;
+        return Some(true);
     }
-    all_hold(set, cell_rect(rect, column, row))
+    edges_outcome(set, cell_rect(rect, column, row))
 }
 
 /// What the depths of a triangle lie between in the eight rows of a column from `row` on, where no edge cuts them.
@@ -197,23 +239,40 @@ fn deep_from<A: Allocator>(
     if passes { Some(true) } else { None }
 }
 
-/// What is known of eight rows of which nothing was asked.
+/// Whether the depth test of a brush passes at all pixels of the eight rows of a column from `row` on, or at none, if that is asked: where
+/// depth is tested, only where the edges hold at all of them.
 #[inline(always)]
-fn unknown(row: u32, deep: Option<bool>) -> Cell
-    requires row { row < 32 }
-    ensures { result ≡ record { until = row + 8; covered = false; deep = deep } }
+fn depth_outcome<A: Allocator>(
+    block: &TileBlock<A>,
+    plane: &Plane,
+    column: &Column,
+    row: u32,
+    covered: Option<bool>,
+    brush: &Brush,
+) -> Option<bool>
+    requires column { IsColumn column.now plane.now.triangle block.now.rect }
+    requires long { IsLong column.now block.now.rect }
+    requires row { row + 8 ≤ 32 }
+    requires named { IsNamed plane.now column.now.mask block.now.rect }
+    requires covered { IfSome covered (λ all. AreCovered all column.now.mask plane.now.triangle block.now.rect column.now.x row (row + 8)) }
+    ensures deep { IfSome result (λ deep. AllHave deep brush.now.state plane.now block.now column.now.x row (row + 8)) }
+    ensures unwritten { IfSome result (IsUnwritten brush.now.state) }
 {
-    Cell {
-        until: row + 8,
-        covered: false,
-        deep,
+    if !brush.state.depth() {
+        return Some(true);
     }
+    let Some(all) = covered else {
+        return None;
+    };
+    if !all {
+        return None;
+    }
+    deep_from(block, plane, column, row, brush)
 }
 
-/// The cell of a row under a brush with a stencil test: the one before it, or where that has ended the next.
+/// The eight rows of a column from `row` on, under a brush with a stencil test.
 #[inline(always)]
-pub(crate) fn stencil_cell<A: Allocator>(
-    cell: Cell,
+pub(crate) fn cell_of<A: Allocator>(
     block: &TileBlock<A>,
     set: &EdgeSet,
     plane: &Plane,
@@ -225,26 +284,12 @@ pub(crate) fn stencil_cell<A: Allocator>(
     requires same { mask ≡ column.now.mask }
     requires set { set.now ≡ plane.now.triangle }
     requires column { IsColumn column.now plane.now.triangle block.now.rect }
-    requires row { row < 32 }
+    requires long { IsLong column.now block.now.rect }
+    requires row { row + 8 ≤ 32 }
     requires named { IsNamed plane.now column.now.mask block.now.rect }
-    requires told { Tells cell brush.now.state plane.now column.now.mask block.now column.now.x row }
-    ensures told { Tells result brush.now.state plane.now column.now.mask block.now column.now.x row }
-    ensures now { row < result.until }
+    ensures { Tells result brush.now.state plane.now column.now.mask block.now column.now.x row }
 {
-    if row < cell.until {
-        return cell;
-    }
-    if !brush.state.depth() {
-        return unknown(row, Some(true));
-    }
-    let inside = is_cell(set, block.rect(), column, mask, row);
-    if !inside {
-        return unknown(row, None);
-    }
-    let deep = deep_from(block, plane, column, row, brush);
-    Cell {
-        until: row + 8,
-        covered: true,
-        deep,
-    }
+    let covered = cover_outcome(set, plane, block.rect(), column, mask, row);
+    let deep = depth_outcome(block, plane, column, row, covered, brush);
+    Cell { covered, deep }
 }

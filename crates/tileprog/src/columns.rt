@@ -3,18 +3,18 @@
 ghost use Rattle.std.specs.Prelude.{◌≡◌, ◌<◌, ◌≤◌, ◌+◌, ◌*◌};
 ghost use Rattle.tileprog.specs.Strokes.{IsNamed};
 ghost use Rattle.tileprog.specs.Kinds.{tests_of};
-ghost use Rattle.tileprog.specs.declared.kind.Tests.TheVariants.{Open, Depth, Stencil};
+ghost use Rattle.tileprog.specs.declared.kind.Tests.TheVariants.{Open, Depth};
 ghost use Rattle.tileprog.specs.Columns.{IsColumn, ColumnDrew};
+ghost use Rattle.tileprog.specs.Made.{AreOf};
 
 use crate::brush::Brush;
-use crate::cells::{Cell, stencil_cell};
 use crate::column::Column;
-use crate::kind::Tests;
-use crate::rows::{depth_row, open_row, stencil_row};
+use crate::kind::MadeTests;
+use crate::rows::{depth_row, open_row};
+use crate::stencils::stencil_column;
 use depthplane::{Plane, Walks};
 use edges::{EdgeSet, EdgeWalk};
 use gfxspec::Compare;
-use lanes::StencilTest;
 use std::alloc::Allocator;
 use tileblock::TileBlock;
 
@@ -177,90 +177,6 @@ fn depth_column<A: Allocator, W: Walks>(
     }
 }
 
-/// The rows of a column under a brush with a stencil test, with the mask of its edges known to the loop.
-#[inline(always)]
-fn stencil_rows<A: Allocator, W: Walks>(
-    block: &mut TileBlock<A>,
-    column: &Column,
-    mask: u8,
-    set: &EdgeSet,
-    plane: &Plane,
-    mut edges: EdgeWalk<'_>,
-    mut walk: W,
-    brush: Brush,
-) -> u32
-    requires same { mask ≡ column.now.mask }
-    requires column { IsColumn column.now (W.place walk).plane.triangle block.old.rect }
-    requires edges { edges ≡ record { triangle = (W.place walk).plane.triangle; x = column.now.x; y = column.now.clip.top } }
-    requires walk { W.place walk ≡ record (W.place walk) { x = column.now.x; y = column.now.clip.top } }
-    requires plane { (W.place walk).plane ≡ plane.now }
-    requires set { set.now ≡ plane.now.triangle }
-    requires left { block.old.rect.left ≤ (W.place walk).left }
-    requires top { block.old.rect.top ≤ (W.place walk).top }
-    requires named { IsNamed (W.place walk).plane column.now.mask block.old.rect }
-    requires kind { tests_of brush.state ≡ Stencil }
-    ensures { ColumnDrew (record { brush = brush; plane = (W.place walk).plane; mask = column.now.mask; clip = column.now.clip }) block.old block.new column.now.x result }
-{
-    let column = *column;
-    let rect = block.rect();
-    let test = StencilTest::of(&brush.state, brush.front, brush.reference);
-    let mut cell = Cell {
-        until: 0,
-        covered: false,
-        deep: None,
-    };
-    let mut passed = 0u32;
-    for row in column.clip.top - rect.top..column.clip.bottom - rect.top {
-        let now = stencil_cell(cell, block, set, plane, &column, mask, row, &brush);
-        let more = stencil_row(
-            block,
-            &column,
-            mask,
-            row,
-            &edges,
-            &walk,
-            now.covered,
-            now.deep,
-            &test,
-            &brush,
-        );
-        cell = now;
-        passed += more;
-        edges.down();
-        walk.next();
-    }
-    passed
-}
-
-/// A column under a brush with a stencil test; the answer is how many pixels pass.
-#[inline(never)]
-fn stencil_column<A: Allocator, W: Walks>(
-    block: &mut TileBlock<A>,
-    column: &Column,
-    set: &EdgeSet,
-    plane: &Plane,
-    edges: EdgeWalk<'_>,
-    walk: W,
-    brush: Brush,
-) -> u32
-    requires column { IsColumn column.now (W.place walk).plane.triangle block.old.rect }
-    requires edges { edges ≡ record { triangle = (W.place walk).plane.triangle; x = column.now.x; y = column.now.clip.top } }
-    requires walk { W.place walk ≡ record (W.place walk) { x = column.now.x; y = column.now.clip.top } }
-    requires plane { (W.place walk).plane ≡ plane.now }
-    requires set { set.now ≡ plane.now.triangle }
-    requires left { block.old.rect.left ≤ (W.place walk).left }
-    requires top { block.old.rect.top ≤ (W.place walk).top }
-    requires named { IsNamed (W.place walk).plane column.now.mask block.old.rect }
-    requires kind { tests_of brush.state ≡ Stencil }
-    ensures { ColumnDrew (record { brush = brush; plane = (W.place walk).plane; mask = column.now.mask; clip = column.now.clip }) block.old block.new column.now.x result }
-{
-    if column.mask == 0 {
-        stencil_rows(block, column, 0, set, plane, edges, walk, brush)
-    } else {
-        stencil_rows(block, column, column.mask, set, plane, edges, walk, brush)
-    }
-}
-
 /// One column of spans, in the rows of the clip rectangle.
 pub(crate) fn draw_column<A: Allocator, W: Walks>(
     block: &mut TileBlock<A>,
@@ -269,6 +185,7 @@ pub(crate) fn draw_column<A: Allocator, W: Walks>(
     edges: EdgeWalk<'_>,
     plane: &Plane,
     walk: W,
+    tests: &MadeTests<'_>,
     brush: &Brush,
 ) -> u32
     requires column { IsColumn column.now plane.now.triangle block.old.rect }
@@ -278,13 +195,16 @@ pub(crate) fn draw_column<A: Allocator, W: Walks>(
     requires left { block.old.rect.left ≤ (W.place walk).left }
     requires top { block.old.rect.top ≤ (W.place walk).top }
     requires named { IsNamed plane.now column.now.mask block.old.rect }
+    requires tests { AreOf tests.now brush.now }
     ensures { ColumnDrew (record { brush = brush.now; plane = plane.now; mask = column.now.mask; clip = column.now.clip }) block.old block.new column.now.x result }
 {
-    match brush.tests {
-        Tests::Open => open_column(block, column, edges, plane, *brush),
-        Tests::Depth(func, write) => {
-            depth_column(block, column, edges, walk, func, write, *brush)
+    match tests {
+        MadeTests::Nothing => open_column(block, column, edges, plane, *brush),
+        MadeTests::DepthAlone(func, write) => {
+            depth_column(block, column, edges, walk, *func, *write, *brush)
         }
-        Tests::Stencil => stencil_column(block, column, set, plane, edges, walk, *brush),
+        MadeTests::Both(test) => {
+            stencil_column(block, column, set, plane, edges, walk, test, brush)
+        }
     }
 }

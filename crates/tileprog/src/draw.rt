@@ -6,15 +6,18 @@ ghost use Rattle.gfxspec.specs.Tiles.{IsInTile};
 ghost use Rattle.edges.specs.Walk.{StepRight};
 ghost use Rattle.meaning.specs.Over.{sum_over};
 ghost use Rattle.tileprog.specs.Counting.{stroke_count};
+ghost use Rattle.tileprog.specs.Made.{AreOf};
 ghost use Rattle.tileprog.specs.Strokes.{IsWithin, IsNamed, Stroked};
 
 use crate::brush::Brush;
 use crate::column::column_of;
 use crate::columns::draw_column;
+use crate::kind::{MadeTests, Tests};
 use binner::TriSetup;
 use depthplane::{Plane, Walks};
 use edges::{EdgeSet, EdgeWalk};
 use gfxspec::PixelRect;
+use lanes::StencilTest;
 use std::alloc::Allocator;
 use tileblock::TileBlock;
 
@@ -28,6 +31,7 @@ fn draw_spans<A: Allocator, W: Walks>(
     mut walk: W,
     steps: [i64; 3],
     mask: u8,
+    tests: &MadeTests<'_>,
     brush: &Brush,
     clip: PixelRect,
     first: u32,
@@ -40,6 +44,7 @@ fn draw_spans<A: Allocator, W: Walks>(
     requires set { set.now ≡ plane.now.triangle }
     requires named { IsNamed plane.now mask block.old.rect }
     requires steps { StepRight plane.now.triangle steps }
+    requires tests { AreOf tests.now brush.now }
     requires begun { block.old.rect.left + 8 * first ≤ clip.left }
     requires begins { clip.left < block.old.rect.left + 8 * first + 8 }
     requires ends { block.old.rect.left + 8 * past < clip.right + 8 }
@@ -62,6 +67,7 @@ fn draw_spans<A: Allocator, W: Walks>(
             edges.copied(),
             plane,
             walk.copied(),
+            tests,
             brush,
         );
         passed += more;
@@ -69,6 +75,46 @@ fn draw_spans<A: Allocator, W: Walks>(
         walk.eight_right();
     }
     passed
+}
+
+/// A triangle over the pixels of a clip rectangle in a tile, under tests that are made; the answer is how many pass.
+#[inline(never)]
+fn draw_tested<A: Allocator>(
+    block: &mut TileBlock<A>,
+    triangle: &TriSetup,
+    mask: u8,
+    tests: &MadeTests<'_>,
+    brush: &Brush,
+    clip: PixelRect,
+) -> u32
+    requires within { IsWithin clip block.old.rect }
+    requires tile { IsInTile block.old.rect }
+    requires wide { block.old.rect.left + 32 ≤ side_bound }
+    requires high { block.old.rect.top + 32 ≤ side_bound }
+    requires named { IsNamed triangle.now.plane mask block.old.rect }
+    requires tests { AreOf tests.now brush.now }
+    ensures drew { Stroked (record { brush = brush.now; plane = triangle.now.plane; mask = mask; clip = clip }) block.old block.new }
+    ensures count { result ≡ sum_over block.old.rect (stroke_count (record { brush = brush.now; plane = triangle.now.plane; mask = mask; clip = clip }) block.old) }
+    ensures few { result ≤ 1024 }
+{
+    let rect = block.rect();
+    let first = (clip.left - rect.left) / 8;
+    let past = (clip.right - rect.left + 7) / 8;
+    let left = rect.left + 8 * first;
+    let set = triangle.edges.unpacked();
+    let steps = set.steps();
+    let edges = set.walk(left, clip.top);
+    let plane = &triangle.plane;
+    if plane.is_biased() {
+        let biased = plane.walk_eight_biased(left, clip.top);
+        return draw_spans(
+            block, &set, plane, edges, biased, steps, mask, tests, brush, clip, first, past,
+        );
+    }
+    let walk = plane.walk_eight(left, clip.top);
+    draw_spans(
+        block, &set, plane, edges, walk, steps, mask, tests, brush, clip, first, past,
+    )
 }
 
 /// A triangle over the pixels of a clip rectangle in a tile; the answer is how many pass.
@@ -88,22 +134,15 @@ pub(crate) fn draw<A: Allocator>(
     ensures count { result ≡ sum_over block.old.rect (stroke_count (record { brush = brush.now; plane = triangle.now.plane; mask = mask; clip = clip }) block.old) }
     ensures few { result ≤ 1024 }
 {
-    let rect = block.rect();
-    let first = (clip.left - rect.left) / 8;
-    let past = (clip.right - rect.left + 7) / 8;
-    let left = rect.left + 8 * first;
-    let set = triangle.edges.unpacked();
-    let steps = set.steps();
-    let edges = set.walk(left, clip.top);
-    let plane = &triangle.plane;
-    if plane.is_biased() {
-        let biased = plane.walk_eight_biased(left, clip.top);
-        return draw_spans(
-            block, &set, plane, edges, biased, steps, mask, brush, clip, first, past,
-        );
+    match brush.tests {
+        Tests::Open => draw_tested(block, triangle, mask, &MadeTests::Nothing, brush, clip),
+        Tests::Depth(func, write) => {
+            let tests = MadeTests::DepthAlone(func, write);
+            draw_tested(block, triangle, mask, &tests, brush, clip)
+        }
+        Tests::Stencil => {
+            let test = StencilTest::of(&brush.state, brush.front, brush.reference);
+            draw_tested(block, triangle, mask, &MadeTests::Both(&test), brush, clip)
+        }
     }
-    let walk = plane.walk_eight(left, clip.top);
-    draw_spans(
-        block, &set, plane, edges, walk, steps, mask, brush, clip, first, past,
-    )
 }

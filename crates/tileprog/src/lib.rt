@@ -19,6 +19,7 @@ mod order;
 mod program;
 mod rows;
 mod spans;
+mod stencils;
 mod tile;
 mod triangles;
 mod words;

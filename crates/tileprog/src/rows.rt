@@ -4,9 +4,9 @@ ghost use Rattle.std.specs.Prelude.{◌≡◌, ◌<◌, ◌≤◌, ◌+◌, ◌&
 ghost use Rattle.gfxspec.specs.Limits.{side_bound};
 ghost use Rattle.gfxspec.specs.Raster.{centre};
 ghost use Rattle.edges.specs.Walk.{StepRight};
-ghost use Rattle.lanes.specs.Stencil.{has};
+ghost use Rattle.lanes.specs.Stencil.{has, reference_passes};
 ghost use Rattle.tileprog.specs.declared.kind.Tests.TheVariants.{Open, Depth, Stencil};
-ghost use Rattle.tileprog.specs.Cells.{AllHave, AreOpen, IsUnwritten};
+ghost use Rattle.tileprog.specs.Cells.{AllHave, AreCovered, IsStill, IsUnwritten};
 ghost use Rattle.tileprog.specs.Columns.{IsColumn, IsRow, RowDrew};
 ghost use Rattle.tileprog.specs.Edges.{passes_edges};
 ghost use Rattle.tileprog.specs.Kinds.{tests_of};
@@ -14,7 +14,9 @@ ghost use Rattle.tileprog.specs.Strokes.{IsNamed};
 
 use crate::brush::Brush;
 use crate::column::Column;
-use crate::spans::{cover, draw_alike, draw_depths, draw_open, draw_stencils, lanes_in};
+use crate::spans::{
+    cover, draw_alike, draw_depths, draw_open, draw_stencils, keep_alike, lanes_in,
+};
 use depthplane::{Plane, Walks};
 use edges::EdgeWalk;
 use gfxspec::Compare;
@@ -127,7 +129,7 @@ pub(crate) fn stencil_row<A: Allocator, W: Walks>(
     requires named { IsNamed (W.place walk.now).plane column.now.mask block.old.rect }
     requires kind { tests_of brush.now.state ≡ Stencil }
     requires test { test.now ≡ record { setting = brush.now.state; face = if brush.now.front then brush.now.state.front else brush.now.state.back; reference = brush.now.reference } }
-    requires covered { IsTrue covered → AreOpen column.now.mask (W.place walk.now).plane.triangle block.old.rect column.now.x row (row + 1) }
+    requires covered { IsTrue covered → AreCovered true column.now.mask (W.place walk.now).plane.triangle block.old.rect column.now.x row (row + 1) }
     requires known { IfSome known (λ deep. AllHave deep brush.now.state (W.place walk.now).plane block.old column.now.x row (row + 1)) }
     requires unwritten { IfSome known (IsUnwritten brush.now.state) }
     ensures { RowDrew (record { brush = brush.now; plane = (W.place walk.now).plane; mask = column.now.mask; clip = column.now.clip }) block.old block.new column.now.x (block.old.rect.top + row) result }
@@ -137,10 +139,46 @@ pub(crate) fn stencil_row<A: Allocator, W: Walks>(
         return 0;
     }
     if let Some(deep) = known {
-        let alike = draw_alike(block, column.span, row, cover, deep, test, brush);
+        let alike = draw_alike(block, column.span, row, cover, deep, false, test, brush);
         return lanes_in(alike);
     }
     let depths = walk.depths();
     let bits = draw_stencils(block, column.span, row, cover, &depths, test, brush);
+    lanes_in(bits)
+}
+
+/// A span of which all pixels are covered under a brush with a stencil test, where the depth test passes at all or at none; the answer is
+/// how many pixels pass. The stencil test is asked unless it is known to pass always, and nothing is stored where nothing changes:
+/// loops over rows have these two as constants.
+#[inline(always)]
+pub(crate) fn alike_row<A: Allocator>(
+    block: &mut TileBlock<A>,
+    column: &Column,
+    plane: &Plane,
+    row: u32,
+    deep: bool,
+    always: bool,
+    still: bool,
+    test: &StencilTest,
+    brush: &Brush,
+) -> u32
+    requires column { IsColumn column.now plane.now.triangle block.old.rect }
+    requires within { column.now.within ≡ 255 }
+    requires row { IsRow column.now block.old.rect row }
+    requires named { IsNamed plane.now column.now.mask block.old.rect }
+    requires kind { tests_of brush.now.state ≡ Stencil }
+    requires test { test.now ≡ record { setting = brush.now.state; face = if brush.now.front then brush.now.state.front else brush.now.state.back; reference = brush.now.reference } }
+    requires covered { AreCovered true column.now.mask plane.now.triangle block.old.rect column.now.x row (row + 1) }
+    requires deep { AllHave deep brush.now.state plane.now block.old column.now.x row (row + 1) }
+    requires unwritten { IsUnwritten brush.now.state deep }
+    requires always { IsTrue always → (v : ℕ) → reference_passes test.now v ≡ true }
+    requires still { IsTrue still → IsStill brush.now test.now deep }
+    ensures { RowDrew (record { brush = brush.now; plane = plane.now; mask = column.now.mask; clip = column.now.clip }) block.old block.new column.now.x (block.old.rect.top + row) result }
+{
+    if still {
+        let kept = keep_alike(block, column.span, row, 255, deep, test, brush);
+        return lanes_in(kept);
+    }
+    let bits = draw_alike(block, column.span, row, 255, deep, always, test, brush);
     lanes_in(bits)
 }

@@ -1,15 +1,15 @@
 //! One span of eight pixels.
 
-ghost use Rattle.std.specs.Prelude.{◌≡◌, ◌<◌, ◌≤◌, ◌+◌, ◌==◌, ◌&&◌, ◌||◌, not, true, ℕ, List, slice_index, if◌then◌else◌};
+ghost use Rattle.std.specs.Prelude.{◌≡◌, ◌<◌, ◌≤◌, ◌+◌, ◌==◌, ◌&&◌, ◌||◌, not, true, IsTrue, ℕ, List, slice_index, if◌then◌else◌};
 ghost use Rattle.std.specs.Int.{bit_at};
 ghost use Rattle.gfxspec.specs.Limits.{side_bound};
 ghost use Rattle.gfxspec.specs.Raster.{centre};
 ghost use Rattle.gfxspec.specs.DepthStencil.{compares, depth_passes};
 ghost use Rattle.edges.specs.Walk.{StepRight};
-ghost use Rattle.lanes.specs.Stencil.{has};
+ghost use Rattle.lanes.specs.Stencil.{has, reference_passes};
 ghost use Rattle.tileblock.specs.SpanStored.{SpanStored, lane_pixel};
 ghost use Rattle.tileprog.specs.Edges.{passes_edges};
-ghost use Rattle.tileprog.specs.Cells.{IsUnwritten};
+ghost use Rattle.tileprog.specs.Cells.{IsStill, IsUnwritten};
 ghost use Rattle.tileprog.specs.Kinds.{tests_of};
 ghost use Rattle.tileprog.specs.declared.kind.Tests.TheVariants.{Open, Depth, Stencil};
 ghost use Rattle.tileprog.specs.Counting.{eight, one_if};
@@ -265,11 +265,77 @@ fn all_lanes(set: bool) -> u8
     if set { 255 } else { 0 }
 }
 
+/// Bit j is set where the stencil test passes at stored value j, which isn't looked at where it is known to pass always.
+#[inline(always)]
+fn passing_mask(test: &StencilTest, always: bool, stored: &[u8; 8]) -> u8
+    requires { IsTrue always → (v : ℕ) → reference_passes test.now v ≡ true }
+    ensures { (j : ℕ) → j < 8 → has result j ≡ reference_passes test.now (slice_index stored.now j) }
+{
+    if always { 255 } else { test.passes(stored) }
+}
+
 /// Draws the span's covered pixels under a brush with a stencil test, where the depth test is known to pass at each of them, or at
 /// none, and no depth is stored; the answer has a bit for each that passes.
 #[inline(always)]
 pub(crate) fn draw_alike<A: Allocator>(
     block: &mut TileBlock<A>,
+    span: u32,
+    row: u32,
+    cover: u8,
+    deep: bool,
+    always: bool,
+    test: &StencilTest,
+    brush: &Brush,
+) -> u8
+    requires span { span < 4 }
+    requires row { row < 32 }
+    requires kind { tests_of brush.now.state ≡ Stencil }
+    requires test { test.now ≡ record { setting = brush.now.state; face = if brush.now.front then brush.now.state.front else brush.now.state.back; reference = brush.now.reference } }
+    requires unwritten { IsUnwritten brush.now.state deep }
+    requires always { IsTrue always → (v : ℕ) → reference_passes test.now v ≡ true }
+    ensures block { (new : List ℕ) → ((j : ℕ) → j < 8 → has cover j ≡ true → depth_passes brush.now.state (slice_index new j) (lane_pixel block.old span row j).ds.depth ≡ deep)
+        → SpanStored block.old block.new span row (drawn_lane brush.now cover new) }
+    ensures bits { (new : List ℕ) → ((j : ℕ) → j < 8 → has cover j ≡ true → depth_passes brush.now.state (slice_index new j) (lane_pixel block.old span row j).ds.depth ≡ deep)
+        → ArePassed brush.now block.old span row cover new result }
+{
+    let all = all_lanes(deep);
+    let stored = block.stencil_span(span, row);
+    let passing = passing_mask(test, always, &stored);
+    let passed = cover & (passing & all);
+    change_stencils(block, span, row, cover, &stored, passing, all, test);
+    paint_span(block, span, row, passed, brush);
+    passed
+}
+
+/// Whether a brush keeps the colours of the pixels at which both tests pass, if the depth test does.
+#[inline(always)]
+fn keeps_colors(deep: bool, brush: &Brush) -> bool
+    ensures { IsTrue result → deep ≡ true → (brush.now.write.keep ≡ 4294967295) × (brush.now.write.flip ≡ 0) }
+{
+    if !deep {
+        return true;
+    }
+    brush.write.keep == u32::MAX && brush.write.flip == 0
+}
+
+/// Whether a brush changes nothing where the stencil test passes, as it always does, and the depth test passes at all pixels or at none.
+#[inline(always)]
+pub(crate) fn is_still(deep: bool, test: &StencilTest, brush: &Brush) -> bool
+    requires { (v : ℕ) → reference_passes test.now v ≡ true }
+    ensures { IsTrue result → IsStill brush.now test.now deep }
+{
+    let kept = keeps_colors(deep, brush);
+    if !kept {
+        return false;
+    }
+    test.keeps(255, 255, all_lanes(deep))
+}
+
+/// The covered pixels of a span that pass, where nothing changes. Nothing that is read is used, so nothing is left of it when it is
+/// compiled.
+#[inline(always)]
+pub(crate) fn keep_alike<A: Allocator>(
+    block: &TileBlock<A>,
     span: u32,
     row: u32,
     cover: u8,
@@ -282,18 +348,15 @@ pub(crate) fn draw_alike<A: Allocator>(
     requires kind { tests_of brush.now.state ≡ Stencil }
     requires test { test.now ≡ record { setting = brush.now.state; face = if brush.now.front then brush.now.state.front else brush.now.state.back; reference = brush.now.reference } }
     requires unwritten { IsUnwritten brush.now.state deep }
-    ensures block { (new : List ℕ) → ((j : ℕ) → j < 8 → has cover j ≡ true → depth_passes brush.now.state (slice_index new j) (lane_pixel block.old span row j).ds.depth ≡ deep)
-        → SpanStored block.old block.new span row (drawn_lane brush.now cover new) }
-    ensures bits { (new : List ℕ) → ((j : ℕ) → j < 8 → has cover j ≡ true → depth_passes brush.now.state (slice_index new j) (lane_pixel block.old span row j).ds.depth ≡ deep)
-        → ArePassed brush.now block.old span row cover new result }
+    requires still { IsStill brush.now test.now deep }
+    ensures block { (new : List ℕ) → ((j : ℕ) → j < 8 → has cover j ≡ true → depth_passes brush.now.state (slice_index new j) (lane_pixel block.now span row j).ds.depth ≡ deep)
+        → SpanStored block.now block.now span row (drawn_lane brush.now cover new) }
+    ensures bits { (new : List ℕ) → ((j : ℕ) → j < 8 → has cover j ≡ true → depth_passes brush.now.state (slice_index new j) (lane_pixel block.now span row j).ds.depth ≡ deep)
+        → ArePassed brush.now block.now span row cover new result }
 {
-    let all = all_lanes(deep);
-    let stored = block.stencil_span(span, row);
-    let passing = test.passes(&stored);
-    let passed = cover & (passing & all);
-    change_stencils(block, span, row, cover, &stored, passing, all, test);
-    paint_span(block, span, row, passed, brush);
-    passed
+    let _stored = block.stencil_span(span, row);
+    let _colors = block.color_span(span, row);
+    cover & all_lanes(deep)
 }
 
 /// How many bits a mask of eight lanes has.

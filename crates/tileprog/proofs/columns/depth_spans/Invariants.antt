@@ -1,5 +1,5 @@
 use Rattle.std.proofs.Common.{◌≡◌, ◌+◌, ◌*◌, ◌≤◌}
-use Rattle.tileprog.proofs.Columning.{SoFar}
+use Rattle.tileprog.specs.Columns.{SoFar}
 use Rattle.tileprog.proofs.columns.depth_spans.Given as goal
 
 abbrev pub invariant-loop-row : goal.invariant-loop-row

@@ -13,13 +13,13 @@ returns-clause-block g c = λ new known.
     let b = c.args.brush.now in
     let old = c.args.block.now in
     let cover = c.args.cover in
-    let passing = c.passes-passing.result in
+    let passing = c.passing_mask-passing.result in
     let all = c.all_lanes-all.result in
     let bits = bit_and cover (bit_and passing all) in
     let both = joined old c.change_stencils.new.block c.paint_span.new.block c.args.span c.args.row (operated_lane c.args.test.now cover passing all) (painted_lane b bits) c.change_stencils.ensures c.paint_span.ensures in
     changed old c.paint_span.new.block c.args.span c.args.row _ _ both (λ j h.
     let p = lane_pixel old c.args.span c.args.row j in
-    let passes = c.passes-passing.ensures j h ∙ (λ i. reference_passes (c.requires.test i) (c.stencil_span-stored.ensures j h i)) in
+    let passes = c.passing_mask-passing.ensures j h ∙ (λ i. reference_passes (c.requires.test i) (c.stencil_span-stored.ensures j h i)) in
     let after = ap (λ r. stencil_after r (has passing j) (has all j) p.ds.stencil) c.requires.test in
     let is = c.all_lanes-all.ensures j h in
     alike_lane b c.requires.kind (slice_index new j) p (has passing j) (has all j) _ passes after (λ e. c.requires.unwritten (sym is ∙ e)) (has cover j) (has bits j)
@@ -30,12 +30,12 @@ returns-clause-bits g c = λ new known.
     let b = c.args.brush.now in
     let old = c.args.block.now in
     let cover = c.args.cover in
-    let passing = c.passes-passing.result in
+    let passing = c.passing_mask-passing.result in
     let all = c.all_lanes-all.result in
     record {
       each = λ j h.
           let p = lane_pixel old c.args.span c.args.row j in
-          let passes = c.passes-passing.ensures j h ∙ (λ i. reference_passes (c.requires.test i) (c.stencil_span-stored.ensures j h i)) in
+          let passes = c.passing_mask-passing.ensures j h ∙ (λ i. reference_passes (c.requires.test i) (c.stencil_span-stored.ensures j h i)) in
           let after = ap (λ r. stencil_after r (has passing j) (has all j) p.ds.stencil) c.requires.test in
           let is = c.all_lanes-all.ensures j h in
           has_both cover _ j _ (has_both passing all j (has all j) refl)

@@ -10,7 +10,7 @@ returns-then-cover-passing-eq0 c = λ t.
     let i = c.self.invariant in
     let P : StencilRule → Type 0 = λ r. (j v : ℕ) → j < 8 → has c.args.cover j ≡ true → v < 256 → stencil_after r (has c.args.passing j) (has c.args.deep j) v ≡ v in
     let here : P (rule_of w) = λ j v h k l.
-    let small : w.state.write_mask < 256 = omega (arith, i.write_mask, i.mask_fits) in
+    let small : w.state.write_mask < 256 = omega (arith, i.mask_fits) in
     fail_kept (rule_of w) v small l _ _ (fails_there c.args.cover c.args.passing j c.if-cover-passing-eq0.true k) (i.fail_keeps t) in
     subst P c.self.view_is here
 
@@ -20,7 +20,7 @@ returns-then-cover-passing c = λ t.
     let i = c.self.invariant in
     let P : StencilRule → Type 0 = λ r. (j v : ℕ) → j < 8 → has c.args.cover j ≡ true → v < 256 → stencil_after r (has c.args.passing j) (has c.args.deep j) v ≡ v in
     let here : P (rule_of w) = λ j v h k l.
-    let small : w.state.write_mask < 256 = omega (arith, i.write_mask, i.mask_fits) in
+    let small : w.state.write_mask < 256 = omega (arith, i.mask_fits) in
     let both = passes_there c.args.cover c.args.passing c.args.deep j c.if-cover-passing.true k in
     pass_kept (rule_of w) v small l _ _ both.0 both.1 (i.pass_keeps t) in
     subst P c.self.view_is here
@@ -31,6 +31,6 @@ returns c = λ t.
     let i = c.self.invariant in
     let P : StencilRule → Type 0 = λ r. (j v : ℕ) → j < 8 → has c.args.cover j ≡ true → v < 256 → stencil_after r (has c.args.passing j) (has c.args.deep j) v ≡ v in
     let here : P (rule_of w) = λ j v h k l.
-    let small : w.state.write_mask < 256 = omega (arith, i.write_mask, i.mask_fits) in
+    let small : w.state.write_mask < 256 = omega (arith, i.mask_fits) in
     all_kept (rule_of w) v small l (has c.args.passing j) (has c.args.deep j) (i.all_keep t) in
     subst P c.self.view_is here

@@ -1,0 +1,14 @@
+use Rattle.std.proofs.Common.{◌≡◌, ◌+◌}
+use Rattle.tileprog.specs.Cells.{AllHave}
+use Rattle.tileprog.specs.Columns.{Continues}
+use Rattle.tileprog.proofs.stencils.alike_rows.Given as goal
+
+abbrev pub invariant-loop-at : goal.invariant-loop-at
+invariant-loop-at g l =
+    let k = l.column in
+    let old = l.fn.block in
+    record {
+      rect : l.block.rect ≡ old.rect;
+      deep : AllHave l.deep l.brush.state l.plane l.block k.x l.at (l.row + 8);
+      continues : Continues (record { brush = l.brush; plane = l.plane; mask = k.mask; clip = k.clip }) old l.block k.x (old.rect.top + l.row) (old.rect.top + l.at) l.passed;
+    }

@@ -1,0 +1,53 @@
+use Rattle.std.proofs.Common.{◌≡◌, ◌∙◌, ap, sym, subst, refl, rules, arith, ◌+◌, ◌*◌, ◌≤◌}
+use Rattle.gfxspec.specs.declared.geometry.PixelRect.{PixelRect}
+use Rattle.depthplane.specs.Places.{Places}
+use Rattle.tileprog.specs.Columns.{Continues}
+use Rattle.tileprog.specs.Strokes.{Stroke}
+use Rattle.tileprog.proofs.Columning.{none_yet, rows_behind, column_behind}
+use Rattle.tileprog.proofs.stencils.each_cell.Goals as goal
+
+pub loop-k-init : goal.loop-k-init
+loop-k-init g c =
+    let k = c.args.column.now in
+    let plane = c.args.plane.now in
+    let s : Stroke = record { brush = c.args.brush.now; plane = plane; mask = k.mask; clip = k.clip } in
+    let old = c.args.block.now in
+    let start = g.W.Walks.place c.args.walk in
+    let here : old.rect.top ≡ old.rect.top + 8 * 0 = omega arith in
+    let first = c.requires.long.top ∙ here in
+    record {
+      edges = c.requires.edges ∙ (λ i. record { triangle = plane.triangle; x = k.x; y = first i });
+      walk = λ i. record start { x = ap (λ (p : Places). p.x) c.requires.walk i; y = (ap (λ (p : Places). p.y) c.requires.walk ∙ first) i };
+      rect = refl;
+      continues = subst (λ z. Continues s old old k.x old.rect.top z 0) here (none_yet s old k.x old.rect.top);
+    }
+
+pub loop-k-preserved : goal.loop-k-preserved
+loop-k-preserved g c =
+    let k = c.args.column.now in
+    let plane = c.args.plane.now in
+    let s : Stroke = record { brush = c.args.brush.now; plane = plane; mask = k.mask; clip = k.clip } in
+    let old = c.args.block.now in
+    let mid = c.loop-k.block in
+    let new = c.cell_rows-more.new.block in
+    let row = 8 * c.loop-k.k in
+    let inv = c.loop-k.invariant in
+    let top_is = ap (λ (r : PixelRect). r.top) inv.rect in
+    record {
+      edges = search rules;
+      walk = search rules;
+      rect = c.cell_rows-more.ensures.rect ∙ inv.rect;
+      continues = rows_behind s old mid new k.x old.rect.top (old.rect.top + row) (mid.rect.top + row) (mid.rect.top + (row + 8)) (old.rect.top + 8 * (c.loop-k.k + 1)) c.loop-k.passed c.cell_rows-more.result inv.continues c.cell_rows-more.ensures
+          (ap (λ v. v + row) top_is) (omega (arith, top_is));
+    }
+
+pub returns : goal.returns
+returns g c =
+    let k = c.args.column.now in
+    let s : Stroke = record { brush = c.args.brush.now; plane = c.args.plane.now; mask = k.mask; clip = k.clip } in
+    let old = c.args.block.now in
+    let n = c.loop-k.k in
+    let done : n ≡ 4 = search rules in
+    let top = c.requires.long.top in
+    let bottom = c.requires.long.bottom in
+    column_behind s old c.loop-k.block k.x old.rect.top (old.rect.top + 8 * n) c.loop-k.passed c.loop-k.invariant.continues (sym top) (omega (arith, done, bottom)) (omega (arith, top, bottom))

@@ -1,0 +1,18 @@
+use Rattle.std.proofs.Common.{◌≡◌, ◌+◌}
+use Rattle.std.specs.Prelude.{IfSome}
+use Rattle.tileprog.specs.Cells.{AllHave}
+use Rattle.tileprog.specs.Columns.{Continues}
+use Rattle.tileprog.proofs.stencils.each_row.Given as goal
+
+abbrev pub invariant-loop-at : goal.invariant-loop-at
+invariant-loop-at g l =
+    let k = l.fn.column in
+    let old = l.fn.block in
+    let start = g.W.Walks.place l.fn.walk in
+    record {
+      edges : l.edges ≡ record { triangle = start.plane.triangle; x = k.x; y = old.rect.top + l.at };
+      walk : g.W.Walks.place l.walk ≡ record start { x = k.x; y = old.rect.top + l.at };
+      rect : l.block.rect ≡ old.rect;
+      known : IfSome l.known (λ deep. AllHave deep l.brush.state start.plane l.block k.x l.at l.past);
+      continues : Continues (record { brush = l.brush; plane = start.plane; mask = k.mask; clip = k.clip }) old l.block k.x (old.rect.top + l.row) (old.rect.top + l.at) l.passed;
+    }

@@ -1,0 +1,388 @@
+//! Columns under a stencil test, cell by cell: what eight rows have in common is asked once.
+
+ghost use Rattle.std.specs.Prelude.{◌≡◌, ◌<◌, ◌≤◌, ◌+◌, ◌*◌, ℕ, true, false, IsTrue, IfSome, if◌then◌else◌};
+ghost use Rattle.gfxspec.specs.Limits.{side_bound};
+ghost use Rattle.lanes.specs.Stencil.{reference_passes};
+ghost use Rattle.tileprog.specs.declared.kind.Tests.TheVariants.{Stencil};
+ghost use Rattle.tileprog.specs.Cells.{AllHave, AreCovered, IsLong, IsStill, IsUnwritten, Tells};
+ghost use Rattle.tileprog.specs.Columns.{IsColumn, ColumnDrew, Continues};
+ghost use Rattle.tileprog.specs.Kinds.{tests_of};
+ghost use Rattle.tileprog.specs.Strokes.{IsNamed};
+
+use crate::brush::Brush;
+use crate::cells::{Cell, cell_of, is_long};
+use crate::column::Column;
+use crate::rows::{alike_row, stencil_row};
+use crate::spans::is_still;
+use depthplane::{Plane, Walks};
+use edges::{EdgeSet, EdgeWalk};
+use lanes::StencilTest;
+use std::alloc::Allocator;
+use tileblock::TileBlock;
+
+/// The rows of a column from `row` on and before `past`, one by one; the answer is how many pixels pass. Where the edges are known to
+/// hold they aren't looked at, and where the depth test's outcome is known no depth is.
+#[inline(always)]
+fn each_row<A: Allocator, W: Walks>(
+    block: &mut TileBlock<A>,
+    column: &Column,
+    mask: u8,
+    row: u32,
+    past: u32,
+    mut edges: EdgeWalk<'_>,
+    mut walk: W,
+    covered: bool,
+    known: Option<bool>,
+    test: &StencilTest,
+    brush: &Brush,
+) -> u32
+    requires same { mask ≡ column.now.mask }
+    requires column { IsColumn column.now (W.place walk).plane.triangle block.old.rect }
+    requires first { column.now.clip.top ≤ block.old.rect.top + row }
+    requires order { row ≤ past }
+    requires last { block.old.rect.top + past ≤ column.now.clip.bottom }
+    requires edges { edges ≡ record { triangle = (W.place walk).plane.triangle; x = column.now.x; y = block.old.rect.top + row } }
+    requires walk { W.place walk ≡ record (W.place walk) { x = column.now.x; y = block.old.rect.top + row } }
+    requires left { block.old.rect.left ≤ (W.place walk).left }
+    requires top { block.old.rect.top ≤ (W.place walk).top }
+    requires named { IsNamed (W.place walk).plane column.now.mask block.old.rect }
+    requires kind { tests_of brush.now.state ≡ Stencil }
+    requires test { test.now ≡ record { setting = brush.now.state; face = if brush.now.front then brush.now.state.front else brush.now.state.back; reference = brush.now.reference } }
+    requires covered { IsTrue covered → AreCovered true column.now.mask (W.place walk).plane.triangle block.old.rect column.now.x row past }
+    requires known { IfSome known (λ deep. AllHave deep brush.now.state (W.place walk).plane block.old column.now.x row past) }
+    requires unwritten { IfSome known (IsUnwritten brush.now.state) }
+    ensures { Continues (record { brush = brush.now; plane = (W.place walk).plane; mask = column.now.mask; clip = column.now.clip }) block.old block.new column.now.x (block.old.rect.top + row) (block.old.rect.top + past) result }
+{
+    let mut passed = 0u32;
+    for at in row..past {
+        let more = stencil_row(
+            block, column, mask, at, &edges, &walk, covered, known, test, brush,
+        );
+        passed += more;
+        edges.down();
+        walk.next();
+    }
+    passed
+}
+
+/// Eight rows of a column from `row` on, of which all pixels are covered and the depth test passes at all or at none; the answer is how
+/// many pass.
+#[inline(always)]
+fn alike_rows<A: Allocator>(
+    block: &mut TileBlock<A>,
+    column: &Column,
+    plane: &Plane,
+    row: u32,
+    deep: bool,
+    always: bool,
+    still: bool,
+    test: &StencilTest,
+    brush: &Brush,
+) -> u32
+    requires column { IsColumn column.now plane.now.triangle block.old.rect }
+    requires long { IsLong column.now block.old.rect }
+    requires row { row + 8 ≤ 32 }
+    requires named { IsNamed plane.now column.now.mask block.old.rect }
+    requires kind { tests_of brush.now.state ≡ Stencil }
+    requires test { test.now ≡ record { setting = brush.now.state; face = if brush.now.front then brush.now.state.front else brush.now.state.back; reference = brush.now.reference } }
+    requires covered { AreCovered true column.now.mask plane.now.triangle block.old.rect column.now.x row (row + 8) }
+    requires deep { AllHave deep brush.now.state plane.now block.old column.now.x row (row + 8) }
+    requires unwritten { IsUnwritten brush.now.state deep }
+    requires always { IsTrue always → (v : ℕ) → reference_passes test.now v ≡ true }
+    requires still { IsTrue still → IsStill brush.now test.now deep }
+    ensures { Continues (record { brush = brush.now; plane = plane.now; mask = column.now.mask; clip = column.now.clip }) block.old block.new column.now.x (block.old.rect.top + row) (block.old.rect.top + (row + 8)) result }
+{
+    let mut passed = 0u32;
+    for at in row..row + 8 {
+        let more = alike_row(block, column, plane, at, deep, always, still, test, brush);
+        passed += more;
+    }
+    passed
+}
+
+/// The same where the stencil test passes always: where nothing changes, pixels are only counted.
+#[inline(always)]
+fn sure_rows<A: Allocator>(
+    block: &mut TileBlock<A>,
+    column: &Column,
+    plane: &Plane,
+    row: u32,
+    deep: bool,
+    test: &StencilTest,
+    brush: &Brush,
+) -> u32
+    requires column { IsColumn column.now plane.now.triangle block.old.rect }
+    requires long { IsLong column.now block.old.rect }
+    requires row { row + 8 ≤ 32 }
+    requires named { IsNamed plane.now column.now.mask block.old.rect }
+    requires kind { tests_of brush.now.state ≡ Stencil }
+    requires test { test.now ≡ record { setting = brush.now.state; face = if brush.now.front then brush.now.state.front else brush.now.state.back; reference = brush.now.reference } }
+    requires covered { AreCovered true column.now.mask plane.now.triangle block.old.rect column.now.x row (row + 8) }
+    requires deep { AllHave deep brush.now.state plane.now block.old column.now.x row (row + 8) }
+    requires unwritten { IsUnwritten brush.now.state deep }
+    requires always { (v : ℕ) → reference_passes test.now v ≡ true }
+    ensures { Continues (record { brush = brush.now; plane = plane.now; mask = column.now.mask; clip = column.now.clip }) block.old block.new column.now.x (block.old.rect.top + row) (block.old.rect.top + (row + 8)) result }
+{
+    let still = is_still(deep, test, brush);
+    if still {
+        alike_rows(block, column, plane, row, deep, true, true, test, brush)
+    } else {
+        alike_rows(block, column, plane, row, deep, true, false, test, brush)
+    }
+}
+
+/// The same where the stencil test's outcome may be known: each loop over rows has what is known as a constant.
+#[inline(always)]
+fn known_rows<A: Allocator>(
+    block: &mut TileBlock<A>,
+    column: &Column,
+    plane: &Plane,
+    row: u32,
+    deep: bool,
+    test: &StencilTest,
+    brush: &Brush,
+) -> u32
+    requires column { IsColumn column.now plane.now.triangle block.old.rect }
+    requires long { IsLong column.now block.old.rect }
+    requires row { row + 8 ≤ 32 }
+    requires named { IsNamed plane.now column.now.mask block.old.rect }
+    requires kind { tests_of brush.now.state ≡ Stencil }
+    requires test { test.now ≡ record { setting = brush.now.state; face = if brush.now.front then brush.now.state.front else brush.now.state.back; reference = brush.now.reference } }
+    requires covered { AreCovered true column.now.mask plane.now.triangle block.old.rect column.now.x row (row + 8) }
+    requires deep { AllHave deep brush.now.state plane.now block.old column.now.x row (row + 8) }
+    requires unwritten { IsUnwritten brush.now.state deep }
+    ensures { Continues (record { brush = brush.now; plane = plane.now; mask = column.now.mask; clip = column.now.clip }) block.old block.new column.now.x (block.old.rect.top + row) (block.old.rect.top + (row + 8)) result }
+{
+    let always = test.always_passes();
+    if !always {
+        return alike_rows(block, column, plane, row, deep, false, false, test, brush);
+    }
+    if deep {
+        sure_rows(block, column, plane, row, true, test, brush)
+    } else {
+        sure_rows(block, column, plane, row, false, test, brush)
+    }
+}
+
+/// A cell: the eight rows of a column from `row` on, of which that is known; the answer is how many pixels pass.
+#[inline(always)]
+fn cell_rows<A: Allocator, W: Walks>(
+    block: &mut TileBlock<A>,
+    column: &Column,
+    mask: u8,
+    plane: &Plane,
+    row: u32,
+    cell: Cell,
+    edges: &EdgeWalk<'_>,
+    walk: &W,
+    test: &StencilTest,
+    brush: &Brush,
+) -> u32
+    requires same { mask ≡ column.now.mask }
+    requires column { IsColumn column.now plane.now.triangle block.old.rect }
+    requires long { IsLong column.now block.old.rect }
+    requires row { row + 8 ≤ 32 }
+    requires edges { edges.now ≡ record { triangle = plane.now.triangle; x = column.now.x; y = block.old.rect.top + row } }
+    requires walk { W.place walk.now ≡ record (W.place walk.now) { plane = plane.now; x = column.now.x; y = block.old.rect.top + row } }
+    requires left { block.old.rect.left ≤ (W.place walk.now).left }
+    requires top { block.old.rect.top ≤ (W.place walk.now).top }
+    requires named { IsNamed plane.now column.now.mask block.old.rect }
+    requires kind { tests_of brush.now.state ≡ Stencil }
+    requires test { test.now ≡ record { setting = brush.now.state; face = if brush.now.front then brush.now.state.front else brush.now.state.back; reference = brush.now.reference } }
+    requires told { Tells cell brush.now.state plane.now column.now.mask block.old column.now.x row }
+    ensures { Continues (record { brush = brush.now; plane = plane.now; mask = column.now.mask; clip = column.now.clip }) block.old block.new column.now.x (block.old.rect.top + row) (block.old.rect.top + (row + 8)) result }
+{
+    let Some(covered) = cell.covered else {
+        return each_row(
+            block,
+            column,
+            mask,
+            row,
+            row + 8,
+            edges.copied(),
+            walk.copied(),
+            false,
+            cell.deep,
+            test,
+            brush,
+        );
+    };
+    if !covered {
+        return 0;
+    }
+    let Some(deep) = cell.deep else {
+        return each_row(
+            block,
+            column,
+            mask,
+            row,
+            row + 8,
+            edges.copied(),
+            walk.copied(),
+            true,
+            None,
+            test,
+            brush,
+        );
+    };
+    known_rows(block, column, plane, row, deep, test, brush)
+}
+
+/// Eight rows further down along the edges.
+#[inline(always)]
+fn edges_below(edges: &mut EdgeWalk<'_>)
+    requires x { edges.old.x < side_bound }
+    requires y { edges.old.y + 8 ≤ side_bound }
+    ensures { edges.new ≡ record edges.old { y = edges.old.y + 8 } }
+{
+    for _ in 0..8u32 {
+        edges.down();
+    }
+}
+
+/// Eight rows further down along the depths.
+#[inline(always)]
+fn depths_below<W: Walks>(walk: &mut W)
+    requires { (W.place walk.old).y + 8 ≤ side_bound }
+    ensures { W.place walk.new ≡ record (W.place walk.old) { y = (W.place walk.old).y + 8 } }
+{
+    for _ in 0..8u32 {
+        walk.next();
+    }
+}
+
+/// A column in all rows of a tile, cell by cell, with the mask of its edges known to the loop.
+#[inline(always)]
+fn each_cell<A: Allocator, W: Walks>(
+    block: &mut TileBlock<A>,
+    column: &Column,
+    mask: u8,
+    set: &EdgeSet,
+    plane: &Plane,
+    mut edges: EdgeWalk<'_>,
+    mut walk: W,
+    test: &StencilTest,
+    brush: &Brush,
+) -> u32
+    requires same { mask ≡ column.now.mask }
+    requires column { IsColumn column.now plane.now.triangle block.old.rect }
+    requires long { IsLong column.now block.old.rect }
+    requires edges { edges ≡ record { triangle = plane.now.triangle; x = column.now.x; y = column.now.clip.top } }
+    requires walk { W.place walk ≡ record (W.place walk) { plane = plane.now; x = column.now.x; y = column.now.clip.top } }
+    requires set { set.now ≡ plane.now.triangle }
+    requires left { block.old.rect.left ≤ (W.place walk).left }
+    requires top { block.old.rect.top ≤ (W.place walk).top }
+    requires named { IsNamed plane.now column.now.mask block.old.rect }
+    requires kind { tests_of brush.now.state ≡ Stencil }
+    requires test { test.now ≡ record { setting = brush.now.state; face = if brush.now.front then brush.now.state.front else brush.now.state.back; reference = brush.now.reference } }
+    ensures { ColumnDrew (record { brush = brush.now; plane = plane.now; mask = column.now.mask; clip = column.now.clip }) block.old block.new column.now.x result }
+{
+    let mut passed = 0u32;
+    for k in 0..4u32 {
+        let row = 8 * k;
+        let cell = cell_of(block, set, plane, column, mask, row, brush);
+        let more = cell_rows(
+            block, column, mask, plane, row, cell, &edges, &walk, test, brush,
+        );
+        passed += more;
+        edges_below(&mut edges);
+        depths_below(&mut walk);
+    }
+    passed
+}
+
+/// What is known of the depth test of a brush at every pixel.
+#[inline(always)]
+fn untested(brush: &Brush) -> Option<bool>
+    ensures { IfSome result (λ deep. (deep ≡ true) × (brush.now.state.depth ≡ false)) }
+{
+    if brush.state.depth() {
+        None
+    } else {
+        Some(true)
+    }
+}
+
+/// A column in the rows of the clip rectangle, row by row.
+#[inline(always)]
+fn clipped_rows<A: Allocator, W: Walks>(
+    block: &mut TileBlock<A>,
+    column: &Column,
+    plane: &Plane,
+    edges: EdgeWalk<'_>,
+    walk: W,
+    test: &StencilTest,
+    brush: &Brush,
+) -> u32
+    requires column { IsColumn column.now plane.now.triangle block.old.rect }
+    requires edges { edges ≡ record { triangle = plane.now.triangle; x = column.now.x; y = column.now.clip.top } }
+    requires walk { W.place walk ≡ record (W.place walk) { plane = plane.now; x = column.now.x; y = column.now.clip.top } }
+    requires left { block.old.rect.left ≤ (W.place walk).left }
+    requires top { block.old.rect.top ≤ (W.place walk).top }
+    requires named { IsNamed plane.now column.now.mask block.old.rect }
+    requires kind { tests_of brush.now.state ≡ Stencil }
+    requires test { test.now ≡ record { setting = brush.now.state; face = if brush.now.front then brush.now.state.front else brush.now.state.back; reference = brush.now.reference } }
+    ensures { ColumnDrew (record { brush = brush.now; plane = plane.now; mask = column.now.mask; clip = column.now.clip }) block.old block.new column.now.x result }
+{
+    let rect = block.rect();
+    let row = column.clip.top - rect.top;
+    let past = column.clip.bottom - rect.top;
+    let known = untested(brush);
+    each_row(
+        block,
+        column,
+        column.mask,
+        row,
+        past,
+        edges,
+        walk,
+        false,
+        known,
+        test,
+        brush,
+    )
+}
+
+/// A column under a brush with a stencil test; the answer is how many pixels pass.
+#[inline(never)]
+pub(crate) fn stencil_column<A: Allocator, W: Walks>(
+    block: &mut TileBlock<A>,
+    column: &Column,
+    set: &EdgeSet,
+    plane: &Plane,
+    edges: EdgeWalk<'_>,
+    walk: W,
+    test: &StencilTest,
+    brush: &Brush,
+) -> u32
+    requires column { IsColumn column.now plane.now.triangle block.old.rect }
+    requires edges { edges ≡ record { triangle = plane.now.triangle; x = column.now.x; y = column.now.clip.top } }
+    requires walk { W.place walk ≡ record (W.place walk) { plane = plane.now; x = column.now.x; y = column.now.clip.top } }
+    requires set { set.now ≡ plane.now.triangle }
+    requires left { block.old.rect.left ≤ (W.place walk).left }
+    requires top { block.old.rect.top ≤ (W.place walk).top }
+    requires named { IsNamed plane.now column.now.mask block.old.rect }
+    requires kind { tests_of brush.now.state ≡ Stencil }
+    requires test { test.now ≡ record { setting = brush.now.state; face = if brush.now.front then brush.now.state.front else brush.now.state.back; reference = brush.now.reference } }
+    ensures { ColumnDrew (record { brush = brush.now; plane = plane.now; mask = column.now.mask; clip = column.now.clip }) block.old block.new column.now.x result }
+{
+    let long = is_long(block.rect(), column);
+    if !long {
+        return clipped_rows(block, column, plane, edges, walk, test, brush);
+    }
+    if column.mask == 0 {
+        each_cell(block, column, 0, set, plane, edges, walk, test, brush)
+    } else {
+        each_cell(
+            block,
+            column,
+            column.mask,
+            set,
+            plane,
+            edges,
+            walk,
+            test,
+            brush,
+        )
+    }
+}
