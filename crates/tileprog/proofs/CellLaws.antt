@@ -8,8 +8,8 @@ use Rattle.gfxspec.specs.declared.pixel.Pixel.{Pixel}
 use Rattle.gfxspec.specs.declared.pixel.DepthStencil.{DepthStencil}
 use Rattle.gfxspec.specs.declared.geometry.PixelRect.{PixelRect}
 use Rattle.gfxspec.specs.declared.state.Compare.{Compare}
-use Rattle.gfxspec.specs.declared.state.Compare.TheVariants.{Never, Less, Equal, LessEqual, Greater, NotEqual, GreaterEqual, Always}
-use Rattle.gfxspec.specs.DepthStencil.{DepthStencilSetting, TestOutcome, compares, depth_passes}
+use Rattle.gfxspec.specs.declared.state.Compare.TheVariants.{Less, LessEqual, Greater, GreaterEqual}
+use Rattle.gfxspec.specs.DepthStencil.{DepthStencilSetting, compares, depth_passes}
 use Rattle.gfxspec.specs.Color.{written_color}
 use Rattle.gfxspec.specs.Tiles.{IsIn}
 use Rattle.gfxspec.specs.Raster.{Triangle, Point, edge, edge_holds, covers, is_empty}
@@ -20,7 +20,7 @@ use Rattle.lanes.specs.Stencil.{StencilRule, reference_passes, stencil_after}
 use Rattle.tileblock.specs.Block.{Block, pixel_at}
 use Rattle.tileblock.specs.SpanStored.{lane_pixel}
 use Rattle.tileprog.specs.declared.brush.Brush.{Brush}
-use Rattle.tileprog.specs.declared.kind.Tests.TheVariants.{Depth, Stencil}
+use Rattle.tileprog.specs.declared.kind.Tests.TheVariants.{Stencil}
 use Rattle.tileprog.specs.Alike.{opposite}
 use Rattle.tileprog.specs.Brushes.{tested_by, drawn_by}
 use Rattle.tileprog.specs.Cells.{InRows, AllHave, AreCovered, IsStill, IsUnwritten}

@@ -1,5 +1,5 @@
 -- Cells of a column: eight rows of a span, whose depth test has one outcome.
-use Rattle.std.specs.Prelude.{ℕ, ◌≡◌, ◌+◌, ◌<◌, ◌≤◌, Bool, true, false, ◌&&◌, IfSome, IsTrue}
+use Rattle.std.specs.Prelude.{ℕ, ◌≡◌, ◌+◌, ◌<◌, ◌≤◌, Bool, true, false, ◌&&◌, IfSome}
 use Rattle.gfxspec.specs.declared.geometry.PixelRect.{PixelRect}
 use Rattle.gfxspec.specs.DepthStencil.{DepthStencilSetting, depth_passes}
 use Rattle.gfxspec.specs.Raster.{Triangle, edge, covers, centre}

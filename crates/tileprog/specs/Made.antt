@@ -1,6 +1,5 @@
 -- The tests of a word with what is made once for them.
 use Rattle.std.specs.Prelude.{◌≡◌, if◌then◌else◌}
-use Rattle.gfxspec.specs.declared.state.Compare.{Compare}
 use Rattle.tileprog.specs.declared.brush.Brush.{Brush}
 use Rattle.tileprog.specs.declared.kind.MadeTests.{MadeTests}
 use Rattle.tileprog.specs.declared.kind.MadeTests.TheVariants.{Nothing, DepthAlone, Both}

@@ -1,4 +1,4 @@
-use Rattle.std.proofs.Common.{◌∙◌, rules, ◌≡◌, ◌+◌, ◌-◌, ◌%◌, ◌<◌, length, ltb, cond, slice_index}
+use Rattle.std.proofs.Common.{◌∙◌, rules, ◌≡◌, ◌+◌, ◌-◌, ◌%◌, ◌<◌, length, slice_index}
 use Rattle.lanes.proofs.Masks.{lane_of_both, long_by_less, lane_by_less, down_to_the_end}
 use Rattle.lanes.proofs.stencil.lowered_each.Goals as goal
 

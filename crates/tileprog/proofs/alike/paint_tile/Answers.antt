@@ -1,7 +1,4 @@
-use Rattle.std.proofs.Common.{◌≡◌, ◌<◌, subst, ℕ, length, get_or, List, rules}
-use Rattle.std.specs.Int.{from_le_bytes, w32}
-use Rattle.gfxspec.specs.Color.{BlendSetting}
-use Rattle.logicop.specs.declared.color_write.ColorWrite.{ColorWrite}
+use Rattle.std.proofs.Common.{◌≡◌, ◌<◌, subst, ℕ, length, get_or, rules}
 use Rattle.tileprog.specs.Painting.{PaintsAs}
 use Rattle.tileprog.proofs.Painted.{paints_as}
 use Rattle.tileprog.proofs.alike.paint_tile.Goals as goal

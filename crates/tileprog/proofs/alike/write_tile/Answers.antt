@@ -1,4 +1,4 @@
-use Rattle.std.proofs.Common.{◌∙◌, ap, rules, ◌≡◌, ◌<◌, ◌^◌, ◌/◌, ◌%◌, ℕ}
+use Rattle.std.proofs.Common.{◌∙◌, ap, rules, ◌<◌, ◌^◌, ◌/◌, ◌%◌, ℕ}
 use Rattle.std.specs.Prelude.{slice_index}
 use Rattle.std.specs.Int.{to_le_bytes, w32}
 use Rattle.gfxspec.specs.Color.{written_color}

@@ -1,6 +1,6 @@
-use Rattle.std.proofs.Common.{◌≡◌, ◌∙◌, sym, subst, arith, rules, refl, ℕ, ◌+◌, ◌≤◌, Option, Bool, true, false}
+use Rattle.std.proofs.Common.{subst, arith, rules, refl, ℕ, ◌+◌, ◌≤◌, Bool, true, false}
 use Rattle.std.specs.Prelude.{IfSome}
-use Rattle.gfxspec.specs.Raster.{Triangle, centre}
+use Rattle.gfxspec.specs.Raster.{centre}
 use Rattle.gfxspec.specs.Tiles.{IsIn}
 use Rattle.tileprog.specs.Cells.{AreCovered, EdgesAre, InRows}
 use Rattle.tileprog.specs.Edges.{passes_edges}

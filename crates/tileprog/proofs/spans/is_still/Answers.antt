@@ -1,4 +1,4 @@
-use Rattle.std.proofs.Common.{◌≡◌, ◌∙◌, sym, refl, arith, ◌<◌}
+use Rattle.std.proofs.Common.{◌∙◌, sym, refl, arith, ◌<◌}
 use Rattle.lanes.specs.Stencil.{stencil_after}
 use Rattle.tileprog.proofs.Lanes.{has_all}
 use Rattle.tileprog.proofs.spans.is_still.Goals as goal

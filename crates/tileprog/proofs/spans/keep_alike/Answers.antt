@@ -1,4 +1,4 @@
-use Rattle.std.proofs.Common.{◌≡◌, ◌∙◌, sym, subst, rules, ℕ, ◌<◌, ◌^◌}
+use Rattle.std.proofs.Common.{◌∙◌, sym, subst, rules, ℕ, ◌<◌, ◌^◌}
 use Rattle.std.specs.Prelude.{slice_index}
 use Rattle.lanes.specs.Stencil.{has}
 use Rattle.tileblock.specs.SpanStored.{lane_pixel}

@@ -1,4 +1,4 @@
-use Rattle.std.proofs.Common.{◌≡◌, sym, subst, refl, rules, arith, ◌+◌, ◌-◌, ◌<◌, ◌≤◌, Option, Bool, Some, false}
+use Rattle.std.proofs.Common.{sym, subst, refl, arith, ◌+◌, ◌-◌, Option, Bool, Some, false}
 use Rattle.std.specs.Prelude.{IfSome}
 use Rattle.tileprog.specs.Cells.{AreCovered}
 use Rattle.tileprog.specs.Strokes.{Stroke}

@@ -1,4 +1,4 @@
-use Rattle.std.proofs.Common.{◌≡◌, ◌∙◌, ap, sym, refl, rules, arith, ◌+◌, ◌-◌, ◌≤◌}
+use Rattle.std.proofs.Common.{ap, refl, arith, ◌+◌, ◌-◌}
 use Rattle.gfxspec.specs.declared.geometry.PixelRect.{PixelRect}
 use Rattle.depthplane.specs.Places.{Places}
 use Rattle.tileprog.specs.Strokes.{Stroke}
