@@ -1,14 +1,20 @@
--- A batch on the target, over what stands in the code.
-use Rattle.std.proofs.Common.{◌≡◌, ◌∙◌, sym, ap, subst, refl, ℕ, ◌<◌, false, List, [], ◌∷◌, length, map, None, Some, Option}
-use Rattle.std.specs.Prelude.{is_some, Result, Ok, Err, OnOk}
+-- A batch on the target, over what stands in the code, and an execution behind the pending commands.
+use Rattle.std.proofs.Common.{◌≡◌, ◌∙◌, sym, ap, subst, refl, ℕ, ◌<◌, Bool, false, List, [], ◌∷◌, ◌++◌, length, map, None, Some, Option}
+use Rattle.std.specs.Prelude.{is_some}
 use Rattle.std.specs.List.{list_any, cons_option}
-use Rattle.gfxspec.specs.Recorded.{issues, query_begun}
+use Rattle.gfxspec.specs.Recorded.{items, issues, queries_open, query_begun, after_finish}
+use Rattle.gfxspec.specs.Predication.{performed, result_of}
+use Rattle.gfxspec.specs.Refusals.{AreAccepted, is_among}
+use Rattle.meaning.specs.Contexts.{Context, HasRun, shown, answered, performed_next, counted_or, last_begun, result_at}
+use Rattle.meaning.proofs.Folding.{after_items-append}
+use Rattle.meaning.proofs.Performed.{performed_alike}
+use Rattle.meaning.proofs.Predicates.{performed_same, no_last_begun}
 use Rattle.cmdlist.specs.declared.command.Command.{Command as Code}
 use Rattle.cmdlist.specs.Seen.{command_value}
 use Rattle.immediate.proofs.Settled.{first_false, second_false}
 use Rattle.gfxspec.specs.declared.geometry.Size.{Size}
 use Rattle.gfxspec.specs.Items.{Item, after_items}
-use Rattle.gfxspec.specs.Commands.{Command}
+use Rattle.gfxspec.specs.Commands.{Command, Begin}
 use Rattle.gfxspec.specs.Tiles.{tile_count, tile_of, tile_rect, IsIn}
 use Rattle.gfxspec.proofs.TileLaws.{tile_numbered, in_own_tile}
 use Rattle.binmem.specs.Lists.{no_words}
@@ -16,9 +22,9 @@ use Rattle.tileblock.specs.Surface.{Surface, IsWhole, pixel_of}
 use Rattle.binner.specs.Compiled.{Compilation}
 use Rattle.binner.specs.Batched.{MeansItems}
 use Rattle.tileprog.specs.Programs.{ProgramsRan}
-use Rattle.immediate.specs.Outputs.{Outputs, IsOutput}
-use Rattle.immediate.specs.Held.{Held, held_of, outputs_of}
-use Rattle.immediate.specs.Batched.{HasDrawn, HasExecuted}
+use Rattle.immediate.specs.Outputs.{Outputs, IsOutput, performed_over}
+use Rattle.immediate.specs.Held.{Held, outputs_of, context_of}
+use Rattle.immediate.specs.Batched.{HasDrawn}
 use Rattle.immediate.proofs.Runs.{fresh_output}
 
 -- where no command begins a query there is no issue
@@ -60,10 +66,38 @@ module _ (o : Outputs) (c : Compilation) (old new : Surface) (results : List (Op
       subst (λ (s : Surface). IsOutput s results (Some bins)) (sym same)
       (fresh_output old results bins whole long (none ∙ ap (λ (s : Size). no_words (tile_count s)) size_is))
 
--- of the whole context
-pub executed : {T E : Type 0} (r : Result T E) (items : List Item) (old : Held) (o new : Outputs) (pending : List Command) → held_of o pending ≡ old → OnOk r (HasDrawn items o new) → OnOk r (HasExecuted items old (held_of new pending))
-executed (Err e) items old o new pending is h = tt
-executed (Ok x) items old o new pending is h = record {
-  drawn = subst (λ (k : Held). HasDrawn items (outputs_of k) new) is h;
-  pending = ap (λ (k : Held). k.pending) is;
-}
+-- ---- behind the pending commands
+
+none_begun : (q : ℕ) (told : ℕ → Bool) (list : List Command) → issues list ≡ [] → last_begun q (performed told list) ≡ None
+none_begun q told list none =
+    no_last_begun q (performed told list) (ap (is_among q) ((performed_alike told list).issues_are ∙ none))
+
+-- where no issue begins, no query is open
+pub none_open : (list : List Command) → issues list ≡ [] → queries_open list ≡ []
+none_open [] h = refl
+none_open (Begin q ∷ list) h = absurd cc
+none_open (c ∷ list) h = none_open list h
+
+-- and each query answers what it answered before
+pub answers_stay : (size : Size) (h : Held) → issues h.pending ≡ [] → (q : ℕ) → answered size (context_of h) q ≡ result_at h.results q
+answers_stay size h none q =
+    let told : ℕ → Bool = λ p. result_of (result_at h.results p) in
+    ap (λ (o : Option ℕ). counted_or (result_at h.results q) o (items (performed told h.pending)) size (pixel_of h.surface)) (none_begun q told h.pending none)
+
+-- A context whose pending commands leave these items on what is held, and begin no query; then a list ran that begins none.
+module _ (size : Size) (h : Held) (c : Context) (js : List Item) (shows : (x y : ℕ) → shown c x y ≡ after_items js x y (pixel_of h.surface x y)) (answers : (q : ℕ) → answered size c q ≡ result_at h.results q) where
+  pub run_behind : (list : List Command) (restore : Bool) → AreAccepted list → issues list ≡ [] → HasRun size list restore c record { stored = λ x y. after_items (js ++ items (performed_over (outputs_of h) list)) x y (pixel_of h.surface x y); results = h.results; pending = after_finish restore c.pending }
+  run_behind list restore accepted none =
+      let left : List Command = performed_over (outputs_of h) list in
+      let left_is : performed_next size c list ≡ left =
+      performed_same (λ q. result_of (answered size c q)) (λ q. result_of (result_at h.results q)) list accepted (λ q l. ap result_of (answers q)) in
+      record {
+        pixels = λ x y w l.
+            after_items-append js (items left) x y (pixel_of h.surface x y)
+            ∙ ap (after_items (items left) x y) (sym (shows x y))
+            ∙ ap (λ (cs : List Command). after_items (items cs) x y (shown c x y)) (sym left_is);
+        results = λ q l.
+            sym (answers q)
+            ∙ ap (λ (o : Option ℕ). counted_or (answered size c q) o (items (performed_next size c list)) size (shown c)) (sym (none_begun q (λ p. result_of (answered size c p)) list none));
+        pending = refl;
+      }

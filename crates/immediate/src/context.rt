@@ -12,15 +12,14 @@ ghost use Rattle.meaning.specs.Contexts.{result_at};
 ghost use Rattle.immediate.specs.Issues.{begins};
 ghost use Rattle.immediate.specs.Next.{ExecutesNext};
 ghost use Rattle.gfxspec.specs.Items.{Item};
-ghost use Rattle.cmdlist.specs.Recorder.{is_kept_alone};
 ghost use Rattle.binner.specs.Compiling.{HasCompiled};
 ghost use Rattle.immediate.specs.Outputs.{performed_over};
-ghost use Rattle.immediate.specs.Batched.{HasExecuted};
+ghost use Rattle.immediate.specs.Batched.{HasExecuted, executed_items};
 ghost use Rattle.immediate.specs.Held.{Ran, held_of, outputs_of, context_of, shown, answered, Runs};
 
 use crate::counts::some_begins;
 use crate::drawing::TileCrew;
-use crate::executions::{Executions, room_for};
+use crate::executions::{Executions, Room, begin_behind, run_behind_alone, run_behind_by_crew};
 use crate::output::Output;
 use cmdlist::{Call, CommandList, DeferredContext, DeviceContext};
 use gfxspec::{GfxError, Pixel, QUERY_LIMIT, WORKER_LIMIT};
@@ -223,20 +222,20 @@ impl<A: Allocator + Copy + Send> ImmediateContext<A> {
         }
     }
 
-    /// Executions that are to run as one, where nothing is pending but the kept state, and there is memory for them.
-    pub fn begin_executions(&mut self) -> Option<Executions<A>>
+    /// Executions that are to run as one behind the pending commands, of which a list's is the first: it restores the state. There
+    /// are none where the pending commands or the list begin a query, where both have no room in one run, and without memory; with
+    /// threads also where a draw has 4,096 triangles or more.
+    pub fn begin_executions(
+        &mut self,
+        list: &CommandList<A>,
+        with_threads: bool,
+    ) -> Option<Executions<A>>
         ensures same { self.new ≡ self.old }
-        ensures kept { IfSome result (λ e. is_kept_alone self.old.pending ≡ true) }
+        ensures unissued { IfSome result (λ e. (issues self.old.pending ≡ []) × (issues list.now ≡ [])) }
         ensures size { IfSome result (λ e. e.lists.size ≡ self.old.surface.size) }
-        ensures nothing { IfSome result (λ e. HasCompiled e []) }
+        ensures means { IfSome result (λ e. HasCompiled e (executed_items self.old list.now)) }
     {
-        if !self.pending.is_kept_state_alone() {
-            return None;
-        }
-        match self.output.begin_batch() {
-            Ok(batch) => Some(Executions { batch, taken: 0 }),
-            Err(_) => None,
-        }
+        begin_behind(&mut self.output, &mut self.pending, list, with_threads)
     }
 
     /// Adds the execution of a list, which restores the state. Where there is no memory or no room, all are given up.
@@ -253,18 +252,18 @@ impl<A: Allocator + Copy + Send> ImmediateContext<A> {
             → IfSome result (λ e. HasCompiled e (is ++ items (performed_over (outputs_of self.old) list.now))) }
     {
         let Executions { batch, taken } = executions;
-        let taken = taken.saturating_add(room_for(list));
+        let taken = taken.and(Room::of(list.commands()));
         let batch = self.output.add_to_batch(batch, list.commands())?;
         Some(Executions { batch, taken })
     }
 
-    /// Runs executions as one, on the caller's thread. Refused with OutOfMemory alone, and then nothing ran.
+    /// Runs executions as one behind the pending commands, on the caller's thread. Refused with OutOfMemory alone, and then nothing ran.
     pub fn run_executions_alone(&mut self, executions: Executions<A>) -> Result<(), GfxError>
         requires size { executions.lists.size ≡ self.old.surface.size }
         ensures ok { (is : List Item) → HasCompiled executions is → OnOk result (HasExecuted is self.old self.new) }
         ensures err { OnErr result (self.new ≡ self.old) }
     {
-        self.output.run_batch_alone(executions.batch)
+        run_behind_alone(&mut self.output, &mut self.pending, executions)
     }
 
     /// The stored count of a query, 0 where it has none.
@@ -449,8 +448,14 @@ impl<A: Allocator + Copy + Send + Sync> ImmediateContext<A> {
         ensures ok { (is : List Item) → HasCompiled executions is → OnOk result (HasExecuted is self.old self.new) }
         ensures err { OnErr result (self.new ≡ self.old) }
     {
-        self.output
-            .run_batch_by_crew(rt, executions.batch, crew, gate)
+        run_behind_by_crew(
+            &mut self.output,
+            &mut self.pending,
+            rt,
+            executions,
+            crew,
+            gate,
+        )
     }
 
     /// `pixel_alone` by a crew beside the caller. Refused with PixelRange, QueryOpen, OutOfMemory.

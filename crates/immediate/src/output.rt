@@ -168,7 +168,7 @@ impl<A: Allocator + Copy + Send> Output<A> {
     }
 
     /// A batch of no list, for the target.
-    pub(crate) fn begin_batch(&mut self) -> Result<Batch<A>, GfxError>
+    fn empty_batch(&mut self) -> Result<Batch<A>, GfxError>
         ensures same { self.new ≡ self.old }
         ensures size { IfOk result (λ b. b.lists.size ≡ self.old.surface.size) }
         ensures nothing { IfOk result (λ b. HasCompiled b []) }
@@ -181,6 +181,25 @@ impl<A: Allocator + Copy + Send> Output<A> {
                 Err(GfxError::OutOfMemory)
             }
         }
+    }
+
+    /// A batch of two lists for the target, under the results of the queries, where there is room and memory for both.
+    pub(crate) fn begin_batch(
+        &mut self,
+        first: &[Command<A>],
+        second: &[Command<A>],
+    ) -> Option<Batch<A>>
+        requires accepted { AreAccepted (map command_value first.now) × AreAccepted (map command_value second.now) }
+        requires unissued { (issues (map command_value first.now) ≡ []) × (issues (map command_value second.now) ≡ []) }
+        ensures same { self.new ≡ self.old }
+        ensures size { IfSome result (λ b. b.lists.size ≡ self.old.surface.size) }
+        ensures means { IfSome result (λ b. HasCompiled b (items (performed_over self.old (map command_value first.now)) ++ items (performed_over self.old (map command_value second.now)))) }
+    {
+        let Ok(batch) = self.empty_batch() else {
+            return None;
+        };
+        let begun = self.add_to_batch(batch, first)?;
+        self.add_to_batch(begun, second)
     }
 
     /// Adds a list to a batch, under the results of the queries; where that is refused, the batch is given up.

@@ -1,14 +1,14 @@
--- Executions that are taken together: lines of the immediate context that execute lists and keep the state.
+-- Executions that are taken together, behind the pending commands: lines of the immediate context that execute lists and keep the state.
 use Rattle.std.specs.Prelude.{ℕ, ◌≡◌, ◌≤◌, true, List, length, take}
 use Rattle.gfxspec.specs.declared.geometry.Size.{Size}
 use Rattle.gfxspec.specs.Items.{Item, after_items}
+use Rattle.gfxspec.specs.Recorded.{after_finish}
 use Rattle.meaning.specs.Contexts.{Context}
 use Rattle.meaning.specs.Standing.{Stands}
 use Rattle.tileblock.specs.Surface.{pixel_of}
 use Rattle.binner.specs.declared.compiling.Compiling.{Compiling}
 use Rattle.binner.specs.Compiling.{HasCompiled}
 use Rattle.scenetext.specs.Scene.{Immediate, Execute, Line}
-use Rattle.cmdlist.specs.Recorder.{is_kept_alone}
 use Rattle.immediate.specs.Held.{Held}
 use Rattle.sessions.specs.declared.answers.Mark.{Mark}
 use Rattle.sessions.specs.Lists.{steps_of}
@@ -19,10 +19,10 @@ use Rattle.sessions.specs.Playing.{ImmediateAccepts, HasReached}
 abbrev pub ExecutesAndKeeps : Line → ℕ → ℕ → Type 0
 ExecutesAndKeeps l k n = (l.actor ≡ Immediate) × (l.verb ≡ Execute k n true)
 
--- what is held, with these items drawn
+-- what is held, with these items drawn, and of the pending commands the state
 abbrev pub with_items : Held → List Item → Context
 with_items h is =
-    record { stored = λ x y. after_items is x y (pixel_of h.surface x y); results = h.results; pending = h.pending }
+    record { stored = λ x y. after_items is x y (pixel_of h.surface x y); results = h.results; pending = after_finish true h.pending }
 
 -- the lines of the immediate context among the first i are taken, once these items are drawn
 pub record Follows (size : Size) (ls : List Line) (i : ℕ) (h : Held) (is : List Item) (text : List ℕ) (marks : List Mark) : Type 0 where

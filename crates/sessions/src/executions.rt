@@ -1,6 +1,7 @@
-//! Executions that stand behind one another, taken together: they run as one, so each tile is gone over once for all of them.
+//! Executions that stand behind one another, taken together: they run as one behind the pending commands, so each tile is gone over
+//! once for all of them.
 
-ghost use Rattle.std.specs.Prelude.{◌≡◌, ◌≤◌, length, map, IfSome, []};
+ghost use Rattle.std.specs.Prelude.{◌≡◌, ◌<◌, ◌≤◌, ◌+◌, length, map, IfSome, []};
 ghost use Rattle.scenetext.specs.Seen.{line_value};
 ghost use Rattle.scenetext.specs.Spelling.{AreLines};
 ghost use Rattle.sessions.specs.Playing.{ListsOf};
@@ -26,6 +27,35 @@ fn kept_execution<A: Allocator>(line: &Line<A>) -> Option<(u32, u32)>
     }
 }
 
+/// The execution of the line at a place, behind the pending commands, where that keeps the state, its list is here, and both run
+/// as one.
+fn begin_gathering<A: Allocator + Copy + Send, S: ListSource<CommandList<A>>>(
+    context: &mut ImmediateContext<A>,
+    lists: &S,
+    lines: &[Line<A>],
+    from: usize,
+    with_threads: bool,
+) -> Option<Executions<A>>
+    requires lines { AreLines [] (map line_value lines.now) }
+    requires right { ListsOf (map line_value lines.now) (S.right lists.now) }
+    ensures same { context.new ≡ context.old }
+    ensures inside { IfSome result (λ e. from < length lines.now) }
+    ensures gathered { IfSome result (AreGathered (S.agrees lists.now) (map line_value lines.now) from (from + 1) context.old) }
+{
+    if from >= lines.len() {
+        return None;
+    }
+    let Some((of, number)) = kept_execution(&lines[from]) else {
+        return None;
+    };
+    if !lists.is_here(of, number) {
+        return None;
+    }
+    let list = finished_list(lists, of, number);
+    let executions = context.begin_executions(list, with_threads)?;
+    Some(executions)
+}
+
 /// The executions of the lines from a place on, up to the first line that isn't one, whose list hasn't come yet or has no room.
 /// With them comes its place.
 fn gather_executions<A: Allocator + Copy + Send, S: ListSource<CommandList<A>>>(
@@ -33,15 +63,15 @@ fn gather_executions<A: Allocator + Copy + Send, S: ListSource<CommandList<A>>>(
     lists: &S,
     lines: &[Line<A>],
     from: usize,
+    with_threads: bool,
 ) -> Option<(Executions<A>, usize)>
     requires lines { AreLines [] (map line_value lines.now) }
     requires right { ListsOf (map line_value lines.now) (S.right lists.now) }
-    requires from { from ≤ length lines.now }
     ensures same { context.new ≡ context.old }
     ensures gathered { IfSome result (λ found. AreGathered (S.agrees lists.now) (map line_value lines.now) from found.1 context.old found.0) }
 {
-    let mut executions = context.begin_executions()?;
-    for place in from..lines.len() {
+    let mut executions = begin_gathering(context, lists, lines, from, with_threads)?;
+    for place in from + 1..lines.len() {
         let Some((of, number)) = kept_execution(&lines[place]) else {
             return Some((executions, place));
         };
@@ -57,14 +87,6 @@ fn gather_executions<A: Allocator + Copy + Send, S: ListSource<CommandList<A>>>(
     Some((executions, lines.len()))
 }
 
-/// Whether an execution that keeps the state stands at a place.
-fn has_execution<A: Allocator>(lines: &[Line<A>], place: usize) -> bool {
-    match lines.get(place) {
-        Some(line) => kept_execution(line).is_some(),
-        None => false,
-    }
-}
-
 /// Takes executions from a place on together, on the caller's thread, and answers the place behind them. Where there are none, or
 /// no memory, it takes no line.
 pub(crate) fn take_executions_alone<A: Allocator + Copy + Send, S: ListSource<CommandList<A>>>(
@@ -78,10 +100,7 @@ pub(crate) fn take_executions_alone<A: Allocator + Copy + Send, S: ListSource<Co
     requires from { from ≤ length lines.now }
     ensures gone { HasGoneOn (S.agrees lists.now) (map line_value lines.now) from result context.old context.new }
 {
-    if !has_execution(lines, from) {
-        return from;
-    }
-    let Some((executions, behind)) = gather_executions(context, lists, lines, from) else {
+    let Some((executions, behind)) = gather_executions(context, lists, lines, from, false) else {
         return from;
     };
     match context.run_executions_alone(executions) {
@@ -108,10 +127,9 @@ pub(crate) fn take_executions_by_crew<
     requires from { from ≤ length lines.now }
     ensures gone { HasGoneOn (S.agrees lists.now) (map line_value lines.now) from result context.old context.new }
 {
-    if !has_execution(lines, from) {
-        return from;
-    }
-    let Some((executions, behind)) = gather_executions(context, lists, lines, from) else {
+    let with_threads = workers.crew.workers() > 0;
+    let Some((executions, behind)) = gather_executions(context, lists, lines, from, with_threads)
+    else {
         return from;
     };
     match context.run_executions_by_crew(workers.rt, executions, &workers.crew, workers.gate) {

@@ -8,16 +8,11 @@ use Rattle.immediate.specs.Held.{Held, outputs_of}
 use Rattle.immediate.specs.Outputs.{performed_over}
 use Rattle.sessions.specs.Gathering.{AreGathered}
 use Rattle.sessions.proofs.Steps.{next_line}
-use Rattle.sessions.proofs.Gathering.{none_gathered, one_gathered, names_one}
+use Rattle.sessions.proofs.Gathering.{one_gathered, names_one}
 use Rattle.sessions.proofs.executions.gather_executions.Goals as goal
 
 pub loop-place-init : goal.loop-place-init
-loop-place-init g c = record {
-  same = c.begin_executions.ensures.same;
-  kept = c.in_ok-executions.ensures.kept;
-  gathered = none_gathered (g.S.ListSource.agrees c.args.lists.now) (map line_value c.args.lines.now) c.args.from c.args.context.now c.in_ok-executions.executions
-      (subst (λ n. c.args.from ≤ n) (sym (length-map c.args.lines.now line_value)) c.requires.from) c.in_ok-executions.ensures.size c.in_ok-executions.ensures.nothing;
-}
+loop-place-init g c = record { same = c.begin_gathering.ensures.same; gathered = c.in_ok-executions.ensures.gathered }
 
 pub is_here-requires : goal.is_here-requires
 is_here-requires g c =
@@ -39,9 +34,8 @@ loop-place-preserved g c =
     let list = c.finished_list-list.result.now in
     record {
       same = c.add_execution.ensures.same ∙ l.invariant.same;
-      kept = l.invariant.kept;
       gathered =
-          one_gathered (g.S.ListSource.agrees c.args.lists.now) (map line_value c.args.lines.now) c.args.from c.args.context.now l.place (line_value c.index-lines-place.result) l.executions c.in_ok-executions-2.executions c.in-Some.of c.in-Some.number (g.S.ListSource.right c.args.lists.now) list next l.invariant.kept c.in-Some.ensures.0 c.in-Some.ensures.1 c.requires.right c.finished_list-list.ensures.right c.finished_list-list.ensures.accepted c.finished_list-list.ensures.none_open
+          one_gathered (g.S.ListSource.agrees c.args.lists.now) (map line_value c.args.lines.now) c.args.from c.args.context.now l.place (line_value c.index-lines-place.result) l.executions c.in_ok-executions-2.executions c.in-Some.of c.in-Some.number (g.S.ListSource.right c.args.lists.now) list next c.in-Some.ensures.0 c.in-Some.ensures.1 c.requires.right c.finished_list-list.ensures.right c.finished_list-list.ensures.accepted c.finished_list-list.ensures.none_open
           (c.takes.ensures (search rules)) l.invariant.gathered (c.in_ok-executions-2.ensures.size ∙ ap (λ (h : Held). h.surface.size) l.invariant.same)
           (subst (λ (h : Held). (is : List Item) → HasCompiled l.executions is → HasCompiled c.in_ok-executions-2.executions (is ++ items (performed_over (outputs_of h) list))) l.invariant.same c.in_ok-executions-2.ensures.means);
     }

@@ -9,5 +9,5 @@ use Rattle.immediate.proofs.context.ImmediateContext.add_execution.Goals as goal
 pub returns-clause-means : goal.returns-clause-means
 returns-clause-means g c is h =
     subst (λ (held : Held). HasCompiled c.in_ok-batch.batch (is ++ items (performed_over (outputs_of held) c.args.list.now))) c.self.view_is
-    (subst (λ (list : List Command). HasCompiled c.in_ok-batch.batch (is ++ items (performed_over c.self.inside.output list))) c.commands.ensures.commands
+    (subst (λ (list : List Command). HasCompiled c.in_ok-batch.batch (is ++ items (performed_over c.self.inside.output list))) c.commands-2.ensures.commands
     (c.in_ok-batch.ensures.means is (subst (λ k. HasCompiled k is) (sym c.executions.view_is) h)))

@@ -1,0 +1,9 @@
+use Rattle.std.proofs.Common.{sym, subst}
+use Rattle.binner.specs.Compiling.{HasCompiled}
+use Rattle.immediate.proofs.executions.run_behind_alone.Goals as goal
+
+pub returns-clause-ok : goal.returns-clause-ok
+returns-clause-ok g c is h = record {
+  drawn = c.in_ok-run_batch_alone.ensures.ok is (subst (λ k. HasCompiled k is) (sym c.executions.view_is) h);
+  pending = c.in_ok-next.ensures.next;
+}
