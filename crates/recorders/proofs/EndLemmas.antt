@@ -1,38 +1,23 @@
 -- The first refused line of all contexts.
-use Rattle.std.proofs.Common.{◌≡◌, ◌∙◌, ap, sym, subst, refl, ℕ, zero, suc, ◌+◌, ◌-◌, ◌<◌, ◌≤◌, ◌⊎◌, inl, inr, arith, Bool, true, false, true≢false, cond, nat_lt, List, [], length, Some, None, Option}
-use Rattle.std.specs.Prelude.{MatchOption, All}
+use Rattle.std.proofs.Common.{◌≡◌, ◌∙◌, ap, sym, subst, refl, ℕ, zero, suc, ◌+◌, ◌-◌, ◌<◌, ◌≤◌, ◌⊎◌, inl, inr, arith, Bool, true, false, cond, nat_lt, length, Some, None, Option}
+use Rattle.std.specs.Prelude.{MatchOption, List}
 use Rattle.std.proofs.lemmas.Bool.Decides.{nat_tests}
-use Rattle.std.proofs.lemmas.List.Elements.{All-nil}
 use Rattle.atomic_table.specs.Seated.{TableId}
-use Rattle.port.specs.History.{PortHistory, port_history}
 use Rattle.scenetext.specs.Scene.{Line}
 use Rattle.recorders.specs.declared.refusal.RefusedLine.{RefusedLine}
 use Rattle.recorders.specs.declared.by_port.ByPort.{ByPort}
 use Rattle.recorders.specs.declared.record.RecordingEnd.{RecordingEnd}
 use Rattle.recorders.specs.declared.recorder.RecorderResult.{RecorderResult}
 use Rattle.recorders.specs.Ports.{at_port, port_of}
-use Rattle.recorders.specs.Recording.{Recording}
-use Rattle.recorders.specs.Sinks.{lists_sent}
-use Rattle.recorders.specs.Apart.{IsListed, AcceptsTo, IsStopOf, stop_or}
-use Rattle.recorders.specs.Recorders.{IsEnd, IsIdle, end_place, idle_end, lists_of_context}
+use Rattle.recorders.specs.Apart.{AcceptsTo, IsStopOf, stop_or}
+use Rattle.recorders.specs.Recorders.{IsEnd, end_place, lists_of_context}
 use Rattle.recorders.specs.Ending.{earlier_of, least_of, IsStopOfSome, Lacks, AreRecorded, AreEnds, EndsLack}
-use Rattle.recorders.specs.Receiving.{IsResultOf, AreResults, ResultsLack, ends_of}
+use Rattle.recorders.specs.Receiving.{AreResults, ResultsLack, ends_of}
 use Rattle.recorders.proofs.Growing.{fewer_lists}
-use Rattle.recorders.proofs.Steps.{nothing_of}
 use Rattle.recorders.proofs.PortLemmas.{each_port}
 
 pub accepts_less : (ls : List Line) (k m n : ℕ) → m ≤ n → AcceptsTo ls k n → AcceptsTo ls k m
 accepts_less ls k m n less h j low own = h j (omega (arith, less, low)) own
-
--- a recorder without lines
-pub idle_is : (ls : List Line) (k : ℕ) → IsIdle ls k (length ls) → IsEnd ls k idle_end
-idle_is ls k idle = record {
-  first_counted = ap (λ (r : Recording). length r.lists) (sym (nothing_of ls k (length ls) (omega arith) (λ j low. (idle j low).0)));
-  second_counted = ap (λ (r : Recording). length r.lists) (sym (nothing_of ls (k + 4) (length ls) (omega arith) (λ j low. (idle j low).1)));
-  first_accepts = λ j low own. absurd (true≢false (sym own ∙ (idle j low).0));
-  second_accepts = λ j low own. absurd (true≢false (sym own ∙ (idle j low).1));
-  refused_is = inl tt;
-}
 
 -- ---- the earlier of two refused lines
 
@@ -146,12 +131,3 @@ all_results ls queue results ends refused missing h is least lacks =
     subst (λ s. AreRecorded ls s missing) (sym (least ∙ ap least_of is))
     (all_recorded ls (ends_of results) (λ p low. subst (IsEnd ls p) (sym (end_at results p)) (h p low).end_is) missing
     (match_more missing (λ name l low. subst (λ (e : RecordingEnd). lists_of_context e name.0 ≤ name.1) (sym (end_at results (port_of name.0))) (l low)) lacks))
-
-pub idle_result : {A : Type 0} (ls : List Line) (queue : TableId) (number : ℕ) (r : RecorderResult A) → r.pass ≡ port_history queue number [] → r.kept.items ≡ [] → r.end ≡ idle_end → IsIdle ls number (length ls) → IsResultOf ls queue number r
-idle_result ls queue number r pass none end idle = record {
-  queue_is = ap (λ (p : PortHistory _). p.queue) pass;
-  port_is = ap (λ (p : PortHistory _). p.port) pass;
-  sent = subst (λ (p : PortHistory _). All (IsListed ls) (lists_sent p.sent)) (sym pass) (All-nil (IsListed ls));
-  kept = subst (All (IsListed ls)) (sym none) (All-nil (IsListed ls));
-  end_is = subst (IsEnd ls number) (sym end) (idle_is ls number idle);
-}

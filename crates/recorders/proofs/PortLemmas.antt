@@ -19,7 +19,7 @@ use Rattle.recorders.specs.Recorders.{IsRecording, lists_of_context}
 use Rattle.recorders.specs.Rows.{AreRows, IsNext, with_list}
 use Rattle.recorders.proofs.RowLemmas.{rows_more}
 use Rattle.std.proofs.lemmas.List.Elements.{All-tail}
-use Rattle.recorders.specs.Receiving.{Receipts, RecorderSeen, IsResultOf, IsRecorderOf, AreRecorders, AreSameRecorders, LacksBy, AreResults, AreBack, TakenAgrees, ReceiptAgrees, IsMore, receipt_frame, receipt_right}
+use Rattle.recorders.specs.Receiving.{Receipts, RecorderSeen, IsResultOf, IsRecorderOf, AreRecorders, LacksBy, AreResults, AreBack, TakenAgrees, ReceiptAgrees, IsMore, receipt_frame, receipt_right}
 
 -- ---- four ports
 
@@ -148,12 +148,6 @@ sent_and_kept ls queue number s0 s r way at_queue at_port_ h r_queue r_port r_se
       kept = subst (All (IsListed ls)) (sym r_kept) (back_all (IsListed ls) s.sent s.kept h.listed);
       end_is = h.end_is;
     }
-
-pub same_recorders : {A : Type 0} (ls : List Line) (queue : TableId) (old new : ByPort (RecorderSeen A)) → AreSameRecorders old new → AreRecorders ls queue old → AreRecorders ls queue new
-same_recorders ls queue old new same h p low =
-    let s = same p in
-    let r = h p low in
-    record { lines_is = s.lines_is ∙ r.lines_is; queue_is = s.queue_is ∙ r.queue_is; number_is = s.number_is ∙ r.number_is }
 
 pub result_at : {A : Type 0} (ls : List Line) (queue : TableId) (p : ℕ) (d : RecorderSeen A) (r : RecorderResult A) → IsRecorderOf ls queue p d → IsResultOf d.lines d.queue d.number r → IsResultOf ls queue p r
 result_at ls queue p d r is h =

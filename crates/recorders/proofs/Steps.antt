@@ -1,5 +1,5 @@
 -- A context's lines, one by one.
-use Rattle.std.proofs.Common.{◌≡◌, ◌∙◌, ap, sym, subst, refl, ℕ, zero, suc, ◌+◌, ◌<◌, ◌≤◌, inl, inr, ⊎_elim, arith, Bool, true, false, true≢false, List, [], ◌∷◌, ◌++◌, length, take, below_more, Some, None}
+use Rattle.std.proofs.Common.{◌≡◌, ◌∙◌, ap, sym, subst, refl, ℕ, ◌+◌, ◌<◌, ◌≤◌, inl, inr, ⊎_elim, arith, Bool, true, false, true≢false, List, [], ◌∷◌, ◌++◌, length, take, below_more, Some, None}
 use Rattle.std.specs.Prelude.{All, slice_index_or}
 use Rattle.std.proofs.lemmas.Bool.Decides.{nat_tests}
 use Rattle.std.proofs.lemmas.List.{take_more, append-nil, length_push, length-append, get_or_push}
@@ -11,7 +11,7 @@ use Rattle.gfxspec.specs.Refusals.{first_row}
 use Rattle.scenetext.specs.Scene.{Actor, Immediate, Deferred, Verb, Call, Finish, Flush, Execute, Query, Pixel, Line}
 use Rattle.recorders.specs.declared.recorded.Recorded.{Recorded}
 use Rattle.recorders.specs.Lists.{is_of}
-use Rattle.recorders.specs.Recording.{Recording, nothing_recorded, recording_with, recording_of}
+use Rattle.recorders.specs.Recording.{Recording, recording_with, recording_of}
 use Rattle.recorders.specs.Calls.{deferred_rows}
 use Rattle.recorders.specs.Apart.{line_at, a_line, listed, lists_behind, IsListed, AcceptsTo, IsStopOf, refused_by}
 use Rattle.recorders.specs.Taking.{AtWork, after_verb, given_by, VerbTaken, TakenIf, HasTaken, HasRefused}
@@ -229,13 +229,3 @@ ends_all ls k i a b lists last first second listed_is whole = record {
     refused_is = inl tt;
   };
 }
-
--- ---- contexts without lines
-
-pub nothing_of : (ls : List Line) (k i : ℕ) → i ≤ length ls → ((j : ℕ) → j < i → is_of k (line_at ls j).actor ≡ false) → recording_of k (take i ls) ≡ nothing_recorded
-nothing_of ls k zero within none = refl
-nothing_of ls k (suc i) within none =
-    let same : i + 1 ≡ suc i = omega arith in
-    ap (λ n. recording_of k (take n ls)) (sym same)
-    ∙ other_more ls k i (line_at ls i) refl (omega (arith, within)) (none i (omega arith))
-    ∙ nothing_of ls k i (omega (arith, within)) (λ j low. none j (omega (arith, low)))

@@ -1,11 +1,10 @@
 -- What the recorder of contexts k and k + 4 gives (this project's own).
-use Rattle.std.specs.Prelude.{ℕ, ◌≡◌, ◌<◌, ◌+◌, ◌⊎◌, nat_lt, Bool, true, false, List, length, All, None, slice_index_or, if◌then◌else◌}
+use Rattle.std.specs.Prelude.{ℕ, ◌≡◌, ◌+◌, ◌⊎◌, nat_lt, List, length, All, if◌then◌else◌}
 use Rattle.gfxspec.specs.Commands.{Command}
 use Rattle.scenetext.specs.Scene.{Line}
 use Rattle.recorders.specs.declared.recorded.Recorded.{Recorded}
 use Rattle.recorders.specs.declared.record.RecordingEnd.{RecordingEnd}
-use Rattle.recorders.specs.Lists.{is_of}
-use Rattle.recorders.specs.Apart.{line_at, lists_behind, IsListed, AcceptsTo, IsStopOf, stop_or}
+use Rattle.recorders.specs.Apart.{lists_behind, IsListed, AcceptsTo, IsStopOf, stop_or}
 
 -- where both contexts end
 abbrev pub end_place : List Line → RecordingEnd → ℕ
@@ -27,16 +26,3 @@ pub record IsRecording (ls : List Line) (k : ℕ) (lists : List (Recorded (List 
 
 abbrev pub lists_of_context : RecordingEnd → ℕ → ℕ
 lists_of_context e k = if nat_lt k 4 then e.first_lists else e.second_lists
-
--- ---- without lines
-
-abbrev pub idle_end : RecordingEnd
-idle_end = record { first_lists = 0; second_lists = 0; refused = None }
-
--- none of the first i lines is one of contexts k and k + 4
-abbrev pub IsIdle : List Line → ℕ → ℕ → Type 0
-IsIdle ls k i = (j : ℕ) → j < i → (is_of k (line_at ls j).actor ≡ false) × (is_of (k + 4) (line_at ls j).actor ≡ false)
-
--- recorders that aren't named have no lines
-abbrev pub IdleUnless : List Line → List Bool → Type 0
-IdleUnless ls named = (length named ≡ 4) × ((k : ℕ) → k < 4 → slice_index_or named k true ≡ false → IsIdle ls k (length ls))

@@ -1,12 +1,11 @@
 //! All contexts recorded first, by the caller.
 
-ghost use Rattle.std.specs.Prelude.{◌≡◌, ◌<◌, All, map, length, false};
+ghost use Rattle.std.specs.Prelude.{◌≡◌, ◌<◌, All, map};
 ghost use Rattle.scenetext.specs.Seen.{line_value};
 ghost use Rattle.recorders.specs.Apart.{IsListed};
-ghost use Rattle.recorders.specs.Recorders.{IsEnd, IsIdle};
+ghost use Rattle.recorders.specs.Recorders.{IsEnd};
 
 use crate::by_port::ByPort;
-use crate::named::recorders_named;
 use crate::record::{RecordingEnd, record_lines};
 use crate::recorded::RecordedList;
 use crate::refusal::{RefusedLine, first_refused};
@@ -100,22 +99,17 @@ impl<'a, A: Allocator> ListSource<CommandList<A>> for RecordedLists<'a, A> {
     }
 }
 
-/// The lists of a recorder's two contexts, where lines name one of them.
+/// The lists of contexts `number` and `number + 4`.
 fn record_kept<A: Allocator + Copy>(
     alloc: A,
     lines: &[Line<A>],
     number: u32,
-    is_named: bool,
 ) -> (Vec<RecordedList<A>, A>, RecordingEnd)
-    requires number { number < 4 }
-    requires named { is_named ≡ false → IsIdle (map line_value lines.now) number (length (map line_value lines.now)) }
+    requires { number < 4 }
     ensures listed { All (IsListed (map line_value lines.now)) result.0.items }
     ensures end { IsEnd (map line_value lines.now) number result.1 }
 {
     let mut kept = Vec::new(alloc);
-    if !is_named {
-        return (kept, RecordingEnd::idle());
-    }
     let end = record_lines(alloc, lines, number, &mut kept);
     (kept, end)
 }
@@ -124,11 +118,10 @@ fn record_kept<A: Allocator + Copy>(
 pub fn record_alone<A: Allocator + Copy>(alloc: A, lines: &[Line<A>]) -> RecordedLists<'_, A>
     ensures { result.lines ≡ map line_value lines.now }
 {
-    let named = recorders_named(lines);
-    let (first, zero) = record_kept(alloc, lines, 0, named[0]);
-    let (second, one) = record_kept(alloc, lines, 1, named[1]);
-    let (third, two) = record_kept(alloc, lines, 2, named[2]);
-    let (fourth, three) = record_kept(alloc, lines, 3, named[3]);
+    let (first, zero) = record_kept(alloc, lines, 0);
+    let (second, one) = record_kept(alloc, lines, 1);
+    let (third, two) = record_kept(alloc, lines, 2);
+    let (fourth, three) = record_kept(alloc, lines, 3);
     let mut rows = ListRows::new(alloc);
     rows.add_all(first);
     rows.add_all(second);

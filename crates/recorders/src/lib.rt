@@ -15,7 +15,6 @@ mod alone;
 mod by_port;
 mod calls;
 mod context;
-mod named;
 mod ports;
 mod received;
 mod record;

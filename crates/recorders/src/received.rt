@@ -8,7 +8,6 @@ ghost use Rattle.recorders.specs.Ports.{at_port, port_of};
 ghost use Rattle.recorders.specs.Receiving.{receipt_frame, receipt_right, ReceiptAgrees, ReceiptHolds, ReceiptLacks, AreNew, AreResults, ResultsLack, AreSameRecorders, IsMore};
 
 use crate::by_port::ByPort;
-use crate::named::recorders_named;
 use crate::recorded::{ListPass, ListPorts, RecordedList};
 use crate::recorder::{Recorder, RecorderResult, RecorderSetup, start};
 use crate::rows::ListRows;
@@ -192,7 +191,7 @@ impl<'a, A: Allocator + Copy, R: Threads + Wait> ListSource<CommandList<A>>
     }
 }
 
-/// Starts the recorders whose contexts are named.
+/// Starts the recorders.
 pub fn receive<
     's,
     E,
@@ -214,12 +213,11 @@ pub fn receive<
         two,
         three,
     } = passes;
-    let named = recorders_named(setup.lines);
     let recorders = ByPort {
-        zero: start(scope, &setup, zero, 0, named[0]),
-        one: start(scope, &setup, one, 1, named[1]),
-        two: start(scope, &setup, two, 2, named[2]),
-        three: start(scope, &setup, three, 3, named[3]),
+        zero: start(scope, &setup, zero, 0),
+        one: start(scope, &setup, one, 1),
+        two: start(scope, &setup, two, 2),
+        three: start(scope, &setup, three, 3),
     };
     ReceivedLists {
         rt: setup.rt,

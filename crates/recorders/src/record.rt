@@ -2,7 +2,7 @@
 
 ghost use Rattle.std.specs.Prelude.{◌≡◌, ◌<◌, map, []};
 ghost use Rattle.scenetext.specs.Seen.{line_value};
-ghost use Rattle.recorders.specs.Recorders.{IsRecording, idle_end, lists_of_context};
+ghost use Rattle.recorders.specs.Recorders.{IsRecording, lists_of_context};
 
 use crate::context::ContextRecorder;
 use crate::refusal::RefusedLine;
@@ -20,17 +20,6 @@ pub struct RecordingEnd {
 }
 
 impl RecordingEnd {
-    /// Of contexts that no line names.
-    pub(crate) fn idle() -> Self
-        ensures { result ≡ idle_end }
-    {
-        RecordingEnd {
-            first_lists: 0,
-            second_lists: 0,
-            refused: None,
-        }
-    }
-
     /// How many lists a context, 0 to 7, finished.
     pub(crate) fn lists(&self, context: u32) -> u64
         ensures { result ≡ lists_of_context self.now context }

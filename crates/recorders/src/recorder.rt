@@ -1,16 +1,15 @@
 //! A recorder's thread, as the caller holds it.
 
-ghost use Rattle.std.specs.Prelude.{◌≡◌, ◌<◌, [], All, map, length, false, MatchBool, MatchOption};
+ghost use Rattle.std.specs.Prelude.{◌≡◌, ◌<◌, [], All, map, MatchBool, MatchOption};
 ghost use Rattle.port.specs.History.{port_history};
 ghost use Rattle.scenetext.specs.Seen.{line_value};
 ghost use Rattle.recorders.specs.Apart.{IsListed};
-ghost use Rattle.recorders.specs.Recorders.{IsIdle};
 ghost use Rattle.recorders.specs.Receiving.{IsResultOf, LacksBy, IsSameRecorder};
 
 use crate::record::{RecordingEnd, record_lines};
 use crate::recorded::{ListPass, ListPorts, RecordedList};
 use crate::sink::ListSender;
-use scenetext::Line;
+use scenetext::{Actor, Line};
 use std::alloc::Allocator;
 use std::marker::Model;
 use std::mem;
@@ -74,13 +73,13 @@ impl<'a, A: Allocator> Model for Recorder<'a, A> {
 
 /// Takes the lines of contexts `number` and `number + 4`, and sends their lists.
 fn record_and_send<A: Allocator + Copy, R: Wait, G: Gate>(
-    setup: RecorderSetup<'_, A, R, G>,
+    setup: &RecorderSetup<'_, A, R, G>,
     pass: ListPass<A>,
     number: u32,
 ) -> RecorderResult<A>
-    requires pass { pass ≡ port_history setup.ports.now.queue number [] }
+    requires pass { pass ≡ port_history setup.now.ports.now.queue number [] }
     requires number { number < 4 }
-    ensures { IsResultOf (map line_value setup.entry.lines.now) setup.entry.ports.now.queue number result }
+    ensures { IsResultOf (map line_value setup.now.lines.now) setup.now.ports.now.queue number result }
 {
     let mut sender = ListSender::new(setup.rt, setup.alloc, setup.ports, setup.gate, pass);
     let end = record_lines(setup.alloc, setup.lines, number, &mut sender);
@@ -88,7 +87,19 @@ fn record_and_send<A: Allocator + Copy, R: Wait, G: Gate>(
     RecorderResult { pass, kept, end }
 }
 
-/// Starts a recorder, where lines name one of its contexts. Where no thread starts, the caller records.
+/// Whether a line is of one of the contexts of a recorder.
+fn has_lines<A: Allocator>(lines: &[Line<A>], number: u32) -> bool {
+    for line in lines {
+        if let Actor::Deferred(context) = line.actor {
+            if context % 4 == number {
+                return true;
+            }
+        }
+    }
+    false
+}
+
+/// Starts a recorder. Where it has no lines, or no thread starts, the caller records.
 pub(crate) fn start<
     's,
     E,
@@ -100,11 +111,9 @@ pub(crate) fn start<
     setup: &RecorderSetup<'s, A, R, G>,
     pass: ListPass<A>,
     number: u32,
-    is_named: bool,
 ) -> Recorder<'s, A>
     requires pass { pass ≡ port_history setup.now.ports.now.queue number [] }
     requires number { number < 4 }
-    requires named { is_named ≡ false → IsIdle (map line_value setup.now.lines.now) number (length (map line_value setup.now.lines.now)) }
     ensures lines { result.lines ≡ map line_value setup.now.lines.now }
     ensures queue { result.queue ≡ setup.now.ports.now.queue }
     ensures number { result.number ≡ number }
@@ -121,16 +130,11 @@ pub(crate) fn start<
         ports,
         number,
     };
-    if !is_named {
-        let idle = RecorderResult {
-            pass,
-            kept: Vec::new(alloc),
-            end: RecordingEnd::idle(),
-        };
+    if !has_lines(lines, number) {
         return Recorder {
             task,
             thread: None,
-            result: Some(idle),
+            result: Some(record_and_send(setup, pass, number)),
         };
     }
     match scope.spawn_with(promise, move || {
@@ -141,7 +145,7 @@ pub(crate) fn start<
             gate,
             lines,
         };
-        record_and_send(setup, pass, number)
+        record_and_send(&setup, pass, number)
     }) {
         Ok(thread) => Recorder {
             task,

@@ -1,24 +1,11 @@
-use Rattle.std.proofs.Common.{arith, sym, subst, map}
+use Rattle.std.proofs.Common.{sym, subst, map}
 use Rattle.scenetext.specs.Seen.{line_value}
 use Rattle.recorders.specs.Ports.{at_port}
 use Rattle.recorders.specs.Recorders.{IsEnd}
 use Rattle.recorders.specs.Rows.{AreRows}
-use Rattle.recorders.proofs.NamedLemmas.{idle_at}
 use Rattle.recorders.proofs.PortLemmas.{each_port}
 use Rattle.recorders.proofs.RowLemmas.{rows_none}
 use Rattle.recorders.proofs.alone.record_alone.Goals as goal
-
-pub record_kept-first-requires-clause-named : goal.record_kept-first-requires-clause-named
-record_kept-first-requires-clause-named g c none = idle_at _ c.recorders_named-named.result 0 c.recorders_named-named.ensures (omega arith) none
-
-pub record_kept-second-requires-clause-named : goal.record_kept-second-requires-clause-named
-record_kept-second-requires-clause-named g c none = idle_at _ c.recorders_named-named.result 1 c.recorders_named-named.ensures (omega arith) none
-
-pub record_kept-third-requires-clause-named : goal.record_kept-third-requires-clause-named
-record_kept-third-requires-clause-named g c none = idle_at _ c.recorders_named-named.result 2 c.recorders_named-named.ensures (omega arith) none
-
-pub record_kept-fourth-requires-clause-named : goal.record_kept-fourth-requires-clause-named
-record_kept-fourth-requires-clause-named g c none = idle_at _ c.recorders_named-named.result 3 c.recorders_named-named.ensures (omega arith) none
 
 pub invariant_of-result : goal.invariant_of-result
 invariant_of-result g c =

@@ -1,23 +1,10 @@
-use Rattle.std.proofs.Common.{rules, arith, ap, sym, subst, map}
+use Rattle.std.proofs.Common.{ap, sym, subst, map}
 use Rattle.port.specs.History.{DrainHistory}
 use Rattle.scenetext.specs.Seen.{line_value}
 use Rattle.recorders.specs.Rows.{AreRows}
-use Rattle.recorders.proofs.NamedLemmas.{idle_at}
 use Rattle.recorders.proofs.PortLemmas.{four_recorders}
 use Rattle.recorders.proofs.RowLemmas.{rows_none}
 use Rattle.recorders.proofs.received.receive.Goals as goal
-
-pub start-requires-clause-named : goal.start-requires-clause-named
-start-requires-clause-named g c κs lives none = idle_at _ c.recorders_named-named.result 0 c.recorders_named-named.ensures (omega arith) none
-
-pub start-requires-2-clause-named : goal.start-requires-2-clause-named
-start-requires-2-clause-named g c κs lives none = idle_at _ c.recorders_named-named.result 1 c.recorders_named-named.ensures (omega arith) none
-
-pub start-requires-3-clause-named : goal.start-requires-3-clause-named
-start-requires-3-clause-named g c κs lives none = idle_at _ c.recorders_named-named.result 2 c.recorders_named-named.ensures (omega arith) none
-
-pub start-requires-4-clause-named : goal.start-requires-4-clause-named
-start-requires-4-clause-named g c κs lives none = idle_at _ c.recorders_named-named.result 3 c.recorders_named-named.ensures (omega arith) none
 
 pub invariant_of-result : goal.invariant_of-result
 invariant_of-result g c = (
@@ -29,6 +16,3 @@ invariant_of-result g c = (
       (record { lines_is = c.start-4.ensures.lines; queue_is = c.start-4.ensures.queue; number_is = c.start-4.ensures.number }),
   λ agrees. subst (AreRows (map line_value c.args.setup.lines.now)) (sym c.new.ensures) (rows_none (map line_value c.args.setup.lines.now)),
 )
-
-pub returns : goal.returns
-returns g c = search rules

@@ -7,7 +7,7 @@ use Rattle.recorders.proofs.recorder.record_and_send.Goals as goal
 
 pub returns : goal.returns
 returns g c =
-    sent_and_kept (map line_value c.args.setup.lines.now) c.args.setup.ports.now.queue c.args.number c.new-sender.result c.record_lines-end.new.sink _
+    sent_and_kept (map line_value c.args.setup.now.lines.now) c.args.setup.now.ports.now.queue c.args.number c.new-sender.result c.record_lines-end.new.sink _
     c.record_lines-end.ensures.way
     (ap (λ (s : Sender). s.queue) c.new-sender.ensures ∙ ap (λ (p : PortHistory _). p.queue) c.requires.pass)
     (ap (λ (s : Sender). s.port) c.new-sender.ensures ∙ ap (λ (p : PortHistory _). p.port) c.requires.pass)
