@@ -15,10 +15,10 @@ use Rattle.recorders.specs.Ports.{at_port, port_of}
 use Rattle.recorders.specs.Sinks.{Way, Sender, lists_sent, sender_lists, sender_way}
 use Rattle.recorders.specs.Apart.{listed, IsListed}
 use Rattle.recorders.specs.Asking.{Asked}
-use Rattle.recorders.specs.Recorders.{IsRecording, lists_of_context}
+use Rattle.recorders.specs.Recorders.{IsRecording, end_in}
 use Rattle.recorders.specs.Rows.{AreRows, IsNext, with_list}
 use Rattle.recorders.proofs.RowLemmas.{rows_more}
-use Rattle.std.proofs.lemmas.List.Elements.{All-tail}
+use Rattle.std.proofs.lemmas.List.Elements.{All-tail, All-nil}
 use Rattle.recorders.specs.Receiving.{Receipts, RecorderSeen, IsResultOf, IsRecorderOf, AreRecorders, LacksBy, AreResults, AreBack, TakenAgrees, ReceiptAgrees, IsMore, receipt_frame, receipt_right}
 
 -- ---- four ports
@@ -138,24 +138,25 @@ back_all P (x ∷ xs) ys h = back_all P xs ys (All-tail P x (xs ++ ys) h)
 same_way : (a b : Way) → Some a ≡ Some b → a ≡ b
 same_way a b h = ap (λ o. unwrap_or o a) h
 
-pub sent_and_kept : {A : Type 0} (ls : List Line) (queue : TableId) (number : ℕ) (s0 s : Sender) (r : RecorderResult A) → sender_way s ≡ sender_way s0 → s0.queue ≡ queue → s0.port ≡ number → IsRecording ls number (sender_lists s) r.end → r.pass.queue ≡ s.queue → r.pass.port ≡ s.port → lists_sent r.pass.sent ≡ s.sent → r.kept.items ≡ s.kept → IsResultOf ls queue number r
-sent_and_kept ls queue number s0 s r way at_queue at_port_ h r_queue r_port r_sent r_kept =
+pub sent_and_kept : {A : Type 0} (ls : List Line) (queue : TableId) (number : ℕ) (s0 s : Sender) (r : RecorderResult A) → sender_way s ≡ sender_way s0 → s0 ≡ record { queue = queue; port = number; sent = []; kept = [] } → IsRecording ls number (sender_lists s0) (sender_lists s) r.end → r.pass.queue ≡ s.queue → r.pass.port ≡ s.port → lists_sent r.pass.sent ≡ s.sent → r.kept.items ≡ s.kept → IsResultOf ls queue number r
+sent_and_kept ls queue number s0 s r way start h r_queue r_port r_sent r_kept =
     let w = same_way _ _ way in
+    let listed = h.listed (subst (λ x. All (IsListed ls) (sender_lists x)) (sym start) (All-nil (IsListed ls))) in
     record {
-      queue_is = r_queue ∙ ap (λ (x : Way). x.queue) w ∙ at_queue;
-      port_is = r_port ∙ ap (λ (x : Way). x.port) w ∙ at_port_;
-      sent = subst (All (IsListed ls)) (sym r_sent) (front_all (IsListed ls) s.sent s.kept h.listed);
-      kept = subst (All (IsListed ls)) (sym r_kept) (back_all (IsListed ls) s.sent s.kept h.listed);
-      end_is = h.end_is;
+      queue_is = r_queue ∙ ap (λ (x : Way). x.queue) w ∙ ap (λ (x : Sender). x.queue) start;
+      port_is = r_port ∙ ap (λ (x : Way). x.port) w ∙ ap (λ (x : Sender). x.port) start;
+      sent = subst (All (IsListed ls)) (sym r_sent) (front_all (IsListed ls) s.sent s.kept listed);
+      kept = subst (All (IsListed ls)) (sym r_kept) (back_all (IsListed ls) s.sent s.kept listed);
+      ends = h.ends;
     }
 
 pub result_at : {A : Type 0} (ls : List Line) (queue : TableId) (p : ℕ) (d : RecorderSeen A) (r : RecorderResult A) → IsRecorderOf ls queue p d → IsResultOf d.lines d.queue d.number r → IsResultOf ls queue p r
 result_at ls queue p d r is h =
     subst (λ n. IsResultOf ls queue n r) is.number_is (subst (λ q. IsResultOf ls q d.number r) is.queue_is (subst (λ xs. IsResultOf xs d.queue d.number r) is.lines_is h))
 
-pub lacks_same : {A : Type 0} (o : Option (RecorderResult A)) (r : RecorderResult A) → MatchOption o (Unit {0}) (λ q. r ≡ q) → (k n : ℕ) → LacksBy o k n → lists_of_context r.end k ≤ n
+pub lacks_same : {A : Type 0} (o : Option (RecorderResult A)) (r : RecorderResult A) → MatchOption o (Unit {0}) (λ q. r ≡ q) → (k n : ℕ) → LacksBy o k n → (end_in r.end k).lists ≤ n
 lacks_same None r same k n l = absurd l
-lacks_same (Some q) r same k n l = subst (λ (x : RecorderResult _). lists_of_context x.end k ≤ n) (sym same) l
+lacks_same (Some q) r same k n l = subst (λ (x : RecorderResult _). (end_in x.end k).lists ≤ n) (sym same) l
 
 -- ---- one list more
 

@@ -8,13 +8,14 @@ use Rattle.port.specs.History.{PortHistory, DrainHistory, of_port, port_history,
 use Rattle.recorders.specs.declared.by_port.ByPort.{ByPort}
 use Rattle.recorders.specs.declared.recorded.Recorded.{Recorded}
 use Rattle.recorders.specs.declared.recorder.RecorderResult.{RecorderResult}
-use Rattle.recorders.specs.declared.record.RecordingEnd.{RecordingEnd}
+use Rattle.recorders.specs.declared.refusal.ContextEnd.{ContextEnd}
 use Rattle.recorders.specs.Ports.{at_port, port_of}
 use Rattle.recorders.specs.Sinks.{lists_sent}
 use Rattle.recorders.specs.Apart.{listed, IsListed}
-use Rattle.recorders.specs.Recorders.{IsEnd, lists_of_context}
+use Rattle.recorders.specs.Recorders.{AreEnded, end_in}
 use Rattle.recorders.specs.Rows.{row}
 use Rattle.recorders.specs.Asking.{Asked}
+use Rattle.recorders.specs.Ending.{ends_by}
 
 -- what was taken of each port are the lists that their contexts and numbers name
 abbrev pub TakenAgrees : List Line → List (Submission (Recorded (List Command))) → Type 0
@@ -35,7 +36,7 @@ module _ {A : Type 0} where
     pub port_is : r.pass.port ≡ number
     pub sent : All (IsListed ls) (lists_sent r.pass.sent)
     pub kept : All (IsListed ls) r.kept.items
-    pub end_is : IsEnd ls number r.end
+    pub ends : AreEnded ls number r.end
 
 -- a recorder as the caller holds it: what it was asked for, and what it handed over if it was joined
 pub record RecorderSeen (A : Type 0) : Type 0 where
@@ -55,7 +56,7 @@ module _ {A : Type 0} where
   -- joined, and it did not finish the list of this number
   abbrev pub LacksBy : Option (RecorderResult A) → ℕ → ℕ → Type 0
   LacksBy None k n = ⊥
-  LacksBy (Some r) k n = lists_of_context r.end k ≤ n
+  LacksBy (Some r) k n = (end_in r.end k).lists ≤ n
 
   -- the same recorder, but for what it handed over
   pub record IsSameRecorder (old new : RecorderSeen A) : Type 0 where
@@ -105,11 +106,11 @@ module _ {A : Type 0} where
 
   -- there is no list of this number
   abbrev pub ResultsLack : ByPort (RecorderResult A) → ℕ → ℕ → Type 0
-  ResultsLack results k n = lists_of_context (at_port results (port_of k)).end k ≤ n
+  ResultsLack results k n = (end_in (at_port results (port_of k)).end k).lists ≤ n
 
   -- each pass is back, at its number
   abbrev pub AreBack : TableId → ByPort (RecorderResult A) → Type 0
   AreBack queue results = (p : ℕ) → p < 4 → ((at_port results p).pass.queue ≡ queue) × ((at_port results p).pass.port ≡ p)
 
-  abbrev pub ends_of : ByPort (RecorderResult A) → ByPort RecordingEnd
-  ends_of r = record { zero = r.zero.end; one = r.one.end; two = r.two.end; three = r.three.end }
+  abbrev pub ends_of : ByPort (RecorderResult A) → List ContextEnd
+  ends_of r = ends_by r.zero.end r.one.end r.two.end r.three.end

@@ -1,14 +1,10 @@
 //! All contexts recorded first, by the caller.
 
-ghost use Rattle.std.specs.Prelude.{◌≡◌, ◌<◌, All, map};
+ghost use Rattle.std.specs.Prelude.{◌≡◌, ◌<◌, map};
 ghost use Rattle.scenetext.specs.Seen.{line_value};
-ghost use Rattle.recorders.specs.Apart.{IsListed};
-ghost use Rattle.recorders.specs.Recorders.{IsEnd};
 
-use crate::by_port::ByPort;
-use crate::record::{RecordingEnd, record_lines};
-use crate::recorded::RecordedList;
-use crate::refusal::{RefusedLine, first_refused};
+use crate::context::record_lines;
+use crate::refusal::{ContextEnd, RefusedLine, first_refused};
 use crate::rows::ListRows;
 use crate::source::ListSource;
 use cmdlist::CommandList;
@@ -21,7 +17,7 @@ use std::marker::Model;
 pub struct RecordedLists<'a, A: Allocator> {
     lines: &'a [Line<A>],
     rows: ListRows<A>,
-    ends: ByPort<RecordingEnd>,
+    ends: [ContextEnd; 8],
 }
 
 impl<'a, A: Allocator> Model for RecordedLists<'a, A> {
@@ -75,7 +71,7 @@ impl<'a, A: Allocator> ListSource<CommandList<A>> for RecordedLists<'a, A> {
         if self.rows.has(context, number) {
             return Ok(true);
         }
-        if u64::from(number) < self.ends.of_context(context).lists(context) {
+        if u64::from(number) < self.ends[context as usize].lists {
             return Err(AllocError);
         }
         Ok(false)
@@ -99,39 +95,20 @@ impl<'a, A: Allocator> ListSource<CommandList<A>> for RecordedLists<'a, A> {
     }
 }
 
-/// The lists of contexts `number` and `number + 4`.
-fn record_kept<A: Allocator + Copy>(
-    alloc: A,
-    lines: &[Line<A>],
-    number: u32,
-) -> (Vec<RecordedList<A>, A>, RecordingEnd)
-    requires { number < 4 }
-    ensures listed { All (IsListed (map line_value lines.now)) result.0.items }
-    ensures end { IsEnd (map line_value lines.now) number result.1 }
-{
-    let mut kept = Vec::new(alloc);
-    let end = record_lines(alloc, lines, number, &mut kept);
-    (kept, end)
-}
-
 /// Records all deferred contexts. This waits for nobody.
 pub fn record_alone<A: Allocator + Copy>(alloc: A, lines: &[Line<A>]) -> RecordedLists<'_, A>
     ensures { result.lines ≡ map line_value lines.now }
 {
-    let (first, zero) = record_kept(alloc, lines, 0);
-    let (second, one) = record_kept(alloc, lines, 1);
-    let (third, two) = record_kept(alloc, lines, 2);
-    let (fourth, three) = record_kept(alloc, lines, 3);
+    let mut kept = Vec::new(alloc);
+    let zero = record_lines(alloc, lines, 0, &mut kept);
+    let one = record_lines(alloc, lines, 1, &mut kept);
+    let two = record_lines(alloc, lines, 2, &mut kept);
+    let three = record_lines(alloc, lines, 3, &mut kept);
     let mut rows = ListRows::new(alloc);
-    rows.add_all(first);
-    rows.add_all(second);
-    rows.add_all(third);
-    rows.add_all(fourth);
-    let ends = ByPort {
-        zero,
-        one,
-        two,
-        three,
-    };
+    rows.add_all(kept);
+    let ends = [
+        zero.first, one.first, two.first, three.first, zero.second, one.second, two.second,
+        three.second,
+    ];
     RecordedLists { lines, rows, ends }
 }

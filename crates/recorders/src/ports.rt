@@ -6,10 +6,9 @@ ghost use Rattle.recorders.specs.Receiving.{AreNew, AreResults, TakenAgrees, Res
 ghost use Rattle.recorders.specs.Ending.{AreRecorded};
 
 use crate::by_port::ByPort;
-use crate::record::RecordingEnd;
 use crate::recorded::{ListPass, ListPorts, RecordedList};
 use crate::recorder::RecorderResult;
-use crate::refusal::{RefusedLine, first_refused};
+use crate::refusal::{ContextEnd, RefusedLine, first_refused};
 use port::{DrainPass, Ports};
 use std::alloc::{AllocError, Allocator};
 use std::sync::Wait;
@@ -48,7 +47,7 @@ fn settle_all<A: Allocator, R: Wait>(
     ports: ListPorts<A>,
     results: ByPort<RecorderResult<A>>,
     drain: DrainPass<RecordedList<A>>,
-) -> ByPort<RecordingEnd>
+) -> [ContextEnd; 8]
     requires back { AreBack ports.queue results }
     requires drain { drain.queue ≡ ports.queue }
     ensures ends { result ≡ ends_of results }
@@ -60,12 +59,16 @@ fn settle_all<A: Allocator, R: Wait>(
         two,
         three,
     } = results;
-    let ends = ByPort {
-        zero: zero.end,
-        one: one.end,
-        two: two.end,
-        three: three.end,
-    };
+    let ends = [
+        zero.end.first,
+        one.end.first,
+        two.end.first,
+        three.end.first,
+        zero.end.second,
+        one.end.second,
+        two.end.second,
+        three.end.second,
+    ];
     let mut ports = ports;
     let mut passes = [zero.pass, one.pass, two.pass, three.pass];
     let mut drain = drain;

@@ -6,8 +6,9 @@ ghost use Rattle.scenetext.specs.Seen.{line_value};
 ghost use Rattle.recorders.specs.Apart.{IsListed};
 ghost use Rattle.recorders.specs.Receiving.{IsResultOf, LacksBy, IsSameRecorder};
 
-use crate::record::{RecordingEnd, record_lines};
+use crate::context::record_lines;
 use crate::recorded::{ListPass, ListPorts, RecordedList};
+use crate::refusal::RecordingEnd;
 use crate::sink::ListSender;
 use scenetext::{Actor, Line};
 use std::alloc::Allocator;
@@ -27,7 +28,7 @@ pub struct RecorderSetup<'s, A: Allocator, R, G> {
     pub lines: &'s [Line<A>],
 }
 
-/// What a recorder hands over: its pass, the lists that it did not send, and how it ended.
+/// What a recorder hands over: its pass, the lists that it did not send, and how its two contexts ended.
 #[derive(Drop)]
 pub struct RecorderResult<A: Allocator> {
     pub(crate) pass: ListPass<A>,
@@ -161,14 +162,20 @@ pub(crate) fn start<
 }
 
 impl<'a, A: Allocator> Recorder<'a, A> {
+    fn wait<R: Threads>(&mut self, rt: &R)
+        ensures { IsSameRecorder self.old self.new }
+    {
+        if let Some(thread) = self.thread.take() {
+            self.result = Some(thread.join(rt));
+        }
+    }
+
     /// Joins the thread, if it was not joined, and takes the lists that it did not send.
     pub(crate) fn join<R: Threads>(&mut self, rt: &R, alloc: A) -> Vec<RecordedList<A>, A>
         ensures same { IsSameRecorder self.old self.new }
         ensures listed { All (IsListed self.old.lines) result.items }
     {
-        if let Some(thread) = self.thread.take() {
-            self.result = Some(thread.join(rt));
-        }
+        self.wait(rt);
         match &mut self.result {
             None => Vec::new(alloc),
             Some(result) => mem::replace(&mut result.kept, Vec::new(alloc)),
@@ -182,7 +189,7 @@ impl<'a, A: Allocator> Recorder<'a, A> {
         let _ = &self.task;
         match &self.result {
             None => true,
-            Some(result) => u64::from(number) < result.end.lists(context),
+            Some(result) => u64::from(number) < result.end.of_context(context).lists,
         }
     }
 
