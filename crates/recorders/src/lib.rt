@@ -25,11 +25,10 @@ mod sink;
 mod source;
 
 pub use alone::{RecordedLists, record_alone};
-pub use by_port::ByPort;
 pub use calls::take_call;
-pub use ports::{OpenedPorts, open_ports, settle};
+pub use ports::{Passes, Returned, open_ports, settle};
 pub use received::{ReceivedLists, receive};
-pub use recorded::{ListPass, ListPorts, Recorded, RecordedList};
-pub use recorder::{RecorderResult, RecorderSetup};
-pub use refusal::{ContextEnd, RecordingEnd, RefusedLine, earlier};
+pub use recorded::ListPorts;
+pub use recorder::RecorderSetup;
+pub use refusal::{RefusedLine, earlier};
 pub use source::ListSource;

@@ -4,7 +4,7 @@ ghost use Rattle.std.specs.Prelude.{◌≡◌, ◌<◌, [], All, map, MatchBool,
 ghost use Rattle.port.specs.History.{port_history};
 ghost use Rattle.scenetext.specs.Seen.{line_value};
 ghost use Rattle.recorders.specs.Apart.{IsListed};
-ghost use Rattle.recorders.specs.Receiving.{IsResultOf, LacksBy, IsSameRecorder};
+ghost use Rattle.recorders.specs.Receiving.{IsResultOf, LacksBy};
 
 use crate::context::record_lines;
 use crate::recorded::{ListPass, ListPorts, RecordedList};
@@ -67,7 +67,7 @@ impl<'a, A: Allocator> Model for Recorder<'a, A> {
 
     ghost Value = { RecorderSeen A };
 
-    ghost view = { λ d. record { lines = map line_value d.task.lines.now; queue = d.task.ports.now.queue; number = d.task.number; result = d.result } };
+    ghost view = { λ d. record { task = record { lines = map line_value d.task.lines.now; queue = d.task.ports.now.queue; number = d.task.number }; result = d.result } };
 
     ghost invariant = { λ d. MatchOption d.thread (IsSome d.result) (λ h. h.promise ≡ d.task) × MatchOption d.result (Unit {0}) (IsResultOf (map line_value d.task.lines.now) d.task.ports.now.queue d.task.number) };
 }
@@ -82,9 +82,21 @@ fn record_and_send<A: Allocator + Copy, R: Wait, G: Gate>(
     requires number { number < 4 }
     ensures { IsResultOf (map line_value setup.now.lines.now) setup.now.ports.now.queue number result }
 {
-    let mut sender = ListSender::new(setup.rt, setup.alloc, setup.ports, setup.gate, pass);
+    let mut sender = ListSender {
+        rt: setup.rt,
+        ports: setup.ports,
+        gate: setup.gate,
+        pass,
+        kept: Vec::new(setup.alloc),
+    };
     let end = record_lines(setup.alloc, setup.lines, number, &mut sender);
-    let (pass, kept) = sender.into_parts();
+    let ListSender {
+        rt: _,
+        ports: _,
+        gate: _,
+        pass,
+        kept,
+    } = sender;
     RecorderResult { pass, kept, end }
 }
 
@@ -115,9 +127,7 @@ pub(crate) fn start<
 ) -> Recorder<'s, A>
     requires pass { pass ≡ port_history setup.now.ports.now.queue number [] }
     requires number { number < 4 }
-    ensures lines { result.lines ≡ map line_value setup.now.lines.now }
-    ensures queue { result.queue ≡ setup.now.ports.now.queue }
-    ensures number { result.number ≡ number }
+    ensures { result.task ≡ record { lines = map line_value setup.now.lines.now; queue = setup.now.ports.now.queue; number = number } }
 {
     let (rt, alloc, gate) = (setup.rt, setup.alloc, setup.gate);
     let (ports, lines) = (setup.ports, setup.lines);
@@ -163,7 +173,7 @@ pub(crate) fn start<
 
 impl<'a, A: Allocator> Recorder<'a, A> {
     fn wait<R: Threads>(&mut self, rt: &R)
-        ensures { IsSameRecorder self.old self.new }
+        ensures { self.new.task ≡ self.old.task }
     {
         if let Some(thread) = self.thread.take() {
             self.result = Some(thread.join(rt));
@@ -172,8 +182,8 @@ impl<'a, A: Allocator> Recorder<'a, A> {
 
     /// Joins the thread, if it was not joined, and takes the lists that it did not send.
     pub(crate) fn join<R: Threads>(&mut self, rt: &R, alloc: A) -> Vec<RecordedList<A>, A>
-        ensures same { IsSameRecorder self.old self.new }
-        ensures listed { All (IsListed self.old.lines) result.items }
+        ensures same { self.new.task ≡ self.old.task }
+        ensures listed { All (IsListed self.old.task.lines) result.items }
     {
         self.wait(rt);
         match &mut self.result {
@@ -195,7 +205,7 @@ impl<'a, A: Allocator> Recorder<'a, A> {
 
     /// Joins the thread, if it was not joined, and gives what it handed over.
     pub(crate) fn close<R: Threads>(self, rt: &R) -> RecorderResult<A>
-        ensures result { IsResultOf self.entry.lines self.entry.queue self.entry.number result }
+        ensures result { IsResultOf self.entry.task.lines self.entry.task.queue self.entry.task.number result }
         ensures same { MatchOption self.entry.result (Unit {0}) (λ r. result ≡ r) }
     {
         let Recorder {

@@ -32,11 +32,7 @@ impl RecordingEnd {
     pub(crate) fn of_context(&self, context: u32) -> ContextEnd
         ensures { result ≡ end_in self.now context }
     {
-        if context < 4 {
-            self.first
-        } else {
-            self.second
-        }
+        if context < 4 { self.first } else { self.second }
     }
 }
 

@@ -1,4 +1,4 @@
-use Rattle.std.proofs.Common.{◌∙◌, ap, map, []}
+use Rattle.std.proofs.Common.{rules, ◌≡◌, ◌∙◌, ap, map, []}
 use Rattle.port.specs.History.{PortHistory}
 use Rattle.scenetext.specs.Seen.{line_value}
 use Rattle.recorders.specs.Sinks.{Sender, lists_sent}
@@ -8,6 +8,8 @@ use Rattle.recorders.proofs.recorder.record_and_send.Goals as goal
 pub returns : goal.returns
 returns g c =
     let begin : PortHistory _ → Sender = λ p. record { queue = p.queue; port = p.port; sent = lists_sent p.sent; kept = [] } in
-    sent_and_kept (map line_value c.args.setup.now.lines.now) c.args.setup.now.ports.now.queue c.args.number c.new-sender.result c.record_lines-end.new.sink _
-    c.record_lines-end.ensures.way (c.new-sender.ensures ∙ ap begin c.requires.pass) c.record_lines-end.ensures.recorded
-    c.into_parts-pass.ensures.queue c.into_parts-pass.ensures.port c.into_parts-pass.ensures.sent c.into_parts-pass.ensures.kept
+    let pass : PortHistory _ = c.args.pass in
+    let empty : c.new.result.items ≡ [] = search rules in
+    let none = ap (λ k. record { queue = pass.queue; port = pass.port; sent = lists_sent pass.sent; kept = k }) empty in
+    sent_and_kept (map line_value c.args.setup.now.lines.now) c.args.setup.now.ports.now.queue c.args.number _ c.record_lines-end.new.sink _
+    c.record_lines-end.ensures.way (none ∙ ap begin c.requires.pass) c.record_lines-end.ensures.recorded c.sender.view_is
