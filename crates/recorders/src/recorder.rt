@@ -172,6 +172,7 @@ pub(crate) fn start<
 }
 
 impl<'a, A: Allocator> Recorder<'a, A> {
+    /// Joins the thread, if it was not joined.
     fn wait<R: Threads>(&mut self, rt: &R)
         ensures { self.new.task ≡ self.old.task }
     {
