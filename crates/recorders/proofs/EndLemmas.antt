@@ -1,38 +1,24 @@
 -- The first refused line of all contexts.
-use Rattle.std.proofs.Common.{◌≡◌, ◌∙◌, ap, sym, subst, refl, ℕ, zero, suc, ◌+◌, ◌-◌, ◌<◌, ◌≤◌, ◌⊎◌, inl, inr, arith, Bool, true, false, true≢false, cond, nat_lt, List, [], length, Some, None, Option}
-use Rattle.std.specs.Prelude.{MatchOption, All}
+use Rattle.std.proofs.Common.{◌≡◌, ◌∙◌, ap, sym, subst, refl, ℕ, zero, suc, ◌<◌, ◌≤◌, arith, Bool, true, false, cond, nat_lt, List, [], ◌∷◌, length, Some, None, Option}
+use Rattle.std.specs.Prelude.{MatchOption}
 use Rattle.std.proofs.lemmas.Bool.Decides.{nat_tests}
-use Rattle.std.proofs.lemmas.List.Elements.{All-nil}
 use Rattle.atomic_table.specs.Seated.{TableId}
-use Rattle.port.specs.History.{PortHistory, port_history}
 use Rattle.scenetext.specs.Scene.{Line}
 use Rattle.recorders.specs.declared.refusal.RefusedLine.{RefusedLine}
+use Rattle.recorders.specs.declared.refusal.ContextEnd.{ContextEnd}
+use Rattle.recorders.specs.declared.refusal.RecordingEnd.{RecordingEnd}
 use Rattle.recorders.specs.declared.by_port.ByPort.{ByPort}
-use Rattle.recorders.specs.declared.record.RecordingEnd.{RecordingEnd}
 use Rattle.recorders.specs.declared.recorder.RecorderResult.{RecorderResult}
 use Rattle.recorders.specs.Ports.{at_port, port_of}
-use Rattle.recorders.specs.Recording.{Recording}
-use Rattle.recorders.specs.Sinks.{lists_sent}
-use Rattle.recorders.specs.Apart.{IsListed, AcceptsTo, IsStopOf, stop_or}
-use Rattle.recorders.specs.Recorders.{IsEnd, IsIdle, end_place, idle_end, lists_of_context}
-use Rattle.recorders.specs.Ending.{earlier_of, least_of, IsStopOfSome, Lacks, AreRecorded, AreEnds, EndsLack}
-use Rattle.recorders.specs.Receiving.{IsResultOf, AreResults, ResultsLack, ends_of}
+use Rattle.recorders.specs.Apart.{AcceptsTo, IsStopOf, stop_or}
+use Rattle.recorders.specs.Recorders.{IsEnd, AreEnded, end_in}
+use Rattle.recorders.specs.Ending.{earlier_of, first_of, end_at, ends_by, IsStopOfSome, Lacks, AreRecorded, AreEnds, EndsLack}
+use Rattle.recorders.specs.Receiving.{AreResults, ResultsLack, ends_of}
 use Rattle.recorders.proofs.Growing.{fewer_lists}
-use Rattle.recorders.proofs.Steps.{nothing_of}
 use Rattle.recorders.proofs.PortLemmas.{each_port}
 
 pub accepts_less : (ls : List Line) (k m n : ℕ) → m ≤ n → AcceptsTo ls k n → AcceptsTo ls k m
 accepts_less ls k m n less h j low own = h j (omega (arith, less, low)) own
-
--- a recorder without lines
-pub idle_is : (ls : List Line) (k : ℕ) → IsIdle ls k (length ls) → IsEnd ls k idle_end
-idle_is ls k idle = record {
-  first_counted = ap (λ (r : Recording). length r.lists) (sym (nothing_of ls k (length ls) (omega arith) (λ j low. (idle j low).0)));
-  second_counted = ap (λ (r : Recording). length r.lists) (sym (nothing_of ls (k + 4) (length ls) (omega arith) (λ j low. (idle j low).1)));
-  first_accepts = λ j low own. absurd (true≢false (sym own ∙ (idle j low).0));
-  second_accepts = λ j low own. absurd (true≢false (sym own ∙ (idle j low).1));
-  refused_is = inl tt;
-}
 
 -- ---- the earlier of two refused lines
 
@@ -54,104 +40,93 @@ earlier_is P (Some a) (Some b) pa pb = by (nat_lt b.place a.place)
     by true = pb
     by false = pa
 
--- ---- of four recorders
-
-module _ (ls : List Line) (ends : ByPort RecordingEnd) (h : AreEnds ls ends) where
-  within : (p : ℕ) → p < 4 → end_place ls (at_port ends p) ≤ length ls
-  within p low = by (at_port ends p).refused (h p low).refused_is
-    where
-      by : (s : Option RefusedLine) → IsStopOf ls p (length ls) s ⊎ IsStopOf ls (p + 4) (length ls) s → stop_or s (length ls) ≤ length ls
-      by None is = omega arith
-      by (Some s) (inl is) = let low = is.0 in omega (arith, low)
-      by (Some s) (inr is) = let low = is.0 in omega (arith, low)
-
-  none_before : (p : ℕ) → p < 4 → stop_or (least_of ends) (length ls) ≤ end_place ls (at_port ends p)
-  none_before =
-      let n = length ls in
-      let w0 = within 0 (omega arith) in
-      let w1 = within 1 (omega arith) in
-      let w2 = within 2 (omega arith) in
-      let w3 = within 3 (omega arith) in
-      let low = earlier_low ends.zero.refused ends.one.refused n w0 w1 in
-      let high = earlier_low ends.two.refused ends.three.refused n w2 w3 in
-      let l0 = low.0 in
-      let l1 = low.1 in
-      let h0 = high.0 in
-      let h1 = high.1 in
-      let both = earlier_low (earlier_of ends.zero.refused ends.one.refused) (earlier_of ends.two.refused ends.three.refused) n (omega (arith, l0, w0)) (omega (arith, h0, w2)) in
-      let b0 = both.0 in
-      let b1 = both.1 in
-      each_port (λ p. stop_or (least_of ends) (length ls) ≤ end_place ls (at_port ends p)) (omega (arith, b0, l0)) (omega (arith, b0, l1)) (omega (arith, b1, h0)) (omega (arith, b1, h1))
-
-  some_stop : (p : ℕ) → p < 4 → IsStopOfSome ls (at_port ends p).refused
-  some_stop p low = by (at_port ends p).refused (h p low).refused_is
-    where
-      by : (s : Option RefusedLine) → IsStopOf ls p (length ls) s ⊎ IsStopOf ls (p + 4) (length ls) s → IsStopOfSome ls s
-      by None is = tt
-      by (Some s) (inl one) = (p, omega (arith, low), one)
-      by (Some s) (inr two) = (p + 4, omega (arith, low), two)
-
-  stop_is : IsStopOfSome ls (least_of ends)
-  stop_is =
-      earlier_is (IsStopOfSome ls) (earlier_of ends.zero.refused ends.one.refused) (earlier_of ends.two.refused ends.three.refused)
-      (earlier_is (IsStopOfSome ls) ends.zero.refused ends.one.refused (some_stop 0 (omega arith)) (some_stop 1 (omega arith)))
-      (earlier_is (IsStopOfSome ls) ends.two.refused ends.three.refused (some_stop 2 (omega arith)) (some_stop 3 (omega arith)))
-
-  -- of context k
-  abbrev Holds : ℕ → Type 0
-  Holds k = AcceptsTo ls k (stop_or (least_of ends) (length ls)) × ((n : ℕ) → EndsLack ends k n → Lacks ls (least_of ends) k n)
-
-  holds : (k : ℕ) → k < 8 → Holds k
-  holds k low = by (nat_lt k 4) refl
-    where
-      by : (b : Bool) → nat_lt k 4 ≡ b → AcceptsTo ls k (stop_or (least_of ends) (length ls)) × ((n : ℕ) → cond b (at_port ends (cond b k (k - 4))).first_lists (at_port ends (cond b k (k - 4))).second_lists ≤ n → Lacks ls (least_of ends) k n)
-      by true e =
-          let few : k < 4 = grind (arith, nat_tests) in
-          let before = none_before k few in
-          let count = (h k few).first_counted in
-          let fewer = fewer_lists ls k (stop_or (least_of ends) (length ls)) (end_place ls (at_port ends k)) before in
-          (accepts_less ls k _ _ before (h k few).first_accepts, λ n lack. omega (arith, lack, count, fewer))
-      by false e =
-          let many : 4 ≤ k = grind (arith, nat_tests) in
-          let few : k - 4 < 4 = omega (arith, low, many) in
-          let back : k - 4 + 4 ≡ k = omega (arith, many) in
-          let before = none_before (k - 4) few in
-          let count = (h (k - 4) few).second_counted in
-          let fewer = fewer_lists ls (k - 4 + 4) (stop_or (least_of ends) (length ls)) (end_place ls (at_port ends (k - 4))) before in (
-            subst (λ c. AcceptsTo ls c (stop_or (least_of ends) (length ls))) back (accepts_less ls (k - 4 + 4) _ _ before (h (k - 4) few).second_accepts),
-            λ n lack. subst (λ c. Lacks ls (least_of ends) c n) back (omega (arith, lack, count, fewer)),
-          )
-
-  pub all_recorded : (missing : Option (ℕ × ℕ)) → MatchOption missing (Unit {0}) (λ name. name.0 < 8 → EndsLack ends name.0 name.1) → AreRecorded ls (least_of ends) missing
-  all_recorded missing lacks = record { accepted = λ k low. (holds k low).0; stop_is = stop_is; missing_is = each missing lacks }
-    where
-      each : (o : Option (ℕ × ℕ)) → MatchOption o (Unit {0}) (λ name. name.0 < 8 → EndsLack ends name.0 name.1) → MatchOption o (Unit {0}) (λ name. name.0 < 8 → Lacks ls (least_of ends) name.0 name.1)
-      each None l = tt
-      each (Some name) l = λ low. (holds name.0 low).1 name.1 (l low)
-
 pub match_more : {X : Type 0} {P Q : X → Type 0} (o : Option X) → ((x : X) → P x → Q x) → MatchOption o (Unit {0}) P → MatchOption o (Unit {0}) Q
 match_more None f h = tt
 match_more (Some x) f h = f x h
 
--- ---- of four recorders that were joined
+-- ---- the first of many
 
-end_at : {A : Type 0} (results : ByPort (RecorderResult A)) (p : ℕ) → at_port (ends_of results) p ≡ (at_port results p).end
-end_at results zero = refl
-end_at results (suc zero) = refl
-end_at results (suc (suc zero)) = refl
-end_at results (suc (suc (suc p))) = refl
+-- it is among them, or was known
+first_is : (P : Option RefusedLine → Type 0) (known : Option RefusedLine) (ends : List ContextEnd) → P known → ((k : ℕ) → k < length ends → P (end_at ends k).refused) → P (first_of known ends)
+first_is P known [] p each = p
+first_is P known (e ∷ ends) p each =
+    first_is P (earlier_of known e.refused) ends (earlier_is P known e.refused p (each 0 (omega arith))) (λ k low. each (suc k) (omega (arith, low)))
 
-pub all_results : {A : Type 0} (ls : List Line) (queue : TableId) (results : ByPort (RecorderResult A)) (ends : ByPort RecordingEnd) (refused : Option RefusedLine) (missing : Option (ℕ × ℕ)) → AreResults ls queue results → ends ≡ ends_of results → refused ≡ least_of ends → MatchOption missing (Unit {0}) (λ name. name.0 < 8 → ResultsLack results name.0 name.1) → AreRecorded ls refused missing
+below_each : (a : ℕ) (e : ContextEnd) (ends : List ContextEnd) (n : ℕ) → a ≤ stop_or e.refused n → ((k : ℕ) → k < length ends → a ≤ stop_or (end_at ends k).refused n) → (k : ℕ) → k < length (e ∷ ends) → a ≤ stop_or (end_at (e ∷ ends) k).refused n
+below_each a e ends n one rest zero low = one
+below_each a e ends n one rest (suc k) low = rest k (omega (arith, low))
+
+-- and none of them is before it
+first_low : (known : Option RefusedLine) (ends : List ContextEnd) (n : ℕ) → stop_or known n ≤ n → ((k : ℕ) → k < length ends → stop_or (end_at ends k).refused n ≤ n) → (stop_or (first_of known ends) n ≤ stop_or known n) × ((k : ℕ) → k < length ends → stop_or (first_of known ends) n ≤ stop_or (end_at ends k).refused n)
+first_low known [] n h each = (omega arith, λ k low. absurd (omega (arith, low)))
+first_low known (e ∷ ends) n h each =
+    let two = earlier_low known e.refused n h (each 0 (omega arith)) in
+    let to_known = two.0 in
+    let to_first = two.1 in
+    let rest = first_low (earlier_of known e.refused) ends n (omega (arith, to_known, h)) (λ k low. each (suc k) (omega (arith, low))) in
+    let low = rest.0 in
+    (omega (arith, low, to_known), below_each _ e ends n (omega (arith, low, to_first)) rest.1)
+
+-- ---- of eight contexts
+
+pub each_context : (F : ℕ → Type 0) → F 0 → F 1 → F 2 → F 3 → F 4 → F 5 → F 6 → F 7 → (k : ℕ) → k < 8 → F k
+each_context F a b c d e f g h zero low = a
+each_context F a b c d e f g h (suc zero) low = b
+each_context F a b c d e f g h (suc (suc zero)) low = c
+each_context F a b c d e f g h (suc (suc (suc zero))) low = d
+each_context F a b c d e f g h (suc (suc (suc (suc k)))) low = each_port (λ n. F (suc (suc (suc (suc n))))) e f g h k (omega (arith, low))
+
+within : (ls : List Line) (k : ℕ) (e : ContextEnd) → IsEnd ls k e → stop_or e.refused (length ls) ≤ length ls
+within ls k e h = by e.refused h.stop_is
+  where
+    by : (s : Option RefusedLine) → IsStopOf ls k (length ls) s → stop_or s (length ls) ≤ length ls
+    by None is = omega arith
+    by (Some s) is = let low = is.0 in omega (arith, low)
+
+module _ (ls : List Line) (ends : List ContextEnd) (are : AreEnds ls ends) where
+  eight : length ends ≡ 8
+  eight = are.0
+
+  h : (k : ℕ) → k < 8 → IsEnd ls k (end_at ends k)
+  h = are.1
+
+  abbrev first : Option RefusedLine
+  first = first_of None ends
+
+  none_before : (k : ℕ) → k < 8 → stop_or first (length ls) ≤ stop_or (end_at ends k).refused (length ls)
+  none_before k low = (first_low None ends (length ls) (omega arith) (λ j few. within ls j (end_at ends j) (h j (omega (arith, few, eight))))).1 k (omega (arith, low, eight))
+
+  stop_is : IsStopOfSome ls first
+  stop_is = first_is (IsStopOfSome ls) None ends tt (λ k few. some k (omega (arith, few, eight)) (end_at ends k).refused (h k (omega (arith, few, eight))).stop_is)
+    where
+      some : (k : ℕ) → k < 8 → (s : Option RefusedLine) → IsStopOf ls k (length ls) s → IsStopOfSome ls s
+      some k low None is = tt
+      some k low (Some s) is = (k, low, is)
+
+  pub all_recorded : (missing : Option (ℕ × ℕ)) → MatchOption missing (Unit {0}) (λ name. name.0 < 8 → EndsLack ends name.0 name.1) → AreRecorded ls first missing
+  all_recorded missing lacks = record {
+    accepted = λ k low. accepts_less ls k _ _ (none_before k low) (h k low).accepts;
+    stop_is = stop_is;
+    missing_is = match_more missing (λ name lack low. fewer name.0 name.1 low (lack low)) lacks;
+  }
+    where
+      fewer : (k n : ℕ) → k < 8 → EndsLack ends k n → Lacks ls first k n
+      fewer k n low lack =
+          let count = (h k low).counted in
+          let less = fewer_lists ls k (stop_or first (length ls)) (stop_or (end_at ends k).refused (length ls)) (none_before k low) in
+          omega (arith, lack, count, less)
+
+-- ---- of four recorders
+
+pub all_ended : (ls : List Line) (a b c d : RecordingEnd) → AreEnded ls 0 a → AreEnded ls 1 b → AreEnded ls 2 c → AreEnded ls 3 d → AreEnds ls (ends_by a b c d)
+all_ended ls a b c d p q r s =
+    (refl, each_context (λ k. IsEnd ls k (end_at (ends_by a b c d) k)) p.first_is q.first_is r.first_is s.first_is p.second_is q.second_is r.second_is s.second_is)
+
+pub all_results : {A : Type 0} (ls : List Line) (queue : TableId) (results : ByPort (RecorderResult A)) (ends : List ContextEnd) (refused : Option RefusedLine) (missing : Option (ℕ × ℕ)) → AreResults ls queue results → ends ≡ ends_of results → refused ≡ first_of None ends → MatchOption missing (Unit {0}) (λ name. name.0 < 8 → ResultsLack results name.0 name.1) → AreRecorded ls refused missing
 all_results ls queue results ends refused missing h is least lacks =
-    subst (λ s. AreRecorded ls s missing) (sym (least ∙ ap least_of is))
-    (all_recorded ls (ends_of results) (λ p low. subst (IsEnd ls p) (sym (end_at results p)) (h p low).end_is) missing
-    (match_more missing (λ name l low. subst (λ (e : RecordingEnd). lists_of_context e name.0 ≤ name.1) (sym (end_at results (port_of name.0))) (l low)) lacks))
-
-pub idle_result : {A : Type 0} (ls : List Line) (queue : TableId) (number : ℕ) (r : RecorderResult A) → r.pass ≡ port_history queue number [] → r.kept.items ≡ [] → r.end ≡ idle_end → IsIdle ls number (length ls) → IsResultOf ls queue number r
-idle_result ls queue number r pass none end idle = record {
-  queue_is = ap (λ (p : PortHistory _). p.queue) pass;
-  port_is = ap (λ (p : PortHistory _). p.port) pass;
-  sent = subst (λ (p : PortHistory _). All (IsListed ls) (lists_sent p.sent)) (sym pass) (All-nil (IsListed ls));
-  kept = subst (All (IsListed ls)) (sym none) (All-nil (IsListed ls));
-  end_is = subst (IsEnd ls number) (sym end) (idle_is ls number idle);
-}
+    subst (λ s. AreRecorded ls s missing) (sym (least ∙ ap (first_of None) is))
+    (all_recorded ls (ends_of results) (all_ended ls _ _ _ _ (h 0 (omega arith)).ends (h 1 (omega arith)).ends (h 2 (omega arith)).ends (h 3 (omega arith)).ends)
+    missing (match_more missing (λ name lack low. subst (λ (e : ContextEnd). e.lists ≤ name.1) (same name.0 low) (lack low)) lacks))
+  where
+    same : (k : ℕ) → k < 8 → end_in (at_port results (port_of k)).end k ≡ end_at (ends_of results) k
+    same = each_context (λ k. end_in (at_port results (port_of k)).end k ≡ end_at (ends_of results) k) refl refl refl refl refl refl refl refl

@@ -5,4 +5,3 @@ pub mod Steps
 pub mod RowLemmas
 pub mod PortLemmas
 pub mod EndLemmas
-pub mod NamedLemmas

@@ -4,7 +4,7 @@ use Rattle.std.specs.Prelude.{Some, List, Result}
 use Rattle.gfxspec.specs.Commands.{Command}
 use Rattle.gfxspec.specs.declared.error.GfxError.{GfxError}
 use Rattle.cmdlist.specs.Calls.{RecordsCall}
-use Rattle.scenetext.specs.Scene.{Verb, Call, Finish, Flush, Execute, Query, Pixel}
+use Rattle.scenetext.specs.Scene.{Verb, Call}
 use Rattle.recorders.specs.Calls.{call_in, TakesCall}
 
 -- the call that a verb is was made
@@ -12,8 +12,4 @@ pub made : {S : Type 0} (recorded : S → List Command) (with : S → Command �
 made recorded with old new (Call c) k result is h =
     let same : k ≡ c = cc in
     subst (λ x. RecordsCall recorded with old x new result) same h
-made recorded with old new (Finish restore) k result is h = absurd cc
-made recorded with old new Flush k result is h = absurd cc
-made recorded with old new (Execute context list restore) k result is h = absurd cc
-made recorded with old new (Query query) k result is h = absurd cc
-made recorded with old new (Pixel x y) k result is h = absurd cc
+made recorded with old new v k result is h = absurd cc

@@ -15,11 +15,11 @@ use Rattle.recorders.specs.Ports.{at_port, port_of}
 use Rattle.recorders.specs.Sinks.{Way, Sender, lists_sent, sender_lists, sender_way}
 use Rattle.recorders.specs.Apart.{listed, IsListed}
 use Rattle.recorders.specs.Asking.{Asked}
-use Rattle.recorders.specs.Recorders.{IsRecording, lists_of_context}
+use Rattle.recorders.specs.Recorders.{IsRecording, end_in}
 use Rattle.recorders.specs.Rows.{AreRows, IsNext, with_list}
 use Rattle.recorders.proofs.RowLemmas.{rows_more}
-use Rattle.std.proofs.lemmas.List.Elements.{All-tail}
-use Rattle.recorders.specs.Receiving.{Receipts, RecorderSeen, IsResultOf, IsRecorderOf, AreRecorders, AreSameRecorders, LacksBy, AreResults, AreBack, TakenAgrees, ReceiptAgrees, IsMore, receipt_frame, receipt_right}
+use Rattle.std.proofs.lemmas.List.Elements.{All-tail, All-nil}
+use Rattle.recorders.specs.Receiving.{Receipts, Task, IsResultOf, LacksBy, AreResults, TakenAgrees, ReceiptAgrees, IsMore, receipt_frame, receipt_right}
 
 -- ---- four ports
 
@@ -103,7 +103,7 @@ module _ {A : Type 0} (queue : TableId) (results : ByPort (RecorderResult A)) wh
   abbrev pub passes_of : ByPort (RecorderResult A) → List (PortHistory (Recorded (List Command)))
   passes_of r = r.zero.pass ∷ r.one.pass ∷ r.two.pass ∷ r.three.pass ∷ []
 
-  pub all_back : AreBack queue results → AreAll queue (passes_of results)
+  pub all_back : ((p : ℕ) → p < 4 → ((at_port results p).pass.queue ≡ queue) × ((at_port results p).pass.port ≡ p)) → AreAll queue (passes_of results)
   all_back back =
       let zero_is = back 0 (omega arith) in
       let one_is = back 1 (omega arith) in
@@ -138,30 +138,25 @@ back_all P (x ∷ xs) ys h = back_all P xs ys (All-tail P x (xs ++ ys) h)
 same_way : (a b : Way) → Some a ≡ Some b → a ≡ b
 same_way a b h = ap (λ o. unwrap_or o a) h
 
-pub sent_and_kept : {A : Type 0} (ls : List Line) (queue : TableId) (number : ℕ) (s0 s : Sender) (r : RecorderResult A) → sender_way s ≡ sender_way s0 → s0.queue ≡ queue → s0.port ≡ number → IsRecording ls number (sender_lists s) r.end → r.pass.queue ≡ s.queue → r.pass.port ≡ s.port → lists_sent r.pass.sent ≡ s.sent → r.kept.items ≡ s.kept → IsResultOf ls queue number r
-sent_and_kept ls queue number s0 s r way at_queue at_port_ h r_queue r_port r_sent r_kept =
+pub sent_and_kept : {A : Type 0} (ls : List Line) (queue : TableId) (number : ℕ) (s0 s : Sender) (r : RecorderResult A) → sender_way s ≡ sender_way s0 → s0 ≡ record { queue = queue; port = number; sent = []; kept = [] } → IsRecording ls number (sender_lists s0) (sender_lists s) r.end → record { queue = r.pass.queue; port = r.pass.port; sent = lists_sent r.pass.sent; kept = r.kept.items } ≡ s → IsResultOf ls queue number r
+sent_and_kept ls queue number s0 s r way start h is =
     let w = same_way _ _ way in
+    let listed = h.listed (subst (λ x. All (IsListed ls) (sender_lists x)) (sym start) (All-nil (IsListed ls))) in
+    let both = subst (λ x. All (IsListed ls) (sender_lists x)) (sym is) listed in
     record {
-      queue_is = r_queue ∙ ap (λ (x : Way). x.queue) w ∙ at_queue;
-      port_is = r_port ∙ ap (λ (x : Way). x.port) w ∙ at_port_;
-      sent = subst (All (IsListed ls)) (sym r_sent) (front_all (IsListed ls) s.sent s.kept h.listed);
-      kept = subst (All (IsListed ls)) (sym r_kept) (back_all (IsListed ls) s.sent s.kept h.listed);
-      end_is = h.end_is;
+      queue_is = ap (λ (x : Sender). x.queue) is ∙ ap (λ (x : Way). x.queue) w ∙ ap (λ (x : Sender). x.queue) start;
+      port_is = ap (λ (x : Sender). x.port) is ∙ ap (λ (x : Way). x.port) w ∙ ap (λ (x : Sender). x.port) start;
+      sent = front_all (IsListed ls) (lists_sent r.pass.sent) r.kept.items both;
+      kept = back_all (IsListed ls) (lists_sent r.pass.sent) r.kept.items both;
+      ends = h.ends;
     }
 
-pub same_recorders : {A : Type 0} (ls : List Line) (queue : TableId) (old new : ByPort (RecorderSeen A)) → AreSameRecorders old new → AreRecorders ls queue old → AreRecorders ls queue new
-same_recorders ls queue old new same h p low =
-    let s = same p in
-    let r = h p low in
-    record { lines_is = s.lines_is ∙ r.lines_is; queue_is = s.queue_is ∙ r.queue_is; number_is = s.number_is ∙ r.number_is }
+pub result_at : {A : Type 0} (t d : Task) (r : RecorderResult A) → d ≡ t → IsResultOf d.lines d.queue d.number r → IsResultOf t.lines t.queue t.number r
+result_at t d r is h = subst (λ (x : Task). IsResultOf x.lines x.queue x.number r) is h
 
-pub result_at : {A : Type 0} (ls : List Line) (queue : TableId) (p : ℕ) (d : RecorderSeen A) (r : RecorderResult A) → IsRecorderOf ls queue p d → IsResultOf d.lines d.queue d.number r → IsResultOf ls queue p r
-result_at ls queue p d r is h =
-    subst (λ n. IsResultOf ls queue n r) is.number_is (subst (λ q. IsResultOf ls q d.number r) is.queue_is (subst (λ xs. IsResultOf xs d.queue d.number r) is.lines_is h))
-
-pub lacks_same : {A : Type 0} (o : Option (RecorderResult A)) (r : RecorderResult A) → MatchOption o (Unit {0}) (λ q. r ≡ q) → (k n : ℕ) → LacksBy o k n → lists_of_context r.end k ≤ n
+pub lacks_same : {A : Type 0} (o : Option (RecorderResult A)) (r : RecorderResult A) → MatchOption o (Unit {0}) (λ q. r ≡ q) → (k n : ℕ) → LacksBy o k n → (end_in r.end k).lists ≤ n
 lacks_same None r same k n l = absurd l
-lacks_same (Some q) r same k n l = subst (λ (x : RecorderResult _). lists_of_context x.end k ≤ n) (sym same) l
+lacks_same (Some q) r same k n l = subst (λ (x : RecorderResult _). (end_in x.end k).lists ≤ n) (sym same) l
 
 -- ---- one list more
 
@@ -171,6 +166,3 @@ took ls taken rows new x h low next is agrees =
 
 pub lost : (ls : List Line) (taken : List (Submission (Recorded (List Command)))) (rows new : List (List (List Command))) (x : Submission (Recorded (List Command))) → (TakenAgrees ls taken → AreRows ls rows) → new ≡ rows → TakenAgrees ls (taken ++ x ∷ []) → AreRows ls new
 lost ls taken rows new x h same agrees = subst (AreRows ls) (sym same) (h (agrees_before ls taken (x ∷ []) (taken ++ x ∷ []) refl agrees))
-
-pub four_recorders : {A : Type 0} (ls : List Line) (queue : TableId) (r : ByPort (RecorderSeen A)) → IsRecorderOf ls queue 0 r.zero → IsRecorderOf ls queue 1 r.one → IsRecorderOf ls queue 2 r.two → IsRecorderOf ls queue 3 r.three → AreRecorders ls queue r
-four_recorders ls queue r = each_port (λ p. IsRecorderOf ls queue p (at_port r p))

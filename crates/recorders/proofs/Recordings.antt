@@ -7,7 +7,7 @@ use Rattle.std.proofs.lemmas.List.Elements.{filter_map-append}
 use Rattle.std.proofs.lemmas.List.Sums.{sum_by-cons}
 use Rattle.gfxspec.specs.Commands.{Command}
 use Rattle.gfxspec.specs.Recorded.{after_finish}
-use Rattle.scenetext.specs.Scene.{Actor, Immediate, Deferred, Verb, Call, Finish, Flush, Execute, Query, Pixel, Line}
+use Rattle.scenetext.specs.Scene.{Actor, Immediate, Deferred, Verb, Call, Finish, Line}
 use Rattle.scenetext.specs.Spelling.{is_finish, is_deferred, finishes_list}
 use Rattle.recorders.specs.Lists.{is_of, verb_of, recorded, lists_of, list_of, last_list, current_of}
 use Rattle.recorders.specs.Recording.{Recording, nothing_recorded, recording_with, recording_after, recording_of}
@@ -68,12 +68,8 @@ list_is k n earlier h = ap (λ ls. unwrap_or (slice_get ls n) []) (lists_are k e
 -- ---- their number
 
 finished-with : (v : Verb) (r : Recording) → length (recording_with v r).lists ≡ length r.lists + cond (is_finish v) 1 0
-finished-with (Call c) r = omega arith
 finished-with (Finish restore) r = length_push r.lists r.current
-finished-with Flush r = omega arith
-finished-with (Execute c n restore) r = omega arith
-finished-with (Query q) r = omega arith
-finished-with (Pixel x y) r = omega arith
+finished-with v r = omega arith
 
 is_of-deferred : (k : ℕ) (a : Actor) → is_of k a ≡ is_deferred k a
 is_of-deferred k Immediate = refl

@@ -1,6 +1,6 @@
 -- One more list in a row.
 use Rattle.std.proofs.Common.{◌≡◌, ◌∙◌, ap, sym, subst, ℕ, zero, suc, ◌<◌, ⊎_elim, arith, List, [], ◌∷◌, ◌++◌, length}
-use Rattle.std.specs.Prelude.{slice_index_or, OnOk, Result, Ok, Err}
+use Rattle.std.specs.Prelude.{slice_index_or, OnOk, OnErr, Result, Ok, Err}
 use Rattle.std.proofs.lemmas.Bool.{cases_lt, cases_eq}
 use Rattle.std.proofs.lemmas.List.{length_push, get_or_push, get_or-set_same, get_or-set_other}
 use Rattle.gfxspec.specs.Commands.{Command}
@@ -22,6 +22,11 @@ rows_more ls rows x next is h k =
     subst (IsRow ls k) (sym (ap (λ c. slice_index_or (with_list rows x.context x.list) c []) (sym e) ∙ get_or-set_same rows x.context (row rows x.context ++ x.list ∷ []) [] next.0))
     (subst (λ c. IsRow ls c (row rows x.context ++ x.list ∷ [])) e (row_push ls x.context (row rows x.context) x.list (h x.context) (is ∙ ap (listed ls x.context) next.1))))
     (λ other. subst (IsRow ls k) (sym (get_or-set_other rows x.context k (row rows x.context ++ x.list ∷ []) [] (λ e. other (sym e)))) (h k)) (cases_eq x.context k)
+
+-- a list was added, or there was no room for it
+pub added : {E : Type 0} (ls : List Line) (rows new : List (List (List Command))) (x : Recorded (List Command)) (r : Result (Unit {0}) E) → OnOk r (IsNext rows x × (new ≡ with_list rows x.context x.list)) → OnErr r (new ≡ rows) → IsListed ls x → AreRows ls rows → AreRows ls new
+added ls rows new x (Ok u) ok err is h = subst (AreRows ls) (sym ok.1) (rows_more ls rows x ok.0 is h)
+added ls rows new x (Err e) ok err is h = subst (AreRows ls) (sym err) h
 
 pub rows_none : (ls : List Line) → AreRows ls no_rows
 rows_none ls k n low = absurd (none k low)

@@ -1,13 +1,12 @@
 -- All deferred contexts of a scene, recorded.
-use Rattle.std.specs.Prelude.{ℕ, ◌<◌, ◌≤◌, nat_lt, List, length, Option, Some, None, MatchOption, if◌then◌else◌}
+use Rattle.std.specs.Prelude.{ℕ, ◌≡◌, ◌<◌, ◌≤◌, nat_lt, List, [], ◌∷◌, length, Option, Some, None, MatchOption, slice_index_or, if◌then◌else◌}
 use Rattle.gfxspec.specs.Commands.{Command}
 use Rattle.scenetext.specs.Scene.{Line}
 use Rattle.recorders.specs.declared.refusal.RefusedLine.{RefusedLine}
-use Rattle.recorders.specs.declared.by_port.ByPort.{ByPort}
-use Rattle.recorders.specs.declared.record.RecordingEnd.{RecordingEnd}
-use Rattle.recorders.specs.Ports.{at_port, port_of}
+use Rattle.recorders.specs.declared.refusal.ContextEnd.{ContextEnd}
+use Rattle.recorders.specs.declared.refusal.RecordingEnd.{RecordingEnd}
 use Rattle.recorders.specs.Apart.{listed, lists_behind, AcceptsTo, IsStopOf, stop_or}
-use Rattle.recorders.specs.Recorders.{IsEnd, lists_of_context}
+use Rattle.recorders.specs.Recorders.{IsEnd}
 use Rattle.recorders.specs.Rows.{row}
 use Rattle.recorders.specs.Asking.{Asked}
 
@@ -17,8 +16,10 @@ earlier_of None b = b
 earlier_of (Some a) None = Some a
 earlier_of (Some a) (Some b) = if nat_lt b.place a.place then Some b else Some a
 
-abbrev pub least_of : ByPort RecordingEnd → Option RefusedLine
-least_of ends = earlier_of (earlier_of ends.zero.refused ends.one.refused) (earlier_of ends.two.refused ends.three.refused)
+-- the first of these contexts' and one that is known
+abbrev pub first_of : Option RefusedLine → List ContextEnd → Option RefusedLine
+first_of known [] = known
+first_of known (e ∷ ends) = first_of (earlier_of known e.refused) ends
 
 -- one of the eight contexts refused a line, or memory was refused in it
 abbrev pub IsStopOfSome : List Line → Option RefusedLine → Type 0
@@ -35,20 +36,27 @@ pub record AreRecorded (ls : List Line) (refused : Option RefusedLine) (missing 
   pub stop_is : IsStopOfSome ls refused
   pub missing_is : MatchOption missing (Unit {0}) (λ name. name.0 < 8 → Lacks ls refused name.0 name.1)
 
--- how the four recorders end
-abbrev pub AreEnds : List Line → ByPort RecordingEnd → Type 0
-AreEnds ls ends = (p : ℕ) → p < 4 → IsEnd ls p (at_port ends p)
+abbrev pub end_at : List ContextEnd → ℕ → ContextEnd
+end_at ends k = slice_index_or ends k (record { lists = 0; refused = None })
 
--- a recorder finished no list of this number
-abbrev pub EndsLack : ByPort RecordingEnd → ℕ → ℕ → Type 0
-EndsLack ends k n = lists_of_context (at_port ends (port_of k)) k ≤ n
+-- those of contexts 0 to 7, by their four recorders
+abbrev pub ends_by : RecordingEnd → RecordingEnd → RecordingEnd → RecordingEnd → List ContextEnd
+ends_by a b c d = a.first ∷ b.first ∷ c.first ∷ d.first ∷ a.second ∷ b.second ∷ c.second ∷ d.second ∷ []
+
+-- how the eight contexts end
+abbrev pub AreEnds : List Line → List ContextEnd → Type 0
+AreEnds ls ends = (length ends ≡ 8) × ((k : ℕ) → k < 8 → IsEnd ls k (end_at ends k))
+
+-- context k finished no list of this number
+abbrev pub EndsLack : List ContextEnd → ℕ → ℕ → Type 0
+EndsLack ends k n = (end_at ends k).lists ≤ n
 
 -- ---- recorded alone
 
 pub record Alone : Type 0 where
   pub lines : List Line
   pub rows : List (List (List Command))
-  pub ends : ByPort RecordingEnd
+  pub ends : List ContextEnd
 
 abbrev pub alone_frame : Alone → Asked
 alone_frame s = record { lines = s.lines; queue = None }

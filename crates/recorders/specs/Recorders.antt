@@ -1,42 +1,32 @@
 -- What the recorder of contexts k and k + 4 gives (this project's own).
-use Rattle.std.specs.Prelude.{ℕ, ◌≡◌, ◌<◌, ◌+◌, ◌⊎◌, nat_lt, Bool, true, false, List, length, All, None, slice_index_or, if◌then◌else◌}
+use Rattle.std.specs.Prelude.{ℕ, ◌≡◌, ◌+◌, nat_lt, List, length, All, Option, if◌then◌else◌}
 use Rattle.gfxspec.specs.Commands.{Command}
 use Rattle.scenetext.specs.Scene.{Line}
 use Rattle.recorders.specs.declared.recorded.Recorded.{Recorded}
-use Rattle.recorders.specs.declared.record.RecordingEnd.{RecordingEnd}
-use Rattle.recorders.specs.Lists.{is_of}
-use Rattle.recorders.specs.Apart.{line_at, lists_behind, IsListed, AcceptsTo, IsStopOf, stop_or}
+use Rattle.recorders.specs.declared.refusal.ContextEnd.{ContextEnd}
+use Rattle.recorders.specs.declared.refusal.RecordingEnd.{RecordingEnd}
+use Rattle.recorders.specs.declared.refusal.RefusedLine.{RefusedLine}
+use Rattle.recorders.specs.Apart.{lists_behind, IsListed, AcceptsTo, IsStopOf, stop_or}
 
--- where both contexts end
-abbrev pub end_place : List Line → RecordingEnd → ℕ
-end_place ls e = stop_or e.refused (length ls)
+-- among the first i lines context k accepts its own up to the one that it refuses, if it refuses one, and it finished this many lists
+pub record HasRecorded (ls : List Line) (k i : ℕ) (lists : ℕ) (refused : Option RefusedLine) : Type 0 where
+  pub counted : lists ≡ length (lists_behind ls k (stop_or refused i))
+  pub accepts : AcceptsTo ls k (stop_or refused i)
+  pub stop_is : IsStopOf ls k i refused
 
--- each of the two accepts its lines up to the end, which is the first refused line of one of them, or the end of all lines; and it finished so many lists
-pub record IsEnd (ls : List Line) (k : ℕ) (e : RecordingEnd) : Type 0 where
-  pub first_counted : e.first_lists ≡ length (lists_behind ls k (end_place ls e))
-  pub second_counted : e.second_lists ≡ length (lists_behind ls (k + 4) (end_place ls e))
-  pub first_accepts : AcceptsTo ls k (end_place ls e)
-  pub second_accepts : AcceptsTo ls (k + 4) (end_place ls e)
-  pub refused_is : IsStopOf ls k (length ls) e.refused ⊎ IsStopOf ls (k + 4) (length ls) e.refused
+abbrev pub IsEnd : List Line → ℕ → ContextEnd → Type 0
+IsEnd ls k e = HasRecorded ls k (length ls) e.lists e.refused
+
+-- how contexts k and k + 4 end
+pub record AreEnded (ls : List Line) (k : ℕ) (e : RecordingEnd) : Type 0 where
+  pub first_is : IsEnd ls k e.first
+  pub second_is : IsEnd ls (k + 4) e.second
+
+abbrev pub end_in : RecordingEnd → ℕ → ContextEnd
+end_in e k = if nat_lt k 4 then e.first else e.second
 
 -- all lists that were put are those that their contexts and numbers name, and they are as many as were finished
-pub record IsRecording (ls : List Line) (k : ℕ) (lists : List (Recorded (List Command))) (e : RecordingEnd) : Type 0 where
-  pub listed : All (IsListed ls) lists
-  pub whole : length lists ≡ e.first_lists + e.second_lists
-  pub end_is : IsEnd ls k e
-
-abbrev pub lists_of_context : RecordingEnd → ℕ → ℕ
-lists_of_context e k = if nat_lt k 4 then e.first_lists else e.second_lists
-
--- ---- without lines
-
-abbrev pub idle_end : RecordingEnd
-idle_end = record { first_lists = 0; second_lists = 0; refused = None }
-
--- none of the first i lines is one of contexts k and k + 4
-abbrev pub IsIdle : List Line → ℕ → ℕ → Type 0
-IsIdle ls k i = (j : ℕ) → j < i → (is_of k (line_at ls j).actor ≡ false) × (is_of (k + 4) (line_at ls j).actor ≡ false)
-
--- recorders that aren't named have no lines
-abbrev pub IdleUnless : List Line → List Bool → Type 0
-IdleUnless ls named = (length named ≡ 4) × ((k : ℕ) → k < 4 → slice_index_or named k true ≡ false → IsIdle ls k (length ls))
+pub record IsRecording (ls : List Line) (k : ℕ) (before after : List (Recorded (List Command))) (e : RecordingEnd) : Type 0 where
+  pub listed : All (IsListed ls) before → All (IsListed ls) after
+  pub whole : length after ≡ length before + e.first.lists + e.second.lists
+  pub ends : AreEnded ls k e

@@ -1,29 +1,46 @@
 -- A deferred context that takes a line.
-use Rattle.std.specs.Prelude.{ℕ, ◌≡◌, ◌+◌, Bool, true, false, List, [], ◌∷◌, ◌++◌, None}
+use Rattle.std.specs.Prelude.{ℕ, ◌≡◌, ◌+◌, Bool, true, false, List, [], ◌∷◌, ◌++◌, Option, Some, None}
 use Rattle.gfxspec.specs.declared.error.GfxError.{GfxError}
 use Rattle.gfxspec.specs.Commands.{Command}
 use Rattle.gfxspec.specs.Recorded.{after_finish}
 use Rattle.gfxspec.specs.Refusals.{first_row}
 use Rattle.scenetext.specs.Scene.{Verb, Call, Finish, Line}
 use Rattle.recorders.specs.declared.recorded.Recorded.{Recorded}
+use Rattle.recorders.specs.declared.refusal.ContextEnd.{ContextEnd}
+use Rattle.recorders.specs.declared.refusal.RefusedLine.{RefusedLine}
 use Rattle.recorders.specs.Lists.{is_of}
 use Rattle.recorders.specs.Calls.{deferred_rows}
 use Rattle.recorders.specs.Apart.{Cause}
 
--- a context, the list that it is recording, and how many it has finished
+-- a context, the list that it is recording, and how many it has finished before a line that it refused
 pub record AtWork : Type 0 where
   pub context : ℕ
   pub current : List Command
-  pub finished : ℕ
+  pub end : ContextEnd
+
+abbrev pub starting : ℕ → AtWork
+starting k = record { context = k; current = []; end = record { lists = 0; refused = None } }
+
+abbrev pub current_after : Verb → List Command → List Command
+current_after (Call c) list = list ++ c ∷ []
+current_after (Finish restore) list = after_finish restore list
+current_after v list = list
+
+abbrev pub lists_after : Verb → ℕ → ℕ
+lists_after (Finish restore) n = n + 1
+lists_after v n = n
 
 abbrev pub after_verb : Verb → AtWork → AtWork
-after_verb (Call c) r = record r { current = r.current ++ c ∷ [] }
-after_verb (Finish restore) r = record r { current = after_finish restore r.current; finished = r.finished + 1 }
-after_verb v r = r
+after_verb v r =
+    record {
+      context = r.context;
+      current = current_after v r.current;
+      end = record { lists = lists_after v r.end.lists; refused = r.end.refused };
+    }
 
 -- the list that a verb finishes
 abbrev pub given_by : Verb → AtWork → List (Recorded (List Command))
-given_by (Finish restore) r = record { context = r.context; number = r.finished; list = r.current } ∷ []
+given_by (Finish restore) r = record { context = r.context; number = r.end.lists; list = r.current } ∷ []
 given_by v r = []
 
 -- a verb was taken, and the lists that were put before and behind
@@ -34,16 +51,20 @@ pub record VerbTaken (v : Verb) (old new : AtWork) (before after : List (Recorde
 
 pub record VerbRefused (v : Verb) (old new : AtWork) (before after : List (Recorded (List Command))) (e : GfxError) : Type 0 where
   pub cause : Cause (first_row (deferred_rows old.current v)) e
-  pub finished_is : new.finished ≡ old.finished
+  pub context_is : new.context ≡ old.context
+  pub lists_are : new.end.lists ≡ old.end.lists
   pub nothing : after ≡ before
 
--- of a line: taken where it is one of the context, and passed over where it isn't
-abbrev pub TakenIf : Bool → Verb → AtWork → AtWork → List (Recorded (List Command)) → List (Recorded (List Command)) → Type 0
-TakenIf true v old new before after = VerbTaken v old new before after
-TakenIf false v old new before after = (new ≡ old) × (after ≡ before)
+-- a verb at a place was taken, or it is the first that was refused
+abbrev pub TakenOr : Option RefusedLine → ℕ → Verb → AtWork → AtWork → List (Recorded (List Command)) → List (Recorded (List Command)) → Type 0
+TakenOr None place v old new before after = VerbTaken v old new before after
+TakenOr (Some s) place v old new before after = (s.place ≡ place) × VerbRefused v old new before after s.refusal
 
-abbrev pub HasTaken : Line → AtWork → AtWork → List (Recorded (List Command)) → List (Recorded (List Command)) → Type 0
-HasTaken l old new before after = TakenIf (is_of old.context l.actor) l.verb old new before after
+-- of a line: passed over behind a refused one, and where it is none of the context
+abbrev pub TakenIf : Option RefusedLine → Bool → ℕ → Verb → AtWork → AtWork → List (Recorded (List Command)) → List (Recorded (List Command)) → Type 0
+TakenIf (Some s) own place v old new before after = (new ≡ old) × (after ≡ before)
+TakenIf None false place v old new before after = (new ≡ old) × (after ≡ before)
+TakenIf None true place v old new before after = TakenOr new.end.refused place v old new before after
 
-abbrev pub HasRefused : Line → AtWork → AtWork → List (Recorded (List Command)) → List (Recorded (List Command)) → GfxError → Type 0
-HasRefused l old new before after e = (is_of old.context l.actor ≡ true) × VerbRefused l.verb old new before after e
+abbrev pub HasTaken : ℕ → Line → AtWork → AtWork → List (Recorded (List Command)) → List (Recorded (List Command)) → Type 0
+HasTaken place l old new before after = TakenIf old.end.refused (is_of old.context l.actor) place l.verb old new before after

@@ -1,15 +1,10 @@
 //! All contexts recorded first, by the caller.
 
-ghost use Rattle.std.specs.Prelude.{◌≡◌, ◌<◌, All, map, length, false};
+ghost use Rattle.std.specs.Prelude.{◌≡◌, ◌<◌, map};
 ghost use Rattle.scenetext.specs.Seen.{line_value};
-ghost use Rattle.recorders.specs.Apart.{IsListed};
-ghost use Rattle.recorders.specs.Recorders.{IsEnd, IsIdle};
 
-use crate::by_port::ByPort;
-use crate::named::recorders_named;
-use crate::record::{RecordingEnd, record_lines};
-use crate::recorded::RecordedList;
-use crate::refusal::{RefusedLine, first_refused};
+use crate::context::record_lines;
+use crate::refusal::{ContextEnd, RefusedLine, first_refused};
 use crate::rows::ListRows;
 use crate::source::ListSource;
 use cmdlist::CommandList;
@@ -22,7 +17,7 @@ use std::marker::Model;
 pub struct RecordedLists<'a, A: Allocator> {
     lines: &'a [Line<A>],
     rows: ListRows<A>,
-    ends: ByPort<RecordingEnd>,
+    ends: [ContextEnd; 8],
 }
 
 impl<'a, A: Allocator> Model for RecordedLists<'a, A> {
@@ -52,7 +47,6 @@ impl<'a, A: Allocator> RecordedLists<'a, A> {
 }
 
 impl<'a, A: Allocator> ListSource<CommandList<A>> for RecordedLists<'a, A> {
-    ghost use Rattle.std.specs.Prelude.{◌≡◌, ◌<◌, IfOk, IsTrue, MatchBool};
     ghost use Rattle.recorders.specs.Ending.{alone_frame, alone_right, AloneAgrees, AloneHolds, AloneLacks};
 
     ghost frame = { alone_frame };
@@ -65,80 +59,48 @@ impl<'a, A: Allocator> ListSource<CommandList<A>> for RecordedLists<'a, A> {
 
     ghost lacks = { AloneLacks };
 
-    fn seek(&mut self, context: u32, number: u32) -> Result<bool, AllocError>
-        requires { context < 8 }
-        ensures frame { alone_frame self.new ≡ alone_frame self.old }
-        ensures right { alone_right self.new ≡ alone_right self.old }
-        ensures agrees { AloneAgrees self.new → AloneAgrees self.old }
-        ensures found { IfOk result (λ there. MatchBool there (AloneHolds self.new context number) (AloneLacks self.new context number)) }
-    {
+    fn seek(&mut self, context: u32, number: u32) -> Result<bool, AllocError> {
         let _ = &self.lines;
         if self.rows.has(context, number) {
             return Ok(true);
         }
-        if u64::from(number) < self.ends.of_context(context).lists(context) {
+        if u64::from(number) < self.ends[context as usize].lists {
             return Err(AllocError);
         }
         Ok(false)
     }
 
-    fn is_here(&self, context: u32, number: u32) -> bool
-        requires { context < 8 }
-        ensures { IsTrue result → AloneHolds self.now context number }
-    {
+    fn is_here(&self, context: u32, number: u32) -> bool {
         let _ = &self.lines;
         self.rows.has(context, number)
     }
 
-    fn list(&self, context: u32, number: u32) -> &CommandList<A>
-        requires context { context < 8 }
-        requires held { AloneHolds self.now context number }
-        ensures { AloneAgrees self.now → result.now ≡ alone_right self.now context number }
-    {
+    fn list(&self, context: u32, number: u32) -> &CommandList<A> {
         let _ = &self.lines;
         self.rows.list(context, number)
     }
-}
-
-/// The lists of a recorder's two contexts, where lines name one of them.
-fn record_kept<A: Allocator + Copy>(
-    alloc: A,
-    lines: &[Line<A>],
-    number: u32,
-    is_named: bool,
-) -> (Vec<RecordedList<A>, A>, RecordingEnd)
-    requires number { number < 4 }
-    requires named { is_named ≡ false → IsIdle (map line_value lines.now) number (length (map line_value lines.now)) }
-    ensures listed { All (IsListed (map line_value lines.now)) result.0.items }
-    ensures end { IsEnd (map line_value lines.now) number result.1 }
-{
-    let mut kept = Vec::new(alloc);
-    if !is_named {
-        return (kept, RecordingEnd::idle());
-    }
-    let end = record_lines(alloc, lines, number, &mut kept);
-    (kept, end)
 }
 
 /// Records all deferred contexts. This waits for nobody.
 pub fn record_alone<A: Allocator + Copy>(alloc: A, lines: &[Line<A>]) -> RecordedLists<'_, A>
     ensures { result.lines ≡ map line_value lines.now }
 {
-    let named = recorders_named(lines);
-    let (first, zero) = record_kept(alloc, lines, 0, named[0]);
-    let (second, one) = record_kept(alloc, lines, 1, named[1]);
-    let (third, two) = record_kept(alloc, lines, 2, named[2]);
-    let (fourth, three) = record_kept(alloc, lines, 3, named[3]);
+    let mut kept = Vec::new(alloc);
+    let zero = record_lines(alloc, lines, 0, &mut kept);
+    let one = record_lines(alloc, lines, 1, &mut kept);
+    let two = record_lines(alloc, lines, 2, &mut kept);
+    let three = record_lines(alloc, lines, 3, &mut kept);
     let mut rows = ListRows::new(alloc);
-    rows.add_all(first);
-    rows.add_all(second);
-    rows.add_all(third);
-    rows.add_all(fourth);
-    let ends = ByPort {
-        zero,
-        one,
-        two,
-        three,
-    };
+    rows.add_all(kept);
+    let ends = [
+        zero.first,
+        one.first,
+        two.first,
+        three.first,
+        zero.second,
+        one.second,
+        two.second,
+        three.second,
+    ];
     RecordedLists { lines, rows, ends }
 }

@@ -1,12 +1,14 @@
-//! One deferred context that takes its lines.
+//! A deferred context that takes its lines, and the two contexts of a recorder.
 
-ghost use Rattle.std.specs.Prelude.{◌≡◌, ◌<◌, ◌+◌, ◌^◌, OnOk, IfErr, []};
+ghost use Rattle.std.specs.Prelude.{◌≡◌, ◌<◌, ◌+◌, ◌^◌, OnOk, IfErr, map};
 ghost use Rattle.scenetext.specs.Seen.{actor_value, verb_value, line_value};
 ghost use Rattle.recorders.specs.Lists.{is_of};
-ghost use Rattle.recorders.specs.Taking.{HasTaken, HasRefused, VerbTaken, VerbRefused};
+ghost use Rattle.recorders.specs.Taking.{starting, VerbTaken, VerbRefused, HasTaken};
+ghost use Rattle.recorders.specs.Recorders.{IsRecording};
 
 use crate::calls::take_call;
 use crate::recorded::Recorded;
+use crate::refusal::{ContextEnd, RecordingEnd, RefusedLine};
 use crate::sink::ListSink;
 use cmdlist::{CommandList, DeferredContext};
 use gfxspec::GfxError;
@@ -14,12 +16,12 @@ use scenetext::{Actor, Line, Verb};
 use std::alloc::Allocator;
 use std::marker::Model;
 
-/// A deferred context, and how many lists it has finished.
+/// A deferred context, how many lists it has finished, and the first line that it refused. Behind that it takes none.
 #[derive(Drop)]
-pub(crate) struct ContextRecorder<A: Allocator> {
+struct ContextRecorder<A: Allocator> {
     context: u32,
     deferred: DeferredContext<A>,
-    finished: u64,
+    end: ContextEnd,
 }
 
 impl<A: Allocator> Model for ContextRecorder<A> {
@@ -27,7 +29,7 @@ impl<A: Allocator> Model for ContextRecorder<A> {
 
     ghost Value = { AtWork };
 
-    ghost view = { λ r. record { context = r.context; current = r.deferred; finished = r.finished } };
+    ghost view = { λ r. record { context = r.context; current = r.deferred; end = r.end } };
 }
 
 /// Whether a line is one of this deferred context.
@@ -41,22 +43,24 @@ fn is_line_of<A: Allocator>(line: &Line<A>, context: u32) -> bool
 }
 
 impl<A: Allocator + Copy> ContextRecorder<A> {
-    pub(crate) fn new(alloc: A, context: u32) -> Self
-        ensures { result ≡ record { context = context; current = []; finished = 0 } }
+    fn new(alloc: A, context: u32) -> Self
+        ensures { result ≡ starting context }
     {
         ContextRecorder {
             context,
             deferred: DeferredContext::new(alloc),
-            finished: 0,
+            end: ContextEnd {
+                lists: 0,
+                refused: None,
+            },
         }
     }
 
-    /// How many lists it has finished.
-    pub(crate) fn finished(&self) -> u64
-        ensures { result ≡ self.now.finished }
+    fn end(&self) -> ContextEnd
+        ensures { result ≡ self.now.end }
     {
         let _ = &self.deferred;
-        self.finished
+        self.end
     }
 
     /// Takes a verb of its own, and puts the list that it finishes.
@@ -65,7 +69,7 @@ impl<A: Allocator + Copy> ContextRecorder<A> {
         verb: &Verb<A>,
         sink: &mut S,
     ) -> Result<(), GfxError>
-        requires { self.old.finished + 1 < 2 ^ 64 }
+        requires { self.old.end.lists + 1 < 2 ^ 64 }
         ensures way { S.way sink.new ≡ S.way sink.old }
         ensures ok { OnOk result (VerbTaken (verb_value verb.now) self.old self.new (S.put_lists sink.old) (S.put_lists sink.new)) }
         ensures err { IfErr result (VerbRefused (verb_value verb.now) self.old self.new (S.put_lists sink.old) (S.put_lists sink.new)) }
@@ -74,30 +78,54 @@ impl<A: Allocator + Copy> ContextRecorder<A> {
             let list = self.deferred.finish(*restore)?;
             let recorded = Recorded {
                 context: self.context,
-                number: self.finished,
+                number: self.end.lists,
                 list,
             };
             sink.put(recorded)?;
-            self.finished += 1;
+            self.end.lists += 1;
             return Ok(());
         }
         take_call(&mut self.deferred, verb)
     }
 
-    /// Takes a line, if it is one of its own, and puts the list that it finishes.
-    pub(crate) fn take<S: ListSink<CommandList<A>>>(
-        &mut self,
-        line: &Line<A>,
-        sink: &mut S,
-    ) -> Result<(), GfxError>
-        requires { self.old.finished + 1 < 2 ^ 64 }
+    /// Takes the line at a place, if it is one of its own and none was refused, and puts the list that it finishes.
+    fn take<S: ListSink<CommandList<A>>>(&mut self, place: usize, line: &Line<A>, sink: &mut S)
+        requires { self.old.end.lists + 1 < 2 ^ 64 }
         ensures way { S.way sink.new ≡ S.way sink.old }
-        ensures ok { OnOk result (HasTaken (line_value line.now) self.old self.new (S.put_lists sink.old) (S.put_lists sink.new)) }
-        ensures err { IfErr result (HasRefused (line_value line.now) self.old self.new (S.put_lists sink.old) (S.put_lists sink.new)) }
+        ensures taken { HasTaken place (line_value line.now) self.old self.new (S.put_lists sink.old) (S.put_lists sink.new) }
     {
-        if !is_line_of(line, self.context) {
-            return Ok(());
+        if self.end.refused.is_some() {
+            return;
         }
-        self.take_verb(&line.verb, sink)
+        if !is_line_of(line, self.context) {
+            return;
+        }
+        if let Err(refusal) = self.take_verb(&line.verb, sink) {
+            self.end.refused = Some(RefusedLine { place, refusal });
+        }
+    }
+}
+
+/// Takes the lines of contexts `number` and `number + 4`, and puts the lists that they finish.
+pub(crate) fn record_lines<A: Allocator + Copy, S: ListSink<CommandList<A>>>(
+    alloc: A,
+    lines: &[Line<A>],
+    number: u32,
+    sink: &mut S,
+) -> RecordingEnd
+    requires { number < 4 }
+    ensures way { S.way sink.new ≡ S.way sink.old }
+    ensures recorded { IsRecording (map line_value lines.now) number (S.put_lists sink.old) (S.put_lists sink.new) result }
+{
+    let mut first = ContextRecorder::new(alloc, number);
+    let mut second = ContextRecorder::new(alloc, number + 4);
+    for place in 0..lines.len() {
+        let line = &lines[place];
+        first.take(place, line, sink);
+        second.take(place, line, sink);
+    }
+    RecordingEnd {
+        first: first.end(),
+        second: second.end(),
     }
 }

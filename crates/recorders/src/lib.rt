@@ -5,6 +5,11 @@
 //! are recorded apart, contexts k and k + 4 by one recorder, while the caller takes the lines of the immediate context and
 //! asks for lists by context and number, through `ListSource`. Lines are counted from 0 here.
 //!
+//! From a line to its context: `receive` starts a thread for each pair of contexts that has lines (`recorder::start`), and
+//! `record_alone` has none; both come to `context::record_lines`, which takes the pair's lines in one pass, up to the first
+//! that each refuses. `take_call` makes the call that a verb is on a `cmdlist::DeferredContext`; a finished list goes by the
+//! pair's port to the caller (`sink::ListSender`), or is kept.
+//!
 //! The trick: each list carries its context and number. While threads run, nothing else is known of one that came by a
 //! port, so what the caller knows stands under one premise, that each is the list of that context and number. At the end the
 //! recorders' promises (all that was sent is so) and the settled ports (taken is sent) give it, and no list was looked at
@@ -15,10 +20,8 @@ mod alone;
 mod by_port;
 mod calls;
 mod context;
-mod named;
 mod ports;
 mod received;
-mod record;
 mod recorded;
 mod recorder;
 mod refusal;
@@ -27,12 +30,10 @@ mod sink;
 mod source;
 
 pub use alone::{RecordedLists, record_alone};
-pub use by_port::ByPort;
 pub use calls::take_call;
-pub use ports::{OpenedPorts, open_ports, settle};
+pub use ports::{Passes, Returned, open_ports, settle};
 pub use received::{ReceivedLists, receive};
-pub use record::RecordingEnd;
-pub use recorded::{ListPass, ListPorts, Recorded, RecordedList};
-pub use recorder::{RecorderResult, RecorderSetup};
+pub use recorded::ListPorts;
+pub use recorder::RecorderSetup;
 pub use refusal::{RefusedLine, earlier};
 pub use source::ListSource;

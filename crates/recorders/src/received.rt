@@ -8,9 +8,9 @@ ghost use Rattle.recorders.specs.Ports.{at_port, port_of};
 ghost use Rattle.recorders.specs.Receiving.{receipt_frame, receipt_right, ReceiptAgrees, ReceiptHolds, ReceiptLacks, AreNew, AreResults, ResultsLack, AreSameRecorders, IsMore};
 
 use crate::by_port::ByPort;
-use crate::named::recorders_named;
-use crate::recorded::{ListPass, ListPorts, RecordedList};
-use crate::recorder::{Recorder, RecorderResult, RecorderSetup, start};
+use crate::ports::{Passes, Returned};
+use crate::recorded::{ListPorts, RecordedList};
+use crate::recorder::{Recorder, RecorderSetup, start};
 use crate::rows::ListRows;
 use crate::source::ListSource;
 use cmdlist::CommandList;
@@ -56,7 +56,7 @@ fn join_of<'a, A: Allocator, R: Threads>(
 ) -> Vec<RecordedList<A>, A>
     requires { context < 8 }
     ensures same { AreSameRecorders recorders.old recorders.new }
-    ensures listed { All (IsListed (at_port recorders.old (port_of context)).lines) result.items }
+    ensures listed { All (IsListed (at_port recorders.old (port_of context)).task.lines) result.items }
 {
     match context {
         0 | 4 => recorders.zero.join(rt, alloc),
@@ -105,10 +105,10 @@ impl<'a, A: Allocator + Copy, R: Threads + Wait> ReceivedLists<'a, A, R> {
 
 impl<'a, A: Allocator, R: Threads + Wait> ReceivedLists<'a, A, R> {
     /// Joins all recorders, and gives what they handed over.
-    pub fn close(self) -> (ByPort<RecorderResult<A>>, DrainPass<RecordedList<A>>)
-        ensures results { AreResults self.entry.lines self.entry.queue result.0 }
-        ensures lacks { (k n : ℕ) → k < 8 → ReceiptLacks self.entry k n → ResultsLack result.0 k n }
-        ensures drain { result.1 ≡ drain_history self.entry.queue self.entry.taken }
+    pub fn close(self) -> Returned<A>
+        ensures results { AreResults self.entry.lines self.entry.queue result.results }
+        ensures lacks { (k n : ℕ) → k < 8 → ReceiptLacks self.entry k n → ResultsLack result.results k n }
+        ensures drain { result.drain ≡ drain_history self.entry.queue self.entry.taken }
     {
         let ReceivedLists {
             rt,
@@ -131,13 +131,12 @@ impl<'a, A: Allocator, R: Threads + Wait> ReceivedLists<'a, A, R> {
             two: two.close(rt),
             three: three.close(rt),
         };
-        (results, drain)
+        Returned { results, drain }
     }
 }
 
 impl<'a, A: Allocator + Copy, R: Threads + Wait> ListSource<CommandList<A>>
     for ReceivedLists<'a, A, R> {
-    ghost use Rattle.std.specs.Prelude.{◌≡◌, ◌<◌, IfOk, IsTrue, MatchBool};
     ghost use Rattle.recorders.specs.Receiving.{receipt_frame, receipt_right, ReceiptAgrees, ReceiptHolds, ReceiptLacks};
 
     ghost frame = { receipt_frame };
@@ -150,13 +149,7 @@ impl<'a, A: Allocator + Copy, R: Threads + Wait> ListSource<CommandList<A>>
 
     ghost lacks = { ReceiptLacks };
 
-    fn seek(&mut self, context: u32, number: u32) -> Result<bool, AllocError>
-        requires { context < 8 }
-        ensures frame { receipt_frame self.new ≡ receipt_frame self.old }
-        ensures right { receipt_right self.new ≡ receipt_right self.old }
-        ensures agrees { ReceiptAgrees self.new → ReceiptAgrees self.old }
-        ensures found { IfOk result (λ there. MatchBool there (ReceiptHolds self.new context number) (ReceiptLacks self.new context number)) }
-    {
+    fn seek(&mut self, context: u32, number: u32) -> Result<bool, AllocError> {
         if self.rows.has(context, number) {
             return Ok(true);
         }
@@ -174,25 +167,18 @@ impl<'a, A: Allocator + Copy, R: Threads + Wait> ListSource<CommandList<A>>
         Ok(false)
     }
 
-    fn is_here(&self, context: u32, number: u32) -> bool
-        requires { context < 8 }
-        ensures { IsTrue result → ReceiptHolds self.now context number }
-    {
+    fn is_here(&self, context: u32, number: u32) -> bool {
         let _ = &self.lines;
         self.rows.has(context, number)
     }
 
-    fn list(&self, context: u32, number: u32) -> &CommandList<A>
-        requires context { context < 8 }
-        requires held { ReceiptHolds self.now context number }
-        ensures { ReceiptAgrees self.now → result.now ≡ receipt_right self.now context number }
-    {
+    fn list(&self, context: u32, number: u32) -> &CommandList<A> {
         let _ = &self.lines;
         self.rows.list(context, number)
     }
 }
 
-/// Starts the recorders whose contexts are named.
+/// Starts the recorders.
 pub fn receive<
     's,
     E,
@@ -202,10 +188,9 @@ pub fn receive<
 >(
     scope: &'s Scope<'s, E>,
     setup: RecorderSetup<'s, A, R, G>,
-    passes: ByPort<ListPass<A>>,
-    drain: DrainPass<RecordedList<A>>,
+    passes: Passes<A>,
 ) -> ReceivedLists<'s, A, R>
-    requires { AreNew setup.ports.now.queue passes drain }
+    requires { AreNew setup.ports.now.queue passes }
     ensures frame { receipt_frame result ≡ record { lines = map line_value setup.entry.lines.now; queue = Some setup.entry.ports.now.queue } }
 {
     let ByPort {
@@ -213,20 +198,19 @@ pub fn receive<
         one,
         two,
         three,
-    } = passes;
-    let named = recorders_named(setup.lines);
+    } = passes.recorders;
     let recorders = ByPort {
-        zero: start(scope, &setup, zero, 0, named[0]),
-        one: start(scope, &setup, one, 1, named[1]),
-        two: start(scope, &setup, two, 2, named[2]),
-        three: start(scope, &setup, three, 3, named[3]),
+        zero: start(scope, &setup, zero, 0),
+        one: start(scope, &setup, one, 1),
+        two: start(scope, &setup, two, 2),
+        three: start(scope, &setup, three, 3),
     };
     ReceivedLists {
         rt: setup.rt,
         alloc: setup.alloc,
         lines: setup.lines,
         ports: setup.ports,
-        drain,
+        drain: passes.drain,
         recorders,
         rows: ListRows::new(setup.alloc),
     }

@@ -1,16 +1,16 @@
 //! A recorder's thread, as the caller holds it.
 
-ghost use Rattle.std.specs.Prelude.{◌≡◌, ◌<◌, [], All, map, length, false, MatchBool, MatchOption};
+ghost use Rattle.std.specs.Prelude.{◌≡◌, ◌<◌, [], All, map, MatchBool, MatchOption};
 ghost use Rattle.port.specs.History.{port_history};
 ghost use Rattle.scenetext.specs.Seen.{line_value};
 ghost use Rattle.recorders.specs.Apart.{IsListed};
-ghost use Rattle.recorders.specs.Recorders.{IsIdle};
-ghost use Rattle.recorders.specs.Receiving.{IsResultOf, LacksBy, IsSameRecorder};
+ghost use Rattle.recorders.specs.Receiving.{IsResultOf, LacksBy};
 
-use crate::record::{RecordingEnd, record_lines};
+use crate::context::record_lines;
 use crate::recorded::{ListPass, ListPorts, RecordedList};
+use crate::refusal::RecordingEnd;
 use crate::sink::ListSender;
-use scenetext::Line;
+use scenetext::{Actor, Line};
 use std::alloc::Allocator;
 use std::marker::Model;
 use std::mem;
@@ -28,7 +28,7 @@ pub struct RecorderSetup<'s, A: Allocator, R, G> {
     pub lines: &'s [Line<A>],
 }
 
-/// What a recorder hands over: its pass, the lists that it did not send, and how it ended.
+/// What a recorder hands over: its pass, the lists that it did not send, and how its two contexts ended.
 #[derive(Drop)]
 pub struct RecorderResult<A: Allocator> {
     pub(crate) pass: ListPass<A>,
@@ -67,28 +67,52 @@ impl<'a, A: Allocator> Model for Recorder<'a, A> {
 
     ghost Value = { RecorderSeen A };
 
-    ghost view = { λ d. record { lines = map line_value d.task.lines.now; queue = d.task.ports.now.queue; number = d.task.number; result = d.result } };
+    ghost view = { λ d. record { task = record { lines = map line_value d.task.lines.now; queue = d.task.ports.now.queue; number = d.task.number }; result = d.result } };
 
     ghost invariant = { λ d. MatchOption d.thread (IsSome d.result) (λ h. h.promise ≡ d.task) × MatchOption d.result (Unit {0}) (IsResultOf (map line_value d.task.lines.now) d.task.ports.now.queue d.task.number) };
 }
 
 /// Takes the lines of contexts `number` and `number + 4`, and sends their lists.
 fn record_and_send<A: Allocator + Copy, R: Wait, G: Gate>(
-    setup: RecorderSetup<'_, A, R, G>,
+    setup: &RecorderSetup<'_, A, R, G>,
     pass: ListPass<A>,
     number: u32,
 ) -> RecorderResult<A>
-    requires pass { pass ≡ port_history setup.ports.now.queue number [] }
+    requires pass { pass ≡ port_history setup.now.ports.now.queue number [] }
     requires number { number < 4 }
-    ensures { IsResultOf (map line_value setup.entry.lines.now) setup.entry.ports.now.queue number result }
+    ensures { IsResultOf (map line_value setup.now.lines.now) setup.now.ports.now.queue number result }
 {
-    let mut sender = ListSender::new(setup.rt, setup.alloc, setup.ports, setup.gate, pass);
+    let mut sender = ListSender {
+        rt: setup.rt,
+        ports: setup.ports,
+        gate: setup.gate,
+        pass,
+        kept: Vec::new(setup.alloc),
+    };
     let end = record_lines(setup.alloc, setup.lines, number, &mut sender);
-    let (pass, kept) = sender.into_parts();
+    let ListSender {
+        rt: _,
+        ports: _,
+        gate: _,
+        pass,
+        kept,
+    } = sender;
     RecorderResult { pass, kept, end }
 }
 
-/// Starts a recorder, where lines name one of its contexts. Where no thread starts, the caller records.
+/// Whether a line is of one of the contexts of a recorder.
+fn has_lines<A: Allocator>(lines: &[Line<A>], number: u32) -> bool {
+    for line in lines {
+        if let Actor::Deferred(context) = line.actor {
+            if context % 4 == number {
+                return true;
+            }
+        }
+    }
+    false
+}
+
+/// Starts a recorder. Where it has no lines, or no thread starts, the caller records.
 pub(crate) fn start<
     's,
     E,
@@ -100,14 +124,10 @@ pub(crate) fn start<
     setup: &RecorderSetup<'s, A, R, G>,
     pass: ListPass<A>,
     number: u32,
-    is_named: bool,
 ) -> Recorder<'s, A>
     requires pass { pass ≡ port_history setup.now.ports.now.queue number [] }
     requires number { number < 4 }
-    requires named { is_named ≡ false → IsIdle (map line_value setup.now.lines.now) number (length (map line_value setup.now.lines.now)) }
-    ensures lines { result.lines ≡ map line_value setup.now.lines.now }
-    ensures queue { result.queue ≡ setup.now.ports.now.queue }
-    ensures number { result.number ≡ number }
+    ensures { result.task ≡ record { lines = map line_value setup.now.lines.now; queue = setup.now.ports.now.queue; number = number } }
 {
     let (rt, alloc, gate) = (setup.rt, setup.alloc, setup.gate);
     let (ports, lines) = (setup.ports, setup.lines);
@@ -121,16 +141,11 @@ pub(crate) fn start<
         ports,
         number,
     };
-    if !is_named {
-        let idle = RecorderResult {
-            pass,
-            kept: Vec::new(alloc),
-            end: RecordingEnd::idle(),
-        };
+    if !has_lines(lines, number) {
         return Recorder {
             task,
             thread: None,
-            result: Some(idle),
+            result: Some(record_and_send(setup, pass, number)),
         };
     }
     match scope.spawn_with(promise, move || {
@@ -141,7 +156,7 @@ pub(crate) fn start<
             gate,
             lines,
         };
-        record_and_send(setup, pass, number)
+        record_and_send(&setup, pass, number)
     }) {
         Ok(thread) => Recorder {
             task,
@@ -157,14 +172,21 @@ pub(crate) fn start<
 }
 
 impl<'a, A: Allocator> Recorder<'a, A> {
-    /// Joins the thread, if it was not joined, and takes the lists that it did not send.
-    pub(crate) fn join<R: Threads>(&mut self, rt: &R, alloc: A) -> Vec<RecordedList<A>, A>
-        ensures same { IsSameRecorder self.old self.new }
-        ensures listed { All (IsListed self.old.lines) result.items }
+    /// Joins the thread, if it was not joined.
+    fn wait<R: Threads>(&mut self, rt: &R)
+        ensures { self.new.task ≡ self.old.task }
     {
         if let Some(thread) = self.thread.take() {
             self.result = Some(thread.join(rt));
         }
+    }
+
+    /// Joins the thread, if it was not joined, and takes the lists that it did not send.
+    pub(crate) fn join<R: Threads>(&mut self, rt: &R, alloc: A) -> Vec<RecordedList<A>, A>
+        ensures same { self.new.task ≡ self.old.task }
+        ensures listed { All (IsListed self.old.task.lines) result.items }
+    {
+        self.wait(rt);
         match &mut self.result {
             None => Vec::new(alloc),
             Some(result) => mem::replace(&mut result.kept, Vec::new(alloc)),
@@ -178,13 +200,13 @@ impl<'a, A: Allocator> Recorder<'a, A> {
         let _ = &self.task;
         match &self.result {
             None => true,
-            Some(result) => u64::from(number) < result.end.lists(context),
+            Some(result) => u64::from(number) < result.end.of_context(context).lists,
         }
     }
 
     /// Joins the thread, if it was not joined, and gives what it handed over.
     pub(crate) fn close<R: Threads>(self, rt: &R) -> RecorderResult<A>
-        ensures result { IsResultOf self.entry.lines self.entry.queue self.entry.number result }
+        ensures result { IsResultOf self.entry.task.lines self.entry.task.queue self.entry.task.number result }
         ensures same { MatchOption self.entry.result (Unit {0}) (λ r. result ≡ r) }
     {
         let Recorder {

@@ -110,9 +110,7 @@ impl<A: Allocator> ListRows<A> {
         ensures { (ls : List PlainLine) → All (IsListed ls) kept.items → AreRows ls self.old → AreRows ls self.new }
     {
         for recorded in kept {
-            if let Err(_) = self.add(recorded) {
-                return;
-            }
+            let _ = self.add(recorded);
         }
     }
 }

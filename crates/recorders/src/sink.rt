@@ -1,8 +1,5 @@
 //! Where finished lists go.
 
-ghost use Rattle.std.specs.Prelude.{◌≡◌, []};
-ghost use Rattle.recorders.specs.Sinks.{lists_sent};
-
 use crate::recorded::{ListPass, ListPorts, Recorded, RecordedList};
 use cmdlist::CommandList;
 use std::alloc::{AllocError, Allocator};
@@ -45,11 +42,11 @@ impl<A: Allocator> ListSink<CommandList<A>> for Vec<Recorded<CommandList<A>>, A>
 
 /// Sends a recorder's lists through its port. Once one came back, it and all that follow are kept.
 pub(crate) struct ListSender<'a, A: Allocator, R: Wait, G: Gate> {
-    rt: &'a R,
-    ports: &'a ListPorts<A>,
-    gate: &'a G,
-    pass: ListPass<A>,
-    kept: Vec<RecordedList<A>, A>,
+    pub(crate) rt: &'a R,
+    pub(crate) ports: &'a ListPorts<A>,
+    pub(crate) gate: &'a G,
+    pub(crate) pass: ListPass<A>,
+    pub(crate) kept: Vec<RecordedList<A>, A>,
 }
 
 impl<'a, A: Allocator, R: Wait, G: Gate> Model for ListSender<'a, A, R, G> {
@@ -88,44 +85,5 @@ impl<'a, A: Allocator, R: Wait, G: Gate> ListSink<CommandList<A>> for ListSender
                 Ok(())
             }
         }
-    }
-}
-
-impl<'a, A: Allocator + Copy, R: Wait, G: Gate> ListSender<'a, A, R, G> {
-    /// Nothing is sent yet.
-    pub(crate) fn new(
-        rt: &'a R,
-        alloc: A,
-        ports: &'a ListPorts<A>,
-        gate: &'a G,
-        pass: ListPass<A>,
-    ) -> Self
-        requires { pass.queue ≡ ports.now.queue }
-        ensures { result ≡ record { queue = pass.queue; port = pass.port; sent = lists_sent pass.sent; kept = [] } }
-    {
-        ListSender {
-            rt,
-            ports,
-            gate,
-            pass,
-            kept: Vec::new(alloc),
-        }
-    }
-
-    /// The pass, and the lists that were kept.
-    pub(crate) fn into_parts(self) -> (ListPass<A>, Vec<RecordedList<A>, A>)
-        ensures queue { result.0.queue ≡ self.entry.queue }
-        ensures port { result.0.port ≡ self.entry.port }
-        ensures sent { lists_sent result.0.sent ≡ self.entry.sent }
-        ensures kept { result.1.items ≡ self.entry.kept }
-    {
-        let ListSender {
-            rt: _,
-            ports: _,
-            gate: _,
-            pass,
-            kept,
-        } = self;
-        (pass, kept)
     }
 }

@@ -5,6 +5,4 @@ pub mod Reaching
 pub mod Tellings
 pub mod Steps
 pub mod Endings
-pub mod Ends
-pub mod Drawing
 pub mod Gathering

@@ -12,8 +12,8 @@ use Rattle.meaning.proofs.Contexts.{stands_new}
 use Rattle.scenetext.specs.declared.scene.Actor as code_actor
 use Rattle.scenetext.specs.declared.scene.Actor.TheVariants as actors
 use Rattle.scenetext.specs.Seen.{actor_value}
-use Rattle.scenetext.specs.Scene.{Immediate, Deferred, Verb, Call, Finish, Flush, Execute, Query, Pixel, Line}
-use Rattle.scenetext.specs.Spelling.{is_immediate_actor, may_take, IsVerb, HasList, IsLine, AreLines}
+use Rattle.scenetext.specs.Scene.{Immediate, Deferred, Verb, Call, Flush, Execute, Query, Pixel, Line}
+use Rattle.scenetext.specs.Spelling.{is_immediate_actor, may_take, HasList, IsLine, AreLines}
 use Rattle.recorders.specs.Lists.{list_of}
 use Rattle.recorders.specs.Recording.{recording_of}
 use Rattle.recorders.specs.Apart.{a_line, line_at, Cause}
@@ -80,12 +80,9 @@ module _ (size : Size) (ls : List Line) (i : ℕ) (l : Line) (c : Held) (text : 
   }
     where
       silent : (v : Verb) → may_take v false ≡ true → answer_of size (take i ls) v ≡ []
-      silent (Call k) may = refl
-      silent (Finish restore) may = refl
-      silent Flush may = refl
-      silent (Execute k n restore) may = refl
       silent (Query q) may = absurd (true≢false (sym may))
       silent (Pixel x y) may = absurd (true≢false (sym may))
+      silent v may = refl
 
   module _ (own : l.actor ≡ Immediate) where
     turned : record { actor = Immediate; verb = l.verb } ≡ l
@@ -128,11 +125,7 @@ module _ (size : Size) (ls : List Line) (i : ℕ) (l : Line) (c : Held) (text : 
 
 pub call_cause : (v : Verb) (h d : Held) (e : GfxError) → TakesCall (λ (x : Held). x.pending) held_more h v d (Err e) → Cause (first_row (held_rows h v)) e
 call_cause (Call k) h d e took = ⊎_elim (λ row. inl row) (λ memory. inr memory.1) took.answer
-call_cause (Finish restore) h d e took = let no = took.0 in absurd cc
-call_cause Flush h d e took = let no = took.0 in absurd cc
-call_cause (Execute k n restore) h d e took = let no = took.0 in absurd cc
-call_cause (Query q) h d e took = let no = took.0 in absurd cc
-call_cause (Pixel x y) h d e took = let no = took.0 in absurd cc
+call_cause v h d e took = let no = took.0 in absurd cc
 
 -- ---- before the first line, and behind the last
 

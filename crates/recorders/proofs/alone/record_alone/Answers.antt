@@ -1,32 +1,22 @@
-use Rattle.std.proofs.Common.{arith, sym, subst, map}
+use Rattle.std.proofs.Common.{rules, ◌≡◌, sym, subst, map, []}
+use Rattle.std.specs.Prelude.{All}
+use Rattle.std.proofs.lemmas.List.Elements.{All-nil}
 use Rattle.scenetext.specs.Seen.{line_value}
-use Rattle.recorders.specs.Ports.{at_port}
-use Rattle.recorders.specs.Recorders.{IsEnd}
+use Rattle.recorders.specs.Apart.{IsListed}
 use Rattle.recorders.specs.Rows.{AreRows}
-use Rattle.recorders.proofs.NamedLemmas.{idle_at}
-use Rattle.recorders.proofs.PortLemmas.{each_port}
+use Rattle.recorders.proofs.EndLemmas.{all_ended}
 use Rattle.recorders.proofs.RowLemmas.{rows_none}
 use Rattle.recorders.proofs.alone.record_alone.Goals as goal
-
-pub record_kept-first-requires-clause-named : goal.record_kept-first-requires-clause-named
-record_kept-first-requires-clause-named g c none = idle_at _ c.recorders_named-named.result 0 c.recorders_named-named.ensures (omega arith) none
-
-pub record_kept-second-requires-clause-named : goal.record_kept-second-requires-clause-named
-record_kept-second-requires-clause-named g c none = idle_at _ c.recorders_named-named.result 1 c.recorders_named-named.ensures (omega arith) none
-
-pub record_kept-third-requires-clause-named : goal.record_kept-third-requires-clause-named
-record_kept-third-requires-clause-named g c none = idle_at _ c.recorders_named-named.result 2 c.recorders_named-named.ensures (omega arith) none
-
-pub record_kept-fourth-requires-clause-named : goal.record_kept-fourth-requires-clause-named
-record_kept-fourth-requires-clause-named g c none = idle_at _ c.recorders_named-named.result 3 c.recorders_named-named.ensures (omega arith) none
 
 pub invariant_of-result : goal.invariant_of-result
 invariant_of-result g c =
     let ls = map line_value c.args.lines.now in
-    let none = subst (AreRows ls) (sym c.new-rows.ensures) (rows_none ls) in
-    let one = c.add_all.ensures ls c.record_kept-first.ensures.listed none in
-    let two = c.add_all-2.ensures ls c.record_kept-second.ensures.listed one in
-    let three = c.add_all-3.ensures ls c.record_kept-third.ensures.listed two in (
-      c.add_all-4.ensures ls c.record_kept-fourth.ensures.listed three,
-      each_port (λ p. IsEnd ls p (at_port (record { zero = c.record_kept-first.result.1; one = c.record_kept-second.result.1; two = c.record_kept-third.result.1; three = c.record_kept-fourth.result.1 }) p)) c.record_kept-first.ensures.end c.record_kept-second.ensures.end c.record_kept-third.ensures.end c.record_kept-fourth.ensures.end,
+    let empty : c.new-kept.result.items ≡ [] = search rules in
+    let none = subst (All (IsListed ls)) (sym empty) (All-nil (IsListed ls)) in
+    let a = c.record_lines-zero.ensures.recorded in
+    let b = c.record_lines-one.ensures.recorded in
+    let d = c.record_lines-two.ensures.recorded in
+    let e = c.record_lines-three.ensures.recorded in (
+      c.add_all.ensures ls (e.listed (d.listed (b.listed (a.listed none)))) (subst (AreRows ls) (sym c.new-rows.ensures) (rows_none ls)),
+      all_ended ls _ _ _ _ a.ends b.ends d.ends e.ends,
     )

@@ -7,7 +7,7 @@ use Rattle.recorders.proofs.ports.settle_all.Given as goal
 abbrev pub invariant-loop : goal.invariant-loop
 invariant-loop g l = record {
   ports : l.ports.queue ≡ l.fn.ports.queue;
-  passes : l.passes ≡ l.fn.results.zero.pass ∷ l.fn.results.one.pass ∷ l.fn.results.two.pass ∷ l.fn.results.three.pass ∷ [];
+  passes : l.passes ≡ l.fn.returned.results.zero.pass ∷ l.fn.returned.results.one.pass ∷ l.fn.returned.results.two.pass ∷ l.fn.returned.results.three.pass ∷ [];
   drain : l.drain.queue ≡ l.fn.ports.queue;
-  more : (rest : List (Submission (Recorded (List Command)))) × (l.drain.taken ≡ l.fn.drain.taken ++ rest);
+  more : (rest : List (Submission (Recorded (List Command)))) × (l.drain.taken ≡ l.fn.returned.drain.taken ++ rest);
 }

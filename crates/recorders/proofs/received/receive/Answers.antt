@@ -1,34 +1,15 @@
-use Rattle.std.proofs.Common.{rules, arith, ap, sym, subst, map}
+use Rattle.std.proofs.Common.{◌≡◌, ap, sym, subst, map}
 use Rattle.port.specs.History.{DrainHistory}
 use Rattle.scenetext.specs.Seen.{line_value}
+use Rattle.recorders.specs.Ports.{at_port}
 use Rattle.recorders.specs.Rows.{AreRows}
-use Rattle.recorders.proofs.NamedLemmas.{idle_at}
-use Rattle.recorders.proofs.PortLemmas.{four_recorders}
+use Rattle.recorders.proofs.PortLemmas.{each_port}
 use Rattle.recorders.proofs.RowLemmas.{rows_none}
 use Rattle.recorders.proofs.received.receive.Goals as goal
-
-pub start-requires-clause-named : goal.start-requires-clause-named
-start-requires-clause-named g c κs lives none = idle_at _ c.recorders_named-named.result 0 c.recorders_named-named.ensures (omega arith) none
-
-pub start-requires-2-clause-named : goal.start-requires-2-clause-named
-start-requires-2-clause-named g c κs lives none = idle_at _ c.recorders_named-named.result 1 c.recorders_named-named.ensures (omega arith) none
-
-pub start-requires-3-clause-named : goal.start-requires-3-clause-named
-start-requires-3-clause-named g c κs lives none = idle_at _ c.recorders_named-named.result 2 c.recorders_named-named.ensures (omega arith) none
-
-pub start-requires-4-clause-named : goal.start-requires-4-clause-named
-start-requires-4-clause-named g c κs lives none = idle_at _ c.recorders_named-named.result 3 c.recorders_named-named.ensures (omega arith) none
 
 pub invariant_of-result : goal.invariant_of-result
 invariant_of-result g c = (
   ap (λ (d : DrainHistory _). d.queue) c.requires.drain_is,
-  four_recorders (map line_value c.args.setup.lines.now) c.args.setup.ports.now.queue (record { zero = c.start.result; one = c.start-2.result; two = c.start-3.result; three = c.start-4.result })
-      (record { lines_is = c.start.ensures.lines; queue_is = c.start.ensures.queue; number_is = c.start.ensures.number })
-      (record { lines_is = c.start-2.ensures.lines; queue_is = c.start-2.ensures.queue; number_is = c.start-2.ensures.number })
-      (record { lines_is = c.start-3.ensures.lines; queue_is = c.start-3.ensures.queue; number_is = c.start-3.ensures.number })
-      (record { lines_is = c.start-4.ensures.lines; queue_is = c.start-4.ensures.queue; number_is = c.start-4.ensures.number }),
+  each_port (λ p. (at_port (record { zero = c.start.result; one = c.start-2.result; two = c.start-3.result; three = c.start-4.result }) p).task ≡ record { lines = map line_value c.args.setup.lines.now; queue = c.args.setup.ports.now.queue; number = p }) c.start.ensures c.start-2.ensures c.start-3.ensures c.start-4.ensures,
   λ agrees. subst (AreRows (map line_value c.args.setup.lines.now)) (sym c.new.ensures) (rows_none (map line_value c.args.setup.lines.now)),
 )
-
-pub returns : goal.returns
-returns g c = search rules

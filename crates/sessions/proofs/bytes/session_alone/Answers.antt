@@ -1,7 +1,7 @@
-use Rattle.std.proofs.Common.{rules, subst, []}
+use Rattle.std.proofs.Common.{subst, []}
 use Rattle.sessions.specs.Writing.{stopped_output, gathering, Writes}
 use Rattle.sessions.specs.Performing.{output_by}
-use Rattle.sessions.proofs.Drawing.{answered_by, caused}
+use Rattle.sessions.proofs.Endings.{answered_by, caused}
 use Rattle.sessions.proofs.bytes.session_alone.Goals as goal
 
 pub returns-in-Err-Memory-clause-answer : goal.returns-in-Err-Memory-clause-answer
@@ -15,12 +15,3 @@ returns-clause-answer g c script image lines =
 
 pub returns-clause-cause : goal.returns-clause-cause
 returns-clause-cause g c = caused c.write_performance.result _ _ _ _ c.in-Ok.ensures.sound c.write_performance.ensures.cause
-
-pub returns-in-Err-Read-clause-answer : goal.returns-in-Err-Read-clause-answer
-returns-in-Err-Read-clause-answer g c = search rules
-
-pub returns-in-Err-Read-clause-cause : goal.returns-in-Err-Read-clause-cause
-returns-in-Err-Read-clause-cause g c = search rules
-
-pub returns-in-Err-Memory-clause-cause : goal.returns-in-Err-Memory-clause-cause
-returns-in-Err-Memory-clause-cause g c = search rules

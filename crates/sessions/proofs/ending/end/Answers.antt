@@ -4,8 +4,7 @@ use Rattle.scenetext.specs.Seen.{line_value}
 use Rattle.scenetext.specs.SeenScene.{scene_value}
 use Rattle.recorders.specs.Ending.{earlier_of}
 use Rattle.sessions.specs.Writing.{stopped_output, Draws}
-use Rattle.sessions.proofs.Ends.{stop_is, no_stop, stopped_draws}
-use Rattle.sessions.proofs.Drawing.{drawn}
+use Rattle.sessions.proofs.Endings.{stop_is, no_stop, stopped_draws, drawn}
 use Rattle.sessions.proofs.ending.end.Goals as goal
 
 pub line_number-line-requires : goal.line_number-line-requires

@@ -1,6 +1,38 @@
+use Rattle.std.proofs.Common.{rules, ◌∙◌, ap, subst, map}
+use Rattle.scenetext.specs.Seen.{line_value}
 use Rattle.scenetext.specs.SeenScene.{scene_value}
+use Rattle.recorders.specs.Apart.{listed}
+use Rattle.recorders.specs.Asking.{Asked}
+use Rattle.recorders.specs.Ending.{AreRecorded}
+use Rattle.sessions.specs.Playing.{HasPlayed, missing_in}
 use Rattle.sessions.specs.Writing.{drawing}
 use Rattle.sessions.proofs.perform.perform_alone.Goals as goal
 
-pub returns-in-Ok : goal.returns-in-Ok
-returns-in-Ok g c = drawing (scene_value c.in-Ok.scene) _ c.in-Ok.ensures.scene c.draw_alone.ensures
+pub play_alone-played-requires-clause-may : goal.play_alone-played-requires-clause-may
+play_alone-played-requires-clause-may g c κs within = record {
+  sound = search rules;
+  lists = λ k n. ap (λ ls. listed ls k n) c.record_alone-recorded.ensures;
+  start = c.in-Ok.ensures.begun.new;
+}
+
+pub end-requires-clause-sized : goal.end-requires-clause-sized
+end-requires-clause-sized g c = c.in-Ok.ensures.begun.sized
+
+pub end-requires-clause-scene : goal.end-requires-clause-scene
+end-requires-clause-scene g c = c.in-Ok.ensures.begun.spells.scene_is
+
+pub end-requires-clause-recorded : goal.end-requires-clause-recorded
+end-requires-clause-recorded g c =
+    let played = c.play_alone-played in
+    let lines = ap (λ (a : Asked). a.lines) played.ensures.frame ∙ c.record_alone-recorded.ensures ∙ c.as_slice-lines.ensures in
+    subst (λ ls. AreRecorded ls c.first_refused.result (missing_in played.result.interruption)) lines (c.first_refused.ensures (missing_in played.result.interruption) played.ensures.missing)
+
+pub end-requires-clause-played : goal.end-requires-clause-played
+end-requires-clause-played g c =
+    let p = c.play_alone-played.result in
+    let scene = c.in-Ok.begun.0 in
+    subst (λ ls. HasPlayed scene.size ls p) c.as_slice-lines.ensures
+    (subst (λ s. HasPlayed s (map line_value c.as_slice-lines.result.now) p) c.in-Ok.ensures.begun.size_is (c.play_alone-played.ensures.played tt))
+
+pub returns : goal.returns
+returns g c = drawing (scene_value c.in-Ok.begun.0) _ c.in-Ok.ensures.begun.spells c.end.ensures

@@ -1,10 +1,39 @@
-use Rattle.std.proofs.Common.{subst, sym}
+use Rattle.std.proofs.Common.{rules, sym, subst, refl, map}
+use Rattle.scenetext.specs.Seen.{line_value}
 use Rattle.scenetext.specs.SeenScene.{scene_value}
+use Rattle.recorders.specs.Ending.{AreRecorded}
+use Rattle.sessions.specs.Playing.{HasPlayed, missing_in}
 use Rattle.sessions.specs.Writing.{Writes, drawing, gathering}
 use Rattle.sessions.proofs.threads.perform_in_threads.Goals as goal
 
 pub returns-in-Err-open_ports : goal.returns-in-Err-open_ports
 returns-in-Err-open_ports g c = subst (Writes c.args.text.items) (sym c.stopped.ensures) gathering
 
+pub play_in_scope-round-requires-clause-may : goal.play_in_scope-round-requires-clause-may
+play_in_scope-round-requires-clause-may g c κs within = record { sound = search rules; lists = λ k n. refl; start = c.in-Ok.ensures.begun.new }
+
+pub settle-deferred-requires : goal.settle-deferred-requires
+settle-deferred-requires g c =
+    let round = c.play_in_scope-round.ensures in
+    (round.queue_is, λ p low. let h = round.results p low in (h.queue_is, h.port_is))
+
+pub end-requires-clause-sized : goal.end-requires-clause-sized
+end-requires-clause-sized g c = c.in-Ok.ensures.begun.sized
+
+pub end-requires-clause-recorded : goal.end-requires-clause-recorded
+end-requires-clause-recorded g c =
+    let ls = map line_value c.as_slice-lines.result.now in
+    let round = c.play_in_scope-round in
+    let missing = missing_in round.result.played.interruption in
+    subst (λ l. AreRecorded l c.settle-deferred.result missing) c.as_slice-lines.ensures (c.settle-deferred.ensures.refused ls missing round.ensures.results round.ensures.missing)
+
+pub end-requires-clause-played : goal.end-requires-clause-played
+end-requires-clause-played g c =
+    let ls = map line_value c.as_slice-lines.result.now in
+    let round = c.play_in_scope-round in
+    let p = round.result.played in
+    subst (λ l. HasPlayed c.in-Ok.begun.0.size l p) c.as_slice-lines.ensures
+    (subst (λ s. HasPlayed s ls p) c.in-Ok.ensures.begun.size_is (round.ensures.played (c.settle-deferred.ensures.agrees ls round.ensures.results)))
+
 pub returns : goal.returns
-returns g c = drawing (scene_value c.in-Ok.scene) _ c.in-Ok.ensures.scene c.draw_in_threads.ensures
+returns g c = drawing (scene_value c.in-Ok.begun.0) _ c.in-Ok.ensures.begun.spells c.end.ensures

@@ -15,11 +15,11 @@ returns g c =
     let ls = map line_value c.args.lines.now in
     let queue = c.args.ports.now.queue in
     let played = c.play_by_crew-played in
-    let closed = c.close-results in
+    let closed = c.close-returned in
     let frame = played.ensures.frame ∙ c.receive-received.ensures.frame in
     record {
-      results = results_for ls queue played.new.lists closed.result.0 frame closed.ensures.results;
+      results = results_for ls queue played.new.lists closed.result.results frame closed.ensures.results;
       queue_is = search rules;
-      played = λ agrees. played.ensures.played (agrees_for ls queue played.new.lists closed.result.1 frame closed.ensures.drain agrees);
+      played = λ agrees. played.ensures.played (agrees_for ls queue played.new.lists closed.result.drain frame closed.ensures.drain agrees);
       missing = match_more (missing_in played.result.interruption) (λ name lacks low. closed.ensures.lacks name.0 name.1 low lacks) played.ensures.missing;
     }

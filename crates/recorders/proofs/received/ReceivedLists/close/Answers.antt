@@ -12,7 +12,7 @@ returns-clause-results g c =
     let queue = c.self.inside.ports.now.queue in
     let at = c.self.invariant.1 in
     subst (λ (r : Receipts _). AreResults r.lines r.queue (record { zero = c.close.result; one = c.close-2.result; two = c.close-3.result; three = c.close-4.result })) c.self.view_is
-    (each_port (λ p. IsResultOf ls queue p (at_port (record { zero = c.close.result; one = c.close-2.result; two = c.close-3.result; three = c.close-4.result }) p)) (result_at ls queue 0 _ _ (at 0 (omega arith)) c.close.ensures.result) (result_at ls queue 1 _ _ (at 1 (omega arith)) c.close-2.ensures.result) (result_at ls queue 2 _ _ (at 2 (omega arith)) c.close-3.ensures.result) (result_at ls queue 3 _ _ (at 3 (omega arith)) c.close-4.ensures.result))
+    (each_port (λ p. IsResultOf ls queue p (at_port (record { zero = c.close.result; one = c.close-2.result; two = c.close-3.result; three = c.close-4.result }) p)) (result_at _ _ _ (at 0 (omega arith)) c.close.ensures.result) (result_at _ _ _ (at 1 (omega arith)) c.close-2.ensures.result) (result_at _ _ _ (at 2 (omega arith)) c.close-3.ensures.result) (result_at _ _ _ (at 3 (omega arith)) c.close-4.ensures.result))
 
 pub returns-clause-lacks : goal.returns-clause-lacks
 returns-clause-lacks g c k n low lacks =

@@ -4,14 +4,14 @@ use Rattle.scenetext.specs.Seen.{line_value}
 use Rattle.recorders.specs.Ports.{port_of}
 use Rattle.recorders.specs.Apart.{IsListed}
 use Rattle.recorders.specs.Asking.{Asked}
-use Rattle.recorders.specs.Receiving.{Receipts}
+use Rattle.recorders.specs.Receiving.{Receipts, Task}
 use Rattle.recorders.proofs.PortLemmas.{port_low}
 use Rattle.recorders.proofs.received.ReceivedLists.join.Goals as goal
 
 pub invariant_of-self-2 : goal.invariant_of-self-2
 invariant_of-self-2 g c =
     let k = c.args.context in
-    let before = (c.self.invariant.1 (port_of k) (port_low k c.requires)).lines_is in
+    let before = ap (λ (t : Task). t.lines) (c.self.invariant.1 (port_of k) (port_low k c.requires)) in
     let same = ap (λ (r : Receipts _). r.lines) c.self-2.view_is ∙ ap (λ (a : Asked). a.lines) c.take_all.ensures.more.frame in (
       c.self-2.invariant.0,
       c.self-2.invariant.1,

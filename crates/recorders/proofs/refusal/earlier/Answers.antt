@@ -1,8 +1,0 @@
-use Rattle.std.proofs.Common.{rules}
-use Rattle.recorders.proofs.refusal.earlier.Goals as goal
-
-pub returns-in-Some-Some : goal.returns-in-Some-Some
-returns-in-Some-Some c = search rules
-
-pub returns-in-Some-default : goal.returns-in-Some-default
-returns-in-Some-default c = search rules
