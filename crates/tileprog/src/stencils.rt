@@ -22,7 +22,7 @@ use tileblock::TileBlock;
 
 /// The rows of a column from `row` on and before `past`, one by one; the answer is how many pixels pass. Where the edges are known to
 /// hold they aren't looked at, and where the depth test's outcome is known no depth is.
-#[inline(always)]
+#[inline(never)]
 fn each_row<A: Allocator, W: Walks>(
     block: &mut TileBlock<A>,
     column: &Column,
