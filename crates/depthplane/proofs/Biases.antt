@@ -29,7 +29,7 @@ mean a b c x y z n (suc s) p q r is sum =
     below : n ≤ 16777215 * suc s → n / suc s ≤ 16777215
     below h = grind arith
 
-depth_small : (d : DeepTriangle) (x y : ℕ) → AreDepths d → depth_at d.triangle d.z0 d.z1 d.z2 (centre x y) ≤ 16777215
+pub depth_small : (d : DeepTriangle) (x y : ℕ) → AreDepths d → depth_at d.triangle d.z0 d.z1 d.z2 (centre x y) ≤ 16777215
 depth_small d x y deep =
     let p = centre x y in
     mean (weight d.triangle 0 p) (weight d.triangle 1 p) (weight d.triangle 2 p) d.z0 d.z1 d.z2 _ _ deep.z0 deep.z1 deep.z2 refl refl

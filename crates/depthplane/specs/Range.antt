@@ -1,5 +1,5 @@
 -- The least and the greatest depth of a triangle at the four corner pixels of a rectangle.
-use Rattle.std.specs.Prelude.{ℕ, ◌-◌, min, max}
+use Rattle.std.specs.Prelude.{ℕ, ◌-◌, min, max, Bool, if◌then◌else◌}
 use Rattle.gfxspec.specs.declared.geometry.PixelRect.{PixelRect}
 use Rattle.depthplane.specs.Height.{DeepTriangle}
 use Rattle.depthplane.specs.Place.{depth_of}
@@ -15,3 +15,10 @@ greatest_corner d r =
     max
     (max (depth_of d r.left r.top) (depth_of d (r.right - 1) r.top))
     (max (depth_of d r.left (r.bottom - 1)) (depth_of d (r.right - 1) (r.bottom - 1)))
+
+-- of the first and the last place of a line, the one where a number that rises along it, or else falls, is least, and the one where it is greatest
+abbrev pub near_end : Bool → ℕ → ℕ → ℕ
+near_end rises first last = if rises then first else last
+
+abbrev pub far_end : Bool → ℕ → ℕ → ℕ
+far_end rises first last = if rises then last else first

@@ -2,6 +2,7 @@
 
 ghost use Rattle.std.specs.Prelude.{◌≡◌, ℕ, ◌<◌, slice_index};
 ghost use Rattle.gfxspec.specs.Depth.{biased};
+ghost use Rattle.gfxspec.specs.Vertices.{IsDepth};
 
 use gfxspec::DEPTH_MAX;
 
@@ -12,6 +13,20 @@ pub fn with_bias(depth: u32, bias: i32) -> u32
     ensures { result ≡ biased bias depth }
 {
     (i64::from(depth) + i64::from(bias)).clamp(0, i64::from(DEPTH_MAX)) as u32
+}
+
+/// Two depths moved by a bias, which is 0 for most triangles.
+#[inline(always)]
+pub(crate) fn both_with_bias(first: u32, second: u32, bias: i32) -> (u32, u32)
+    requires first { IsDepth first }
+    requires second { IsDepth second }
+    ensures first { result.0 ≡ biased bias first }
+    ensures second { result.1 ≡ biased bias second }
+{
+    if bias == 0 {
+        return (first, second);
+    }
+    (with_bias(first, bias), with_bias(second, bias))
 }
 
 /// Eight depths moved by a bias.

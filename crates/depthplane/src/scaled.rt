@@ -3,10 +3,10 @@
 ghost use Rattle.std.specs.Prelude.{◌≡◌, ℤ, ◌≤◌, ◌<◌, ◌+◌, ◌*◌, pos, unsigned_abs, ℕ, slice_index};
 ghost use Rattle.gfxspec.specs.Limits.{side_bound};
 ghost use Rattle.depthplane.specs.Division.{IsDivision, IsDivisor, IsRest};
-ghost use Rattle.depthplane.specs.Linear.{value_at};
+ghost use Rattle.depthplane.specs.Linear.{IsHeight, value_at};
 ghost use Rattle.depthplane.specs.Scaled.{IsScaled, IsScaledLinear, excess_at};
 
-use crate::division::Divided;
+use crate::division::{Divided, divide, divide_wide};
 use crate::height::Linear;
 
 /// One unit of depth, in 2^40ths.
@@ -24,6 +24,9 @@ pub(crate) struct Scaled {
     pub(crate) down: u64,
     /// By how many 2^40ths each may be too great: 0 where no rest was rounded up, and else 1.
     pub(crate) error: u8,
+    /// Whether a pixel to the right adds nothing below 0, and a pixel down.
+    pub(crate) rises_right: bool,
+    pub(crate) rises_down: bool,
 }
 
 /// A rest in 2^40ths of its divisor, rounded up.
@@ -66,20 +69,23 @@ fn error_of(origin: Divided, right: Divided, down: Divided) -> u8
 }
 
 impl Scaled {
-    /// The divisions of a linear number's value at pixel (0, 0), and of its steps, in 2^40ths.
+    /// A linear number's value at pixel (0, 0) and its steps, divided, in 2^40ths.
     #[inline(always)]
-    pub(crate) fn of(origin: Divided, right: Divided, down: Divided, divisor: i64) -> Scaled
+    pub(crate) fn of(number: Linear, divisor: i64) -> Scaled
         requires divisor { IsDivisor divisor }
-        requires origin { IsRest divisor origin.remainder }
-        requires right { IsRest divisor right.remainder }
-        requires down { IsRest divisor down.remainder }
-        ensures { (f : Linear) → IsDivision f.origin divisor origin → IsDivision f.step_x divisor right → IsDivision f.step_y divisor down → IsScaledLinear f divisor result }
+        requires small { IsHeight number }
+        ensures { IsScaledLinear number divisor result }
     {
+        let origin = divide_wide(number.origin, divisor);
+        let right = divide(number.step_x, divisor);
+        let down = divide(number.step_y, divisor);
         Scaled {
             origin: parts_of(origin, divisor),
             right: parts_of(right, divisor),
             down: parts_of(down, divisor),
             error: error_of(origin, right, down),
+            rises_right: number.step_x >= 0,
+            rises_down: number.step_y >= 0,
         }
     }
 

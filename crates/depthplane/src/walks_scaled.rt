@@ -115,7 +115,7 @@ fn mend(plane: &Plane, x: u32, y: u32, depths: [u32; 8]) -> [u32; 8]
 }
 
 /// Whether an area is so small, or nothing was rounded, that each depth is sure.
-fn is_sure(area: i64, error: u8) -> bool
+pub(crate) fn is_sure(area: i64, error: u8) -> bool
     requires divisor { IsDivisor area }
     requires error { error ≤ 1 }
     ensures { IsTrue result → unsigned_abs area * (error * 16384) < 1099511627776 }
