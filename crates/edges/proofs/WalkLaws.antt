@@ -1,89 +1,135 @@
--- Steps of a walk over an edge's values.
-use Rattle.std.proofs.Common.{◌≡◌, ◌∙◌, ap, sym, subst, arith, ℕ, zero, suc, ◌+◌, ◌<◌, ◌≤◌, ◌^◌, [], ◌∷◌, get_or, w64, FitsSigned}
-use Rattle.std.specs.Prelude.{unsigned_abs, slice_index_or, ℤ, pos, negsuc, ◌+ℤ◌, ◌*ℤ◌, ◌≤ℤ◌, ◌↔◌, IsTrue}
-use Rattle.std.proofs.lemmas.Int.{ints}
+-- What the signs of three edges tell at eight pixels.
+use Rattle.std.proofs.Common.{◌≡◌, ◌≢◌, ◌∙◌, ap, sym, subst, refl, arith, ℕ, ◌+◌, ◌-◌, ◌%◌, ◌^◌, ◌<◌, ◌≤◌, Bool, true, false, cond, List, length, map, get_or, w32, to_z, of_z, FitsSigned, Fits, w8}
+use Rattle.std.specs.Prelude.{ℤ, pos, ◌≤ℤ◌, ◌↔◌, IsTrue, slice_index_or, ◌&&◌, not, nat_lt, bit_or, ◌==◌, int_le}
+use Rattle.std.specs.Int.{bit_at}
+use Rattle.std.specs.Ordering.{int_eq}
+use Rattle.std.specs.Simd.Lanes.{zip2, mask_l, top}
+use Rattle.std.proofs.lemmas.Bool.Decides.{nat_tests}
+use Rattle.std.proofs.lemmas.Int.{ints, int_wrap_fits}
+use Rattle.std.proofs.lemmas.Nat.{or_lt, le_or_l, le_or_r}
+use Rattle.std.proofs.lemmas.List.{get_or-map, length-map}
+use Rattle.std.proofs.lemmas.Simd.{get_or-zip2, length-zip2, tops_compared, mask_l-mod, mask_l-lt, bit_mask_l}
+use Rattle.gfxspec.specs.Raster.{Edge, Triangle, area, centre, covers, edge, edge_holds, is_empty, side_of}
+use Rattle.edges.specs.Signs.{AreSigns, sign_at}
 use Rattle.edges.specs.Value.{edge_value}
-use Rattle.gfxspec.specs.Raster.{Edge, Triangle, edge, edge_holds, centre}
-use Rattle.edges.specs.Walk.{EdgePlace, IsWalked}
-use Rattle.edges.specs.WalkInside.{place_of, IsAt}
-use Rattle.edges.specs.declared.walk.EdgeWalk.TheInside.{Inside}
+use Rattle.edges.specs.declared.signs.SignLanes.{SignLanes}
+use Rattle.edges.proofs.EdgeLaws.{value_tells}
+use Rattle.edges.proofs.FunctionLaws.{whole_first, whole_second}
 
-pub small_fits : (v : ℤ) → unsigned_abs v ≤ 2 ^ 45 → FitsSigned w64 v
-small_fits (pos n) h = record { sfits = omega (arith, ints) }
-small_fits (negsuc n) h = record { sfits = omega (arith, ints) }
+-- ---- signs and bits
 
-pub eight_fits : (v : ℤ) → unsigned_abs v ≤ 2 ^ 29 → FitsSigned w64 (pos 8 *ℤ v)
-eight_fits (pos n) h = record { sfits = omega (arith, ints) }
-eight_fits (negsuc n) h = record { sfits = omega (arith, ints) }
+-- a number of 32 bits is at least 0 where its uppermost bit is clear
+clear_bit : (v : ℤ) (h : Bool) → FitsSigned w32 v → (pos 0 ≤ℤ v) ↔ IsTrue h → nat_lt (of_z w32 v) (2 ^ 31) ≡ h
+clear_bit v h fits tells = grind (arith, ints, nat_tests)
 
--- a known value and a step give the next value, which fits
-pub record Next (e : Edge) (u v : ℕ) (sum : ℤ) : Type 0 where
-  pub value : sum ≡ edge_value e u v
-  pub fits : FitsSigned w64 sum
+or_clear : (a b : ℕ) → nat_lt (bit_or a b) (2 ^ 31) ≡ (nat_lt a (2 ^ 31) && nat_lt b (2 ^ 31))
+or_clear a b = let l = le_or_l a b in let r = le_or_r a b in let both = or_lt 31 a b in grind (arith, nat_tests)
 
--- three values, edge by edge
-pub each_value : (P : ℕ → ℤ → Type 0) (a b c d : ℤ) → P 0 a → P 1 b → P 2 c → (i : ℕ) → i < 3 → P i (get_or (a ∷ b ∷ c ∷ []) i d)
-each_value P a b c d p q r zero l = p
-each_value P a b c d p q r (suc zero) l = q
-each_value P a b c d p q r (suc (suc zero)) l = r
-each_value P a b c d p q r (suc (suc (suc i))) l = absurd (omega arith)
+not_below : (n : ℕ) → int_le (to_z w32 0) (to_z w32 n) ≡ nat_lt n (2 ^ 31)
+not_below n = grind (arith, ints, nat_tests)
 
--- what holds of edges 0, 1 and 2
-pub each_of_three : (P : ℕ → Type 0) → P 0 → P 1 → P 2 → (i : ℕ) → i < 3 → P i
-each_of_three P p q r zero l = p
-each_of_three P p q r (suc zero) l = q
-each_of_three P p q r (suc (suc zero)) l = r
-each_of_three P p q r (suc (suc (suc i))) l = absurd (omega arith)
+one_is : (b : Bool) → (cond b 1 0 == 1) ≡ b
+one_is true = refl
+one_is false = refl
 
-pub walked_from : (t : Triangle)
-    → ((u v : ℕ) → (pos 0 ≤ℤ edge_value (edge t 0) u v) ↔ IsTrue (edge_holds (edge t 0) (centre u v)))
-    → ((u v : ℕ) → (pos 0 ≤ℤ edge_value (edge t 1) u v) ↔ IsTrue (edge_holds (edge t 1) (centre u v)))
-    → ((u v : ℕ) → (pos 0 ≤ℤ edge_value (edge t 2) u v) ↔ IsTrue (edge_holds (edge t 2) (centre u v)))
-    → ((u v : ℕ) → u < 8192 → v < 8192 → unsigned_abs (edge_value (edge t 0) u v) ≤ 2 ^ 45)
-    → ((u v : ℕ) → u < 8192 → v < 8192 → unsigned_abs (edge_value (edge t 1) u v) ≤ 2 ^ 45)
-    → ((u v : ℕ) → u < 8192 → v < 8192 → unsigned_abs (edge_value (edge t 2) u v) ≤ 2 ^ 45)
-    → IsWalked t
-walked_from t a b c d e f =
-    record {
-      tells = λ i u v l. each_of_three (λ i. (pos 0 ≤ℤ edge_value (edge t i) u v) ↔ IsTrue (edge_holds (edge t i) (centre u v))) (a u v) (b u v) (c u v) i l;
-      small = λ i u v l p q. each_of_three (λ i. unsigned_abs (edge_value (edge t i) u v) ≤ 2 ^ 45) (d u v p q) (e u v p q) (f u v p q) i l;
-    }
+-- the mask of a comparison of eight lanes
+module _ (test : ℕ → ℕ → Bool) (xs ys : List ℕ) (lx : length xs ≡ 8) (ly : length ys ≡ 8) where
+  abbrev pub compared : ℕ
+  compared = mask_l (map (top 31) (zip2 (λ a b. cond (test a b) (2 ^ 32 - 1) 0) xs ys)) % 2 ^ 64
 
--- a walk's values one row down and eight pixels to the right
-pub next_sum : (e : Edge) (x y u v : ℕ) (value step : ℤ) → unsigned_abs (edge_value e u v) ≤ 2 ^ 45 → value ≡ edge_value e x y → edge_value e u v ≡ edge_value e x y +ℤ step → Next e u v (value +ℤ step)
-next_sum e x y u v value step small is adds =
-    let to : value +ℤ step ≡ edge_value e u v = ap (λ n. n +ℤ step) is ∙ sym adds in
-    let P : ℤ → Type 0 = λ n. unsigned_abs n ≤ 2 ^ 45 in
-    record { value = to; fits = small_fits _ (subst P (sym to) small) }
+  tests_long : length (zip2 test xs ys) ≡ 8
+  tests_long = length-zip2 test xs ys (lx ∙ sym ly) ∙ lx
 
-pub below_next : (w : Inside) → IsAt w → (p : EdgePlace) → place_of w ≡ p → p.x < 4096 → p.y < 4096 → (i : ℕ) → i < 3
-    → Next (edge w.set.now i) w.x (w.y + 1) (slice_index_or w.values i (pos 0) +ℤ slice_index_or w.below i (pos 0))
-below_next w a p is h k i l =
-    let P : EdgePlace → Type 0 = λ q. q.x < 4096 in
-    let Q : EdgePlace → Type 0 = λ q. q.y < 4096 in
-    let x : w.x < 4096 = subst P (sym is) h in
-    let y : w.y < 4096 = subst Q (sym is) k in
-    next_sum (edge w.set.now i) w.x w.y w.x (w.y + 1) (slice_index_or w.values i (pos 0)) (slice_index_or w.below i (pos 0))
-    (a.triangle.small i w.x (w.y + 1) l (omega arith) (omega arith)) (a.each i l) (a.below i w.x w.y l)
+  compared_is : compared ≡ mask_l (zip2 test xs ys)
+  compared_is = ap (λ ms. mask_l ms % 2 ^ 64) (tops_compared w32 test xs ys) ∙ mask_l-mod (zip2 test xs ys) 64 (omega (arith, tests_long))
 
-pub across_next : (w : Inside) → IsAt w → (p : EdgePlace) → place_of w ≡ p → p.x < 4096 → p.y < 4096 → (i : ℕ) → i < 3
-    → Next (edge w.set.now i) (w.x + 8) w.y (slice_index_or w.values i (pos 0) +ℤ slice_index_or w.across i (pos 0))
-across_next w a p is h k i l =
-    let P : EdgePlace → Type 0 = λ q. q.x < 4096 in
-    let Q : EdgePlace → Type 0 = λ q. q.y < 4096 in
-    let x : w.x < 4096 = subst P (sym is) h in
-    let y : w.y < 4096 = subst Q (sym is) k in
-    next_sum (edge w.set.now i) w.x w.y (w.x + 8) w.y (slice_index_or w.values i (pos 0)) (slice_index_or w.across i (pos 0))
-    (a.triangle.small i (w.x + 8) w.y l (omega arith) (omega arith)) (a.each i l) (a.across i w.x w.y l)
+  pub compared_fits : Fits w8 compared
+  compared_fits =
+      let small = mask_l-lt (zip2 test xs ys) in
+      let power = ap (λ n. 2 ^ n) tests_long in
+      record { fits = omega (arith, compared_is, small, power) }
 
--- eight steps of one pixel
-pub eight_steps : (e : Edge) (s : ℤ) → ((x y : ℕ) → edge_value e (x + 1) y ≡ edge_value e x y +ℤ s) → (x y : ℕ) → edge_value e (x + 8) y ≡ edge_value e x y +ℤ pos 8 *ℤ s
-eight_steps e s adds x y =
-    by (edge_value e x y) (edge_value e (x + 1) y) (edge_value e (x + 2) y) (edge_value e (x + 3) y) (edge_value e (x + 4) y) (edge_value e (x + 5) y) (edge_value e (x + 6) y) (edge_value e (x + 7) y)
-    (edge_value e (x + 8) y) (adds x y) (more 1) (more 2) (more 3) (more 4) (more 5) (more 6) (more 7)
-  where
-    more : (k : ℕ) → edge_value e (x + (k + 1)) y ≡ edge_value e (x + k) y +ℤ s
-    more k = let here : x + k + 1 ≡ x + (k + 1) = omega arith in ap (λ n. edge_value e n y) (sym here) ∙ adds (x + k) y
+  pub bit_at-compared : (j : ℕ) → j < 8 → (bit_at compared j == 1) ≡ test (get_or xs j 0) (get_or ys j 0)
+  bit_at-compared j h =
+      ap (λ n. bit_at n j == 1) compared_is
+      ∙ ap (λ n. n == 1) (bit_mask_l (zip2 test xs ys) j ∙ ap (λ b. cond b 1 0) (get_or-zip2 test xs ys j 0 0 false (omega (arith, lx)) (omega (arith, ly))))
+      ∙ one_is (test (get_or xs j 0) (get_or ys j 0))
 
-    by : (a b c d f g h i j : ℤ) → b ≡ a +ℤ s → c ≡ b +ℤ s → d ≡ c +ℤ s → f ≡ d +ℤ s → g ≡ f +ℤ s → h ≡ g +ℤ s → i ≡ h +ℤ s → j ≡ i +ℤ s → j ≡ a +ℤ pos 8 *ℤ s
-    by a b c d f g h i j e1 e2 e3 e4 e5 e6 e7 e8 = omega (arith, ints)
+-- ---- three edges
+
+abbrev pub bits_in : List ℤ → List ℕ
+bits_in = map (of_z w32)
+
+abbrev pub any_below : List ℤ → List ℤ → List ℤ → List ℕ
+any_below xs ys zs = zip2 bit_or (zip2 bit_or (bits_in xs) (bits_in ys)) (bits_in zs)
+
+module _ (xs ys zs : List ℤ) (lx : length xs ≡ 8) (ly : length ys ≡ 8) (lz : length zs ≡ 8) where
+  long_x : length (bits_in xs) ≡ 8
+  long_x = length-map xs (of_z w32) ∙ lx
+
+  long_y : length (bits_in ys) ≡ 8
+  long_y = length-map ys (of_z w32) ∙ ly
+
+  long_z : length (bits_in zs) ≡ 8
+  long_z = length-map zs (of_z w32) ∙ lz
+
+  long_two : length (zip2 bit_or (bits_in xs) (bits_in ys)) ≡ 8
+  long_two = length-zip2 bit_or (bits_in xs) (bits_in ys) (long_x ∙ sym long_y) ∙ long_x
+
+  pub long_any : length (any_below xs ys zs) ≡ 8
+  long_any = length-zip2 bit_or (zip2 bit_or (bits_in xs) (bits_in ys)) (bits_in zs) (long_two ∙ sym long_z) ∙ long_two
+
+  any_lane : (j : ℕ) → j < 8 → get_or (any_below xs ys zs) j 0 ≡ bit_or (bit_or (of_z w32 (slice_index_or xs j (pos 0))) (of_z w32 (slice_index_or ys j (pos 0)))) (of_z w32 (slice_index_or zs j (pos 0)))
+  any_lane j h =
+      get_or-zip2 bit_or (zip2 bit_or (bits_in xs) (bits_in ys)) (bits_in zs) j 0 0 0 (omega (arith, long_two)) (omega (arith, long_z))
+      ∙ (λ i. bit_or (get_or-zip2 bit_or (bits_in xs) (bits_in ys) j 0 0 0 (omega (arith, long_x)) (omega (arith, long_y)) i) (get_or-map (of_z w32) zs j (pos 0) 0 (omega (arith, lz)) i))
+      ∙ (λ i. bit_or (bit_or (get_or-map (of_z w32) xs j (pos 0) 0 (omega (arith, lx)) i) (get_or-map (of_z w32) ys j (pos 0) 0 (omega (arith, ly)) i)) (of_z w32 (slice_index_or zs j (pos 0))))
+
+  three_clear : (a b c : ℕ) → nat_lt (bit_or (bit_or a b) c) (2 ^ 31) ≡ ((nat_lt a (2 ^ 31) && nat_lt b (2 ^ 31)) && nat_lt c (2 ^ 31))
+  three_clear a b c = or_clear (bit_or a b) c ∙ ap (λ t. t && nat_lt c (2 ^ 31)) (or_clear a b)
+
+  pub any_tells : (j : ℕ) (p q r : Bool) → j < 8 → nat_lt (of_z w32 (slice_index_or xs j (pos 0))) (2 ^ 31) ≡ p → nat_lt (of_z w32 (slice_index_or ys j (pos 0))) (2 ^ 31) ≡ q → nat_lt (of_z w32 (slice_index_or zs j (pos 0))) (2 ^ 31) ≡ r
+      → int_le (to_z w32 0) (to_z w32 (get_or (any_below xs ys zs) j 0)) ≡ ((p && q) && r)
+  any_tells j p q r h ep eq er =
+      ap (λ n. int_le (to_z w32 0) (to_z w32 n)) (any_lane j h)
+      ∙ not_below _
+      ∙ three_clear (of_z w32 (slice_index_or xs j (pos 0))) (of_z w32 (slice_index_or ys j (pos 0))) (of_z w32 (slice_index_or zs j (pos 0)))
+      ∙ (λ i. (ep i && eq i) && er i)
+
+-- ---- an edge's lane near the beginning
+pub lane_tells : (l : SignLanes) (e : Edge) (left top x y : ℕ) → AreSigns l e left top x y → side_of e e.opposite ≢ pos 0 → left ≤ x → top ≤ y → (j : ℕ) → j < 8 → x + j < left + 32 → y < top + 32
+    → nat_lt (of_z w32 (slice_index_or l.lanes j (pos 0))) (2 ^ 31) ≡ edge_holds e (centre (x + j) y)
+lane_tells l e left top x y h not_flat px py j few near_x near_y =
+    let a = x + j - left in
+    let b = y - top in
+    let across : left + a ≡ x + j = omega arith in
+    let down : top + b ≡ y = omega arith in
+    let f = h.signs in
+    let At : ℕ → ℕ → Type 0 = λ u v. FitsSigned w32 (sign_at f u v) in
+    let fits : At (x + j) y = subst (λ u. At u y) across (subst (At (left + a)) down (f.fits a b (omega arith) (omega arith))) in
+    let Tells : ℕ → ℕ → Type 0 = λ u v. (pos 0 ≤ℤ sign_at f u v) ↔ (pos 0 ≤ℤ edge_value e u v) in
+    let tells : Tells (x + j) y = subst (λ u. Tells u y) across (subst (Tells (left + a)) down (f.tells a b (omega arith) (omega arith))) in
+    let holds = value_tells e (centre (x + j) y) not_flat in
+    ap (λ v. nat_lt (of_z w32 v) (2 ^ 31)) (h.lane j few ∙ int_wrap_fits w32 (sign_at f (x + j) y) fits)
+    ∙ clear_bit (sign_at f (x + j) y) (edge_holds e (centre (x + j) y)) fits (λ p. holds.0 (tells.0 p), λ t. tells.1 (holds.1 t))
+
+-- ---- a triangle that has an area
+module _ (t : Triangle) (real : area t ≢ pos 0) where
+  pub first_not_flat : side_of (edge t 0) (edge t 0).opposite ≢ pos 0
+  first_not_flat z = real (whole_first t (area t) refl ∙ z)
+
+  pub second_not_flat : side_of (edge t 1) (edge t 1).opposite ≢ pos 0
+  second_not_flat z = real (whole_second t (area t) refl ∙ z)
+
+  pub third_not_flat : side_of (edge t 2) (edge t 2).opposite ≢ pos 0
+  third_not_flat z = real z
+
+  not_zero : (x : ℤ) → x ≢ pos 0 → int_eq x (pos 0) ≡ false
+  not_zero x n = grind (arith, ints)
+
+  three : (e p q r : Bool) → e ≡ false → ((p && q) && r) ≡ (not e && (p && (q && r)))
+  three e true q r z = ap (λ e. not e && (q && r)) (sym z)
+  three e false q r z = ap (λ e. not e && false) (sym z)
+
+  pub all_cover : (u v : ℕ) → ((edge_holds (edge t 0) (centre u v) && edge_holds (edge t 1) (centre u v)) && edge_holds (edge t 2) (centre u v)) ≡ covers t (centre u v)
+  all_cover u v = three (is_empty t) (edge_holds (edge t 0) (centre u v)) (edge_holds (edge t 1) (centre u v)) (edge_holds (edge t 2) (centre u v)) (not_zero (area t) real)

@@ -1,24 +1,28 @@
-//! The values of a triangle's edges at a pixel, walked over the spans of a tile.
+//! Where a triangle's edges hold, walked over the spans of a tile.
 
-ghost use Rattle.std.specs.Prelude.{◌≡◌, ℕ, ◌<◌, ◌+◌, pos, slice_index_or};
+ghost use Rattle.std.specs.Prelude.{◌≡◌, ℕ, ◌<◌, ◌+◌, ◌==◌};
+ghost use Rattle.std.specs.Int.{bit_at};
 ghost use Rattle.gfxspec.specs.Limits.{side_bound};
-ghost use Rattle.gfxspec.specs.Raster.{edge};
-ghost use Rattle.edges.specs.Value.{edge_value};
-ghost use Rattle.edges.specs.Walk.{IsWalked, StepRight};
+ghost use Rattle.gfxspec.specs.Raster.{centre, covers};
+ghost use Rattle.edges.specs.Walk.{IsNearBegin};
 
 use crate::EdgeSet;
+use crate::signs::SignLanes;
 use std::marker::Model;
+use std::simd::prelude::*;
 
-/// The values of three edges at one pixel. Contracts see the triangle and the pixel. The steps stand in the walk itself,
-/// so that a loop over rows needn't read them from the set again.
+/// Three edges at eight pixels of a row. Contracts see the triangle, the pixel where the walk began and the first of the eight.
+/// What is told of the edges is promised within 32 rows and columns of the beginning.
 #[derive(Drop)]
 pub struct EdgeWalk<'a> {
     set: &'a EdgeSet,
+    left: u32,
+    top: u32,
     x: u32,
     y: u32,
-    values: [i64; 3],
-    across: [i64; 3],
-    below: [i64; 3],
+    first: SignLanes,
+    second: SignLanes,
+    third: SignLanes,
 }
 
 impl<'a> Model for EdgeWalk<'a> {
@@ -33,83 +37,73 @@ impl<'a> Model for EdgeWalk<'a> {
 }
 
 impl EdgeSet {
-    /// A walk that begins at pixel (x, y).
+    /// A walk that begins at the eight pixels from (x, y) on.
     pub fn walk(&self, x: u32, y: u32) -> EdgeWalk<'_>
         requires x { x < side_bound }
         requires y { y < side_bound }
-        ensures { result ≡ record { triangle = self.now; x = x; y = y } }
+        ensures { result ≡ record { triangle = self.now; left = x; top = y; x = x; y = y } }
     {
         EdgeWalk {
             set: self,
+            left: x,
+            top: y,
             x,
             y,
-            values: [self.at(0, x, y), self.at(1, x, y), self.at(2, x, y)],
-            across: [8 * self.step_x(0), 8 * self.step_x(1), 8 * self.step_x(2)],
-            below: [self.step_y(0), self.step_y(1), self.step_y(2)],
+            first: SignLanes::of(self.functions[0], x, y),
+            second: SignLanes::of(self.functions[1], x, y),
+            third: SignLanes::of(self.functions[2], x, y),
         }
-    }
-
-    /// What one pixel to the right adds to each edge's value.
-    pub fn steps(&self) -> [i64; 3]
-        ensures { StepRight self.now result }
-    {
-        [self.step_x(0), self.step_x(1), self.step_x(2)]
     }
 }
 
 impl<'a> EdgeWalk<'a> {
-    /// The values of the edges at the walk's pixel.
-    #[inline]
-    pub fn values(&self) -> [i64; 3]
-        ensures values { (i : ℕ) → i < 3 → slice_index_or result i (pos 0) ≡ edge_value (edge self.now.triangle i) self.now.x self.now.y }
-        ensures triangle { IsWalked self.now.triangle }
+    /// Bit j is set where the triangle covers the centre of the pixel j to the right of the walk's: where all three edges hold.
+    #[inline(always)]
+    pub fn covered(&self) -> u8
+        ensures { (j : ℕ) → j < 8 → IsNearBegin self.now j → (bit_at result j == 1) ≡ covers self.now.triangle (centre (self.now.x + j) self.now.y) }
     {
-        let EdgeWalk { values, .. } = self;
-        *values
+        let any = self.first.lanes | self.second.lanes | self.third.lanes;
+        any.simd_ge(i32x8::splat(0)).to_bitmask() as u8
     }
 
     /// Goes one row down.
-    #[inline]
+    #[inline(always)]
     pub fn down(&mut self)
-        requires x { self.old.x < side_bound }
-        requires y { self.old.y < side_bound }
+        requires { self.old.y < side_bound }
         ensures { self.new ≡ record self.old { y = self.old.y + 1 } }
     {
-        self.values = [
-            self.values[0] + self.below[0],
-            self.values[1] + self.below[1],
-            self.values[2] + self.below[2],
-        ];
+        self.first = self.first.down();
+        self.second = self.second.down();
+        self.third = self.third.down();
         self.y += 1;
     }
 
     /// Goes eight pixels to the right, to the next span of the row.
-    #[inline]
+    #[inline(always)]
     pub fn eight_right(&mut self)
-        requires x { self.old.x < side_bound }
-        requires y { self.old.y < side_bound }
+        requires { self.old.x < side_bound }
         ensures { self.new ≡ record self.old { x = self.old.x + 8 } }
     {
-        self.values = [
-            self.values[0] + self.across[0],
-            self.values[1] + self.across[1],
-            self.values[2] + self.across[2],
-        ];
+        self.first = self.first.eight_right();
+        self.second = self.second.eight_right();
+        self.third = self.third.eight_right();
         self.x += 8;
     }
 
     /// The same walk once more, for the rows of one column of spans.
-    #[inline]
+    #[inline(always)]
     pub fn copied(&self) -> EdgeWalk<'a>
         ensures { result ≡ self.now }
     {
         EdgeWalk {
             set: self.set,
+            left: self.left,
+            top: self.top,
             x: self.x,
             y: self.y,
-            values: self.values,
-            across: self.across,
-            below: self.below,
+            first: self.first,
+            second: self.second,
+            third: self.third,
         }
     }
 }

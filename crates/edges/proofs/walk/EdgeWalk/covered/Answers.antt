@@ -1,0 +1,34 @@
+use Rattle.std.proofs.Common.{◌≡◌, ◌∙◌, ap, subst, refl, ℕ, ◌+◌, ◌<◌, replicate, Bool, w32, to_z}
+use Rattle.std.specs.Prelude.{◌==◌, int_le, slice_index_or}
+use Rattle.std.specs.Int.{bit_at}
+use Rattle.std.proofs.lemmas.List.{get_or-replicate}
+use Rattle.gfxspec.specs.Raster.{centre, covers, edge}
+use Rattle.edges.specs.Walk.{EdgePlace, IsNearBegin}
+use Rattle.edges.proofs.WalkLaws.{any_below, any_tells, long_any, compared_fits, bit_at-compared, compared, lane_tells, first_not_flat, second_not_flat, third_not_flat, all_cover}
+use Rattle.edges.proofs.walk.EdgeWalk.covered.Goals as goal
+
+abbrev at_least : ℕ → ℕ → Bool
+at_least a b = int_le (to_z w32 a) (to_z w32 b)
+
+pub overflow_cast-result : goal.overflow_cast-result
+overflow_cast-result c =
+    let at = c.self.invariant in
+    let w = c.self.inside in
+    compared_fits at_least (replicate 8 0) (any_below w.first.lanes w.second.lanes w.third.lanes) refl (long_any w.first.lanes w.second.lanes w.third.lanes at.first.eight at.second.eight at.third.eight)
+
+pub returns : goal.returns
+returns c =
+    let w = c.self.inside in
+    let at = c.self.invariant in
+    let t = w.set.now in
+    let any = any_below w.first.lanes w.second.lanes w.third.lanes in
+    let long = long_any w.first.lanes w.second.lanes w.third.lanes at.first.eight at.second.eight at.third.eight in
+    let P : EdgePlace → Type 0 = λ p. (j : ℕ) → j < 8 → IsNearBegin p j → (bit_at (compared at_least (replicate 8 0) any refl long) j == 1) ≡ covers p.triangle (centre (p.x + j) p.y) in
+    subst P c.self.view_is (λ j h near.
+    bit_at-compared at_least (replicate 8 0) any refl long j h
+    ∙ ap (λ n. at_least n (slice_index_or any j 0)) (get_or-replicate 8 j 0 0 h)
+    ∙ any_tells w.first.lanes w.second.lanes w.third.lanes at.first.eight at.second.eight at.third.eight j _ _ _ h
+    (lane_tells w.first (edge t 0) w.left w.top w.x w.y at.first (first_not_flat t at.real) at.left at.top j h near.column near.row)
+    (lane_tells w.second (edge t 1) w.left w.top w.x w.y at.second (second_not_flat t at.real) at.left at.top j h near.column near.row)
+    (lane_tells w.third (edge t 2) w.left w.top w.x w.y at.third (third_not_flat t at.real) at.left at.top j h near.column near.row)
+    ∙ all_cover t at.real (w.x + j) w.y)

@@ -1,0 +1,25 @@
+-- The signs of an edge's values at eight pixels side by side, as numbers of 32 bits.
+use Rattle.std.specs.Prelude.{◌≡◌, ℕ, ◌+◌, ◌<◌, ℤ, pos, ◌+ℤ◌, ◌*ℤ◌, ◌≤ℤ◌, ◌↔◌, FitsSigned, length, slice_index_or}
+use Rattle.std.specs.Int.{w32, int_wrap}
+use Rattle.gfxspec.specs.Raster.{Edge}
+use Rattle.edges.specs.Value.{edge_value}
+use Rattle.edges.specs.declared.signs.SignLanes.{SignLanes}
+
+-- a linear function of the pixel whose sign is that of the edge's value, within 32 rows and columns of (left, top)
+pub record SignFunction (e : Edge) (left top : ℕ) : Type 0 where
+  pub origin : ℤ
+  pub right : ℤ
+  pub below : ℤ
+  pub fits : (a b : ℕ) → a < 32 → b < 32 → FitsSigned w32 (origin +ℤ pos (left + a) *ℤ right +ℤ pos (top + b) *ℤ below)
+  pub tells : (a b : ℕ) → a < 32 → b < 32 → (pos 0 ≤ℤ (origin +ℤ pos (left + a) *ℤ right +ℤ pos (top + b) *ℤ below)) ↔ (pos 0 ≤ℤ edge_value e (left + a) (top + b))
+
+abbrev pub sign_at : {e : Edge} {left top : ℕ} → SignFunction e left top → ℕ → ℕ → ℤ
+sign_at f x y = f.origin +ℤ pos x *ℤ f.right +ℤ pos y *ℤ f.below
+
+-- the lanes have the function's values at the eight pixels from (x, y) on, as far as 32 bits hold them
+pub record AreSigns (l : SignLanes) (e : Edge) (left top x y : ℕ) : Type 0 where
+  pub signs : SignFunction e left top
+  pub eight : length l.lanes ≡ 8
+  pub lane : (j : ℕ) → j < 8 → slice_index_or l.lanes j (pos 0) ≡ int_wrap w32 (sign_at signs (x + j) y)
+  pub across : l.across ≡ pos 8 *ℤ signs.right
+  pub below : l.below ≡ signs.below
