@@ -33,7 +33,7 @@ fn short_step(step: i64) -> i32
     ensures small { unsigned_abs result ≤ 2 ^ 21 }
     ensures whole { (n : ℤ) → step ≡ pos 256 *ℤ n → result ≡ n }
 {
-    (step / 256) as i32
+    step.div_euclid(256) as i32
 }
 
 impl SignLanes {
