@@ -1,4 +1,3 @@
-pub mod Covering
 pub mod Bits
 pub mod Spanning
 pub mod Lanes

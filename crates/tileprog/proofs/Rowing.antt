@@ -1,10 +1,13 @@
 -- A span of a column, and one row more of it.
-use Rattle.std.proofs.Common.{◌≡◌, ◌∙◌, ap, sym, subst, refl, arith, ℕ, ◌+◌, ◌*◌, ◌<◌, ◌≤◌, Bool, true, false, ◌&&◌, nat_lt, List}
-use Rattle.std.specs.Prelude.{nat_le, slice_index}
+use Rattle.std.proofs.Common.{◌≡◌, ◌∙◌, ap, sym, subst, refl, arith, ℕ, ◌+◌, ◌*◌, ◌<◌, ◌≤◌, Bool, true, false, IsTrue, ◌&&◌, nat_lt, List}
+use Rattle.std.specs.Prelude.{nat_le, slice_index, not, ◌||◌, ◌==◌, bit_and}
+use Rattle.std.specs.Int.{bit_at}
+use Rattle.std.proofs.lemmas.Bool.Decides.{nat_tests}
 use Rattle.gfxspec.specs.declared.pixel.Pixel.{Pixel}
-use Rattle.gfxspec.specs.Raster.{Triangle, centre}
-use Rattle.edges.specs.Walk.{EdgePlace}
-use Rattle.gfxspec.specs.Tiles.{IsIn}
+use Rattle.gfxspec.specs.Raster.{Point, Triangle, centre, covers, edge, edge_holds, is_empty}
+use Rattle.edges.specs.Walk.{EdgePlace, IsNearBegin}
+use Rattle.gfxspec.specs.Tiles.{IsIn, IsInTile}
+use Rattle.depthplane.specs.Height.{DeepTriangle}
 use Rattle.gfxspec.specs.DepthStencil.{depth_passes}
 use Rattle.lanes.specs.Stencil.{has}
 use Rattle.tileblock.specs.Block.{Block, pixel_at}
@@ -12,10 +15,10 @@ use Rattle.tileblock.specs.SpanStored.{SpanStored, lane_pixel}
 use Rattle.gfxspec.specs.declared.geometry.PixelRect.{PixelRect}
 use Rattle.tileprog.specs.declared.column.Column.{Column}
 use Rattle.tileprog.specs.Cells.{AllHave, AreCovered}
-use Rattle.tileprog.proofs.Lanes.{has_all, has_none}
+use Rattle.tileprog.proofs.Lanes.{has_all, has_none, has_both}
 use Rattle.tileprog.specs.Columns.{RowDrew}
 use Rattle.tileprog.specs.Counting.{eight, one_if, stroke_count}
-use Rattle.tileprog.specs.Edges.{passes_edges}
+use Rattle.tileprog.specs.Edges.{passes_edges, BeganIn, Decides}
 use Rattle.tileprog.specs.SpanDrawn.{drawn_lane, ArePassed}
 use Rattle.tileprog.specs.Strokes.{Stroke, IsNamed, IsWithin, reached, depth_there}
 use Rattle.tileprog.proofs.Ones.{eight_same, eight_none}
@@ -23,13 +26,70 @@ use Rattle.tileprog.proofs.Reaching.{lane_drawn, lane_missed, lane_missed_count,
 use Rattle.tileprog.proofs.Spanning.{unchanged}
 use Rattle.tileprog.proofs.Stroking.{one_span, rows_from}
 
--- the lanes that are left, in the words of the stroke
-pub lanes_at : (e : EdgePlace) (t : Triangle) (x y mask left right cover : ℕ) → e ≡ record { triangle = t; x = x; y = y }
+-- ---- the lanes that are left
+
+three_pass : (e a b d h k l : Bool) → IsTrue (not e && (h && (k && l))) → IsTrue ((not a || h) && ((not b || k) && (not d || l)))
+three_pass e a b d h k l is = grind arith
+
+-- where the triangle covers, each edge that a mask names holds
+covers_pass : (mask : ℕ) (t : Triangle) (p : Point) → IsTrue (covers t p) → IsTrue (passes_edges mask t p)
+covers_pass mask t p is = three_pass (is_empty t) (bit_at mask 0 == 1) (bit_at mask 1 == 1) (bit_at mask 2 == 1) (edge_holds (edge t 0) p) (edge_holds (edge t 1) p) (edge_holds (edge t 2) p) is
+
+same_truth : (a b : Bool) → (IsTrue a → IsTrue b) → (IsTrue b → IsTrue a) → a ≡ b
+same_truth true true f g = refl
+same_truth true false f g = sym (f refl)
+same_truth false true f g = g refl
+same_truth false false f g = refl
+
+between : (left u right : ℕ) → (nat_le left u && nat_lt u right) ≡ true → (left ≤ u) × (u < right)
+between left u right is = (grind (arith, nat_tests), grind (arith, nat_tests))
+
+module _ (mask : ℕ) (p : EdgePlace) (left right : ℕ) (decides : Decides mask p left right) (x j : ℕ) (place : x ≡ p.x) (is : (nat_le left (x + j) && nat_lt (x + j) right) ≡ true) where
+  pub near_begin : IsNearBegin p j
+  near_begin =
+      let before = (between left (x + j) right is).1 in
+      let wide = decides.column in
+      record { column = omega (arith, before, wide, place); row = decides.row }
+
+  -- where the edges that are named decide, all three tell the same
+  pub decided : covers p.triangle (centre (p.x + j) p.y) ≡ passes_edges mask p.triangle (centre (x + j) p.y)
+  decided =
+      let here = between left (x + j) right is in
+      ap (λ x. covers p.triangle (centre (x + j) p.y)) (sym place)
+      ∙ same_truth _ _ (covers_pass mask p.triangle (centre (x + j) p.y)) (decides.covered (x + j) here.0 here.1)
+
+-- a lane of a mask, and of one that is right where the first has a lane
+pub lane_left : (a b j : ℕ) (w q : Bool) → has a j ≡ w → (w ≡ true → has b j ≡ q) → has (bit_and a b) j ≡ (w && q)
+lane_left a b j true q is right = has_both a b j q (right refl) ∙ ap (λ v. v && q) is
+lane_left a b j false q is right = has_both a b j (has b j) refl ∙ ap (λ v. v && has b j) is
+
+pub none_named : (mask : ℕ) (t : Triangle) (p : Point) (w : Bool) → mask ≡ 0 → w ≡ (w && passes_edges mask t p)
+none_named mask t p w none = alone w ∙ ap (λ m. w && passes_edges m t p) (sym none)
+  where
+    alone : (w : Bool) → w ≡ (w && true)
+    alone true = refl
+    alone false = refl
+
+-- in the words of the stroke
+pub lanes_at : (e : EdgePlace) (t : Triangle) (x y mask left right cover : ℕ) → e ≡ record e { triangle = t; x = x; y = y }
     → ((j : ℕ) → j < 8 → has cover j ≡ ((nat_le left (x + j) && nat_lt (x + j) right) && passes_edges mask e.triangle (centre (x + j) e.y)))
     → (j : ℕ) → j < 8 → has cover j ≡ ((nat_le left (x + j) && nat_lt (x + j) right) && passes_edges mask t (centre (x + j) y))
 lanes_at e t x y mask left right cover is h =
     let P : EdgePlace → Type 0 = λ e. (j : ℕ) → j < 8 → has cover j ≡ ((nat_le left (x + j) && nat_lt (x + j) right) && passes_edges mask e.triangle (centre (x + j) e.y)) in
     subst P is h
+
+-- the named edges decide on a row of the clip rectangle, of a walk that began in the tile
+pub row_decides : (d : DeepTriangle) (mask : ℕ) (r clip : PixelRect) (p : EdgePlace) (x y : ℕ) → IsNamed d mask r → IsWithin clip r → IsInTile r → BeganIn p r → p ≡ record p { triangle = d.triangle; x = x; y = y } → clip.top ≤ y → y < clip.bottom
+    → Decides mask p clip.left clip.right
+row_decides d mask r clip p x y named within tile begun is top bottom =
+    let left = begun.left in
+    let above = begun.top in
+    let P : EdgePlace → Type 0 = λ p. Decides mask p clip.left clip.right in
+    subst P (sym is) (record {
+      column = omega (arith, within.right, tile.right, left);
+      row = omega (arith, within.bottom, tile.bottom, above);
+      covered = λ u h k. named.covered u y (record { left = omega (arith, within.left); right = omega (arith, within.right); top = omega (arith, within.top); bottom = omega (arith, within.bottom) });
+    })
 
 -- where all lanes are left, and the named edges hold at each
 pub all_lanes_covered : (k : Column) (t : Triangle) (r : PixelRect) (row : ℕ) → k.within ≡ 255 → AreCovered true k.mask t r k.x row (row + 1)

@@ -2,24 +2,21 @@
 use Rattle.std.specs.Prelude.{ℕ, ◌≡◌, ◌+◌, ◌-◌, ◌*◌, ◌<◌, ◌≤◌}
 use Rattle.gfxspec.specs.declared.geometry.PixelRect.{PixelRect}
 use Rattle.gfxspec.specs.Limits.{side_bound}
-use Rattle.gfxspec.specs.Raster.{Triangle}
 use Rattle.gfxspec.specs.Tiles.{IsInTile}
-use Rattle.edges.specs.Walk.{StepRight}
 use Rattle.tileblock.specs.Block.{Block}
 use Rattle.tileprog.specs.declared.column.Column.{Column}
 use Rattle.tileprog.specs.Counting.{eight, column_sum, stroke_count}
 use Rattle.tileprog.specs.Strokes.{Stroke, Drew, IsWithin}
 use Rattle.tileprog.specs.Within.{in_box}
 
--- a column of a rectangle in a tile, with what one pixel to the right adds to the edges of t
-pub record IsColumn (c : Column) (t : Triangle) (r : PixelRect) : Type 0 where
+-- a column of a rectangle in a tile
+pub record IsColumn (c : Column) (r : PixelRect) : Type 0 where
   pub span : c.span < 4
   pub x : c.x ≡ r.left + 8 * c.span
   pub within : IsWithin c.clip r
   pub tile : IsInTile r
   pub wide : r.left + 32 ≤ side_bound
   pub high : r.top + 32 ≤ side_bound
-  pub steps : StepRight t c.steps
 
 -- a row of the clip rectangle, counted within the tile
 pub record IsRow (c : Column) (r : PixelRect) (row : ℕ) : Type 0 where

@@ -181,7 +181,7 @@ fn cover_outcome(
 ) -> Option<bool>
     requires same { mask ≡ column.now.mask }
     requires set { set.now ≡ plane.now.triangle }
-    requires column { IsColumn column.now plane.now.triangle rect }
+    requires column { IsColumn column.now rect }
     requires long { IsLong column.now rect }
     requires row { row + 8 ≤ 32 }
     requires named { IsNamed plane.now column.now.mask rect }
@@ -196,7 +196,7 @@ fn cover_outcome(
 /// What the depths of a triangle lie between in the eight rows of a column from `row` on, where no edge cuts them.
 #[inline(always)]
 fn cell_range(plane: &Plane, rect: PixelRect, column: &Column, row: u32) -> DepthBounds
-    requires column { IsColumn column.now plane.now.triangle rect }
+    requires column { IsColumn column.now rect }
     requires row { row < 32 }
     requires named { IsNamed plane.now column.now.mask rect }
     requires cell { IsCell column.now plane.now.triangle rect row }
@@ -217,7 +217,7 @@ fn deep_from<A: Allocator>(
     row: u32,
     brush: &Brush,
 ) -> Option<bool>
-    requires column { IsColumn column.now plane.now.triangle block.now.rect }
+    requires column { IsColumn column.now block.now.rect }
     requires row { row < 32 }
     requires named { IsNamed plane.now column.now.mask block.now.rect }
     requires cell { IsCell column.now plane.now.triangle block.now.rect row }
@@ -250,7 +250,7 @@ fn depth_outcome<A: Allocator>(
     covered: Option<bool>,
     brush: &Brush,
 ) -> Option<bool>
-    requires column { IsColumn column.now plane.now.triangle block.now.rect }
+    requires column { IsColumn column.now block.now.rect }
     requires long { IsLong column.now block.now.rect }
     requires row { row + 8 ≤ 32 }
     requires named { IsNamed plane.now column.now.mask block.now.rect }
@@ -283,7 +283,7 @@ pub(crate) fn cell_of<A: Allocator>(
 ) -> Cell
     requires same { mask ≡ column.now.mask }
     requires set { set.now ≡ plane.now.triangle }
-    requires column { IsColumn column.now plane.now.triangle block.now.rect }
+    requires column { IsColumn column.now block.now.rect }
     requires long { IsLong column.now block.now.rect }
     requires row { row + 8 ≤ 32 }
     requires named { IsNamed plane.now column.now.mask block.now.rect }

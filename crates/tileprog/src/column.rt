@@ -17,8 +17,6 @@ pub(crate) struct Column {
     pub(crate) within: u8,
     /// The edges that are still to be tested, edge i as bit i.
     pub(crate) mask: u8,
-    /// What one pixel to the right adds to the edges' values.
-    pub(crate) steps: [i64; 3],
     pub(crate) ghost lanes: { (j : ℕ) → j < 8 → has within j ≡ (nat_le clip.left (x + j) && nat_lt (x + j) clip.right) },
 }
 
@@ -35,7 +33,7 @@ fn lanes_within(x: u32, left: u32, right: u32) -> u8
 }
 
 /// The column of a clip rectangle that begins at x.
-pub(crate) fn column_of(x: u32, span: u32, clip: PixelRect, mask: u8, steps: [i64; 3]) -> Column
+pub(crate) fn column_of(x: u32, span: u32, clip: PixelRect, mask: u8) -> Column
     requires some { clip.left < clip.right }
     requires begun { clip.left < x + 8 }
     requires ended { x < clip.right }
@@ -43,7 +41,6 @@ pub(crate) fn column_of(x: u32, span: u32, clip: PixelRect, mask: u8, steps: [i6
     ensures span { result.span ≡ span }
     ensures clip { result.clip ≡ clip }
     ensures mask { result.mask ≡ mask }
-    ensures steps { result.steps ≡ steps }
 {
     Column {
         x,
@@ -51,6 +48,5 @@ pub(crate) fn column_of(x: u32, span: u32, clip: PixelRect, mask: u8, steps: [i6
         clip,
         within: lanes_within(x, clip.left, clip.right),
         mask,
-        steps,
     }
 }

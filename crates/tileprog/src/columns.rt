@@ -1,6 +1,7 @@
 //! A triangle over a tile, in columns of spans.
 
 ghost use Rattle.std.specs.Prelude.{◌≡◌, ◌<◌, ◌≤◌, ◌+◌, ◌*◌};
+ghost use Rattle.tileprog.specs.Edges.{BeganIn};
 ghost use Rattle.tileprog.specs.Strokes.{IsNamed};
 ghost use Rattle.tileprog.specs.Kinds.{tests_of};
 ghost use Rattle.tileprog.specs.declared.kind.Tests.TheVariants.{Open, Depth};
@@ -18,24 +19,27 @@ use gfxspec::Compare;
 use std::alloc::Allocator;
 use tileblock::TileBlock;
 
-/// The rows of a column under a brush without tests, with the mask of its edges known to the loop.
+/// The rows of a column under a brush without tests, with the mask of its edges known to the loop, which walks a copy of its own: that stays
+/// in registers.
 #[inline(always)]
 fn open_rows<A: Allocator>(
     block: &mut TileBlock<A>,
     column: &Column,
     mask: u8,
-    mut edges: EdgeWalk<'_>,
+    edges: EdgeWalk<'_>,
     plane: &Plane,
     brush: Brush,
 ) -> u32
     requires same { mask ≡ column.now.mask }
-    requires column { IsColumn column.now plane.now.triangle block.old.rect }
-    requires edges { edges ≡ record { triangle = plane.now.triangle; x = column.now.x; y = column.now.clip.top } }
+    requires column { IsColumn column.now block.old.rect }
+    requires edges { edges ≡ record edges { triangle = plane.now.triangle; x = column.now.x; y = column.now.clip.top } }
+    requires begun { BeganIn edges block.old.rect }
     requires named { IsNamed plane.now column.now.mask block.old.rect }
     requires kind { tests_of brush.state ≡ Open }
     ensures { ColumnDrew (record { brush = brush; plane = plane.now; mask = column.now.mask; clip = column.now.clip }) block.old block.new column.now.x result }
 {
     let column = *column;
+    let mut edges = edges.copied();
     let rect = block.rect();
     let mut passed = 0u32;
     for row in column.clip.top - rect.top..column.clip.bottom - rect.top {
@@ -55,8 +59,9 @@ fn open_column<A: Allocator>(
     plane: &Plane,
     brush: Brush,
 ) -> u32
-    requires column { IsColumn column.now plane.now.triangle block.old.rect }
-    requires edges { edges ≡ record { triangle = plane.now.triangle; x = column.now.x; y = column.now.clip.top } }
+    requires column { IsColumn column.now block.old.rect }
+    requires edges { edges ≡ record edges { triangle = plane.now.triangle; x = column.now.x; y = column.now.clip.top } }
+    requires begun { BeganIn edges block.old.rect }
     requires named { IsNamed plane.now column.now.mask block.old.rect }
     requires kind { tests_of brush.state ≡ Open }
     ensures { ColumnDrew (record { brush = brush; plane = plane.now; mask = column.now.mask; clip = column.now.clip }) block.old block.new column.now.x result }
@@ -68,21 +73,22 @@ fn open_column<A: Allocator>(
     }
 }
 
-/// The rows of a column under a brush that tests depth alone, with the mask of its edges known to the loop.
+/// The same under a brush that tests depth alone.
 #[inline(always)]
 fn depth_spans<A: Allocator, W: Walks>(
     block: &mut TileBlock<A>,
     column: &Column,
     mask: u8,
-    mut edges: EdgeWalk<'_>,
+    edges: EdgeWalk<'_>,
     mut walk: W,
     func: Compare,
     write: bool,
     brush: Brush,
 ) -> u32
     requires same { mask ≡ column.now.mask }
-    requires column { IsColumn column.now (W.place walk).plane.triangle block.old.rect }
-    requires edges { edges ≡ record { triangle = (W.place walk).plane.triangle; x = column.now.x; y = column.now.clip.top } }
+    requires column { IsColumn column.now block.old.rect }
+    requires edges { edges ≡ record edges { triangle = (W.place walk).plane.triangle; x = column.now.x; y = column.now.clip.top } }
+    requires begun { BeganIn edges block.old.rect }
     requires walk { W.place walk ≡ record (W.place walk) { x = column.now.x; y = column.now.clip.top } }
     requires left { block.old.rect.left ≤ (W.place walk).left }
     requires top { block.old.rect.top ≤ (W.place walk).top }
@@ -91,6 +97,7 @@ fn depth_spans<A: Allocator, W: Walks>(
     ensures { ColumnDrew (record { brush = brush; plane = (W.place walk).plane; mask = column.now.mask; clip = column.now.clip }) block.old block.new column.now.x result }
 {
     let column = *column;
+    let mut edges = edges.copied();
     let rect = block.rect();
     let mut passed = 0u32;
     for row in column.clip.top - rect.top..column.clip.bottom - rect.top {
@@ -115,8 +122,9 @@ fn depth_rows<A: Allocator, W: Walks>(
     write: bool,
     brush: Brush,
 ) -> u32
-    requires column { IsColumn column.now (W.place walk).plane.triangle block.old.rect }
-    requires edges { edges ≡ record { triangle = (W.place walk).plane.triangle; x = column.now.x; y = column.now.clip.top } }
+    requires column { IsColumn column.now block.old.rect }
+    requires edges { edges ≡ record edges { triangle = (W.place walk).plane.triangle; x = column.now.x; y = column.now.clip.top } }
+    requires begun { BeganIn edges block.old.rect }
     requires walk { W.place walk ≡ record (W.place walk) { x = column.now.x; y = column.now.clip.top } }
     requires left { block.old.rect.left ≤ (W.place walk).left }
     requires top { block.old.rect.top ≤ (W.place walk).top }
@@ -142,8 +150,9 @@ fn depth_column<A: Allocator, W: Walks>(
     write: bool,
     brush: Brush,
 ) -> u32
-    requires column { IsColumn column.now (W.place walk).plane.triangle block.old.rect }
-    requires edges { edges ≡ record { triangle = (W.place walk).plane.triangle; x = column.now.x; y = column.now.clip.top } }
+    requires column { IsColumn column.now block.old.rect }
+    requires edges { edges ≡ record edges { triangle = (W.place walk).plane.triangle; x = column.now.x; y = column.now.clip.top } }
+    requires begun { BeganIn edges block.old.rect }
     requires walk { W.place walk ≡ record (W.place walk) { x = column.now.x; y = column.now.clip.top } }
     requires left { block.old.rect.left ≤ (W.place walk).left }
     requires top { block.old.rect.top ≤ (W.place walk).top }
@@ -188,8 +197,9 @@ pub(crate) fn draw_column<A: Allocator, W: Walks>(
     tests: &MadeTests<'_>,
     brush: &Brush,
 ) -> u32
-    requires column { IsColumn column.now plane.now.triangle block.old.rect }
-    requires edges { edges ≡ record { triangle = plane.now.triangle; x = column.now.x; y = column.now.clip.top } }
+    requires column { IsColumn column.now block.old.rect }
+    requires edges { edges ≡ record edges { triangle = plane.now.triangle; x = column.now.x; y = column.now.clip.top } }
+    requires begun { BeganIn edges block.old.rect }
     requires walk { W.place walk ≡ record (W.place walk) { plane = plane.now; x = column.now.x; y = column.now.clip.top } }
     requires set { set.now ≡ plane.now.triangle }
     requires left { block.old.rect.left ≤ (W.place walk).left }

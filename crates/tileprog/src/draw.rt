@@ -3,7 +3,6 @@
 ghost use Rattle.std.specs.Prelude.{◌≡◌, ◌<◌, ◌≤◌, ◌+◌, ◌*◌};
 ghost use Rattle.gfxspec.specs.Limits.{side_bound};
 ghost use Rattle.gfxspec.specs.Tiles.{IsInTile};
-ghost use Rattle.edges.specs.Walk.{StepRight};
 ghost use Rattle.meaning.specs.Over.{sum_over};
 ghost use Rattle.tileprog.specs.Counting.{stroke_count};
 ghost use Rattle.tileprog.specs.Made.{AreOf};
@@ -29,7 +28,6 @@ fn draw_spans<A: Allocator, W: Walks>(
     plane: &Plane,
     mut edges: EdgeWalk<'_>,
     mut walk: W,
-    steps: [i64; 3],
     mask: u8,
     tests: &MadeTests<'_>,
     brush: &Brush,
@@ -43,14 +41,13 @@ fn draw_spans<A: Allocator, W: Walks>(
     requires high { block.old.rect.top + 32 ≤ side_bound }
     requires set { set.now ≡ plane.now.triangle }
     requires named { IsNamed plane.now mask block.old.rect }
-    requires steps { StepRight plane.now.triangle steps }
     requires tests { AreOf tests.now brush.now }
     requires begun { block.old.rect.left + 8 * first ≤ clip.left }
     requires begins { clip.left < block.old.rect.left + 8 * first + 8 }
     requires ends { block.old.rect.left + 8 * past < clip.right + 8 }
     requires ended { clip.right ≤ block.old.rect.left + 8 * past }
     requires few { past ≤ 4 }
-    requires edges { edges ≡ record { triangle = plane.now.triangle; x = block.old.rect.left + 8 * first; y = clip.top } }
+    requires edges { edges ≡ record { triangle = plane.now.triangle; left = block.old.rect.left + 8 * first; top = clip.top; x = block.old.rect.left + 8 * first; y = clip.top } }
     requires walk { W.place walk ≡ record { plane = plane.now; left = block.old.rect.left + 8 * first; top = clip.top; x = block.old.rect.left + 8 * first; y = clip.top } }
     ensures drew { Stroked (record { brush = brush.now; plane = plane.now; mask = mask; clip = clip }) block.old block.new }
     ensures count { result ≡ sum_over block.old.rect (stroke_count (record { brush = brush.now; plane = plane.now; mask = mask; clip = clip }) block.old) }
@@ -59,7 +56,7 @@ fn draw_spans<A: Allocator, W: Walks>(
     let rect = block.rect();
     let mut passed = 0u32;
     for span in first..past {
-        let column = column_of(rect.left + 8 * span, span, clip, mask, steps);
+        let column = column_of(rect.left + 8 * span, span, clip, mask);
         let more = draw_column(
             block,
             &column,
@@ -102,18 +99,17 @@ fn draw_tested<A: Allocator>(
     let past = (clip.right - rect.left + 7) / 8;
     let left = rect.left + 8 * first;
     let set = triangle.edges.unpacked();
-    let steps = set.steps();
     let edges = set.walk(left, clip.top);
     let plane = &triangle.plane;
     if plane.is_biased() {
         let biased = plane.walk_eight_biased(left, clip.top);
         return draw_spans(
-            block, &set, plane, edges, biased, steps, mask, tests, brush, clip, first, past,
+            block, &set, plane, edges, biased, mask, tests, brush, clip, first, past,
         );
     }
     let walk = plane.walk_eight(left, clip.top);
     draw_spans(
-        block, &set, plane, edges, walk, steps, mask, tests, brush, clip, first, past,
+        block, &set, plane, edges, walk, mask, tests, brush, clip, first, past,
     )
 }
 

@@ -1,22 +1,18 @@
 //! The spans of a column, one by one.
 
 ghost use Rattle.std.specs.Prelude.{◌≡◌, ◌<◌, ◌≤◌, ◌+◌, ◌&&◌, nat_le, nat_lt, ℕ, true, IsTrue, IfSome, if◌then◌else◌};
-ghost use Rattle.gfxspec.specs.Limits.{side_bound};
 ghost use Rattle.gfxspec.specs.Raster.{centre};
-ghost use Rattle.edges.specs.Walk.{StepRight};
 ghost use Rattle.lanes.specs.Stencil.{has, reference_passes};
 ghost use Rattle.tileprog.specs.declared.kind.Tests.TheVariants.{Open, Depth, Stencil};
 ghost use Rattle.tileprog.specs.Cells.{AllHave, AreCovered, IsStill, IsUnwritten};
 ghost use Rattle.tileprog.specs.Columns.{IsColumn, IsRow, RowDrew};
-ghost use Rattle.tileprog.specs.Edges.{passes_edges};
+ghost use Rattle.tileprog.specs.Edges.{passes_edges, BeganIn, Decides};
 ghost use Rattle.tileprog.specs.Kinds.{tests_of};
 ghost use Rattle.tileprog.specs.Strokes.{IsNamed};
 
 use crate::brush::Brush;
 use crate::column::Column;
-use crate::spans::{
-    cover, draw_alike, draw_depths, draw_open, draw_stencils, keep_alike, lanes_in,
-};
+use crate::spans::{draw_alike, draw_depths, draw_open, draw_stencils, keep_alike, lanes_in};
 use depthplane::{Plane, Walks};
 use edges::EdgeWalk;
 use gfxspec::Compare;
@@ -24,23 +20,24 @@ use lanes::StencilTest;
 use std::alloc::Allocator;
 use tileblock::TileBlock;
 
-/// The pixels of a span that the clip's columns and the named edges leave. Where the edges are known to hold at all of them, they are
-/// not looked at.
+/// The pixels of a span that the clip's columns and the named edges leave. Where none is named, or all are known to hold, no edge is
+/// looked at; else all three are, which costs no more than those that are named.
 #[inline(always)]
 fn lanes_left(column: &Column, mask: u8, edges: &EdgeWalk<'_>, covered: bool) -> u8
     requires covered { IsTrue covered → (j : ℕ) → j < 8 → passes_edges column.now.mask edges.now.triangle (centre (column.now.x + j) edges.now.y) ≡ true }
     requires same { mask ≡ column.now.mask }
     requires place { column.now.x ≡ edges.now.x }
-    requires x { edges.now.x < side_bound }
-    requires y { edges.now.y < side_bound }
-    requires steps { StepRight edges.now.triangle column.now.steps }
+    requires decides { Decides column.now.mask edges.now column.now.clip.left column.now.clip.right }
     ensures { (j : ℕ) → j < 8 → has result j ≡ ((nat_le column.now.clip.left (column.now.x + j) && nat_lt (column.now.x + j) column.now.clip.right)
         && passes_edges column.now.mask edges.now.triangle (centre (column.now.x + j) edges.now.y)) }
 {
     if covered {
         return column.within;
     }
-    column.within & cover(edges, column.steps, mask)
+    if mask == 0 {
+        return column.within;
+    }
+    column.within & edges.covered()
 }
 
 /// A span under a brush without tests; the answer is how many pixels pass.
@@ -55,9 +52,10 @@ pub(crate) fn open_row<A: Allocator>(
     brush: &Brush,
 ) -> u32
     requires same { mask ≡ column.now.mask }
-    requires column { IsColumn column.now plane.now.triangle block.old.rect }
+    requires column { IsColumn column.now block.old.rect }
     requires row { IsRow column.now block.old.rect row }
-    requires edges { edges.now ≡ record { triangle = plane.now.triangle; x = column.now.x; y = block.old.rect.top + row } }
+    requires edges { edges.now ≡ record edges.now { triangle = plane.now.triangle; x = column.now.x; y = block.old.rect.top + row } }
+    requires begun { BeganIn edges.now block.old.rect }
     requires named { IsNamed plane.now column.now.mask block.old.rect }
     requires kind { tests_of brush.now.state ≡ Open }
     ensures { RowDrew (record { brush = brush.now; plane = plane.now; mask = column.now.mask; clip = column.now.clip }) block.old block.new column.now.x (block.old.rect.top + row) result }
@@ -85,9 +83,10 @@ pub(crate) fn depth_row<A: Allocator, W: Walks>(
     brush: &Brush,
 ) -> u32
     requires same { mask ≡ column.now.mask }
-    requires column { IsColumn column.now (W.place walk.now).plane.triangle block.old.rect }
+    requires column { IsColumn column.now block.old.rect }
     requires row { IsRow column.now block.old.rect row }
-    requires edges { edges.now ≡ record { triangle = (W.place walk.now).plane.triangle; x = column.now.x; y = block.old.rect.top + row } }
+    requires edges { edges.now ≡ record edges.now { triangle = (W.place walk.now).plane.triangle; x = column.now.x; y = block.old.rect.top + row } }
+    requires begun { BeganIn edges.now block.old.rect }
     requires walk { W.place walk.now ≡ record (W.place walk.now) { x = column.now.x; y = block.old.rect.top + row } }
     requires left { block.old.rect.left ≤ (W.place walk.now).left }
     requires top { block.old.rect.top ≤ (W.place walk.now).top }
@@ -120,9 +119,10 @@ pub(crate) fn stencil_row<A: Allocator, W: Walks>(
     brush: &Brush,
 ) -> u32
     requires same { mask ≡ column.now.mask }
-    requires column { IsColumn column.now (W.place walk.now).plane.triangle block.old.rect }
+    requires column { IsColumn column.now block.old.rect }
     requires row { IsRow column.now block.old.rect row }
-    requires edges { edges.now ≡ record { triangle = (W.place walk.now).plane.triangle; x = column.now.x; y = block.old.rect.top + row } }
+    requires edges { edges.now ≡ record edges.now { triangle = (W.place walk.now).plane.triangle; x = column.now.x; y = block.old.rect.top + row } }
+    requires begun { BeganIn edges.now block.old.rect }
     requires walk { W.place walk.now ≡ record (W.place walk.now) { x = column.now.x; y = block.old.rect.top + row } }
     requires left { block.old.rect.left ≤ (W.place walk.now).left }
     requires top { block.old.rect.top ≤ (W.place walk.now).top }
@@ -162,7 +162,7 @@ pub(crate) fn alike_row<A: Allocator>(
     test: &StencilTest,
     brush: &Brush,
 ) -> u32
-    requires column { IsColumn column.now plane.now.triangle block.old.rect }
+    requires column { IsColumn column.now block.old.rect }
     requires within { column.now.within ≡ 255 }
     requires row { IsRow column.now block.old.rect row }
     requires named { IsNamed plane.now column.now.mask block.old.rect }

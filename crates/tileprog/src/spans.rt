@@ -2,13 +2,9 @@
 
 ghost use Rattle.std.specs.Prelude.{◌≡◌, ◌<◌, ◌≤◌, ◌+◌, ◌==◌, ◌&&◌, ◌||◌, not, true, IsTrue, ℕ, List, slice_index, if◌then◌else◌};
 ghost use Rattle.std.specs.Int.{bit_at};
-ghost use Rattle.gfxspec.specs.Limits.{side_bound};
-ghost use Rattle.gfxspec.specs.Raster.{centre};
 ghost use Rattle.gfxspec.specs.DepthStencil.{compares, depth_passes};
-ghost use Rattle.edges.specs.Walk.{StepRight};
 ghost use Rattle.lanes.specs.Stencil.{has, reference_passes};
 ghost use Rattle.tileblock.specs.SpanStored.{SpanStored, lane_pixel};
-ghost use Rattle.tileprog.specs.Edges.{passes_edges};
 ghost use Rattle.tileprog.specs.Cells.{IsStill, IsUnwritten};
 ghost use Rattle.tileprog.specs.Kinds.{tests_of};
 ghost use Rattle.tileprog.specs.declared.kind.Tests.TheVariants.{Open, Depth, Stencil};
@@ -16,22 +12,10 @@ ghost use Rattle.tileprog.specs.Counting.{eight, one_if};
 ghost use Rattle.tileprog.specs.SpanDrawn.{painted_lane, tested_lane, drawn_lane, deepened_lane, stenciled_lane, operated_lane, ArePassed};
 
 use crate::brush::Brush;
-use edges::EdgeWalk;
 use gfxspec::Compare;
-use lanes::{StencilTest, cover_mask, depth_mask, write8};
+use lanes::{StencilTest, depth_mask, write8};
 use std::alloc::Allocator;
 use tileblock::TileBlock;
-
-/// The pixels of a span, which begins at the walk's pixel, where the edges of the mask hold.
-#[inline]
-pub(crate) fn cover(walk: &EdgeWalk<'_>, steps: [i64; 3], mask: u8) -> u8
-    requires x { walk.now.x < side_bound }
-    requires y { walk.now.y < side_bound }
-    requires steps { StepRight walk.now.triangle steps }
-    ensures { (j : ℕ) → j < 8 → has result j ≡ passes_edges mask walk.now.triangle (centre (walk.now.x + j) walk.now.y) }
-{
-    cover_mask(walk.values(), steps, mask, 8)
-}
 
 /// Writes the colours of the span's pixels whose bits are set.
 #[inline(always)]

@@ -6,6 +6,7 @@ ghost use Rattle.lanes.specs.Stencil.{reference_passes};
 ghost use Rattle.tileprog.specs.declared.kind.Tests.TheVariants.{Stencil};
 ghost use Rattle.tileprog.specs.Cells.{AllHave, AreCovered, IsLong, IsStill, IsUnwritten, Tells};
 ghost use Rattle.tileprog.specs.Columns.{IsColumn, ColumnDrew, Continues};
+ghost use Rattle.tileprog.specs.Edges.{BeganIn};
 ghost use Rattle.tileprog.specs.Kinds.{tests_of};
 ghost use Rattle.tileprog.specs.Strokes.{IsNamed};
 
@@ -29,7 +30,7 @@ fn each_row<A: Allocator, W: Walks>(
     mask: u8,
     row: u32,
     past: u32,
-    mut edges: EdgeWalk<'_>,
+    edges: EdgeWalk<'_>,
     mut walk: W,
     covered: bool,
     known: Option<bool>,
@@ -37,11 +38,12 @@ fn each_row<A: Allocator, W: Walks>(
     brush: &Brush,
 ) -> u32
     requires same { mask ≡ column.now.mask }
-    requires column { IsColumn column.now (W.place walk).plane.triangle block.old.rect }
+    requires column { IsColumn column.now block.old.rect }
     requires first { column.now.clip.top ≤ block.old.rect.top + row }
     requires order { row ≤ past }
     requires last { block.old.rect.top + past ≤ column.now.clip.bottom }
-    requires edges { edges ≡ record { triangle = (W.place walk).plane.triangle; x = column.now.x; y = block.old.rect.top + row } }
+    requires edges { edges ≡ record edges { triangle = (W.place walk).plane.triangle; x = column.now.x; y = block.old.rect.top + row } }
+    requires begun { BeganIn edges block.old.rect }
     requires walk { W.place walk ≡ record (W.place walk) { x = column.now.x; y = block.old.rect.top + row } }
     requires left { block.old.rect.left ≤ (W.place walk).left }
     requires top { block.old.rect.top ≤ (W.place walk).top }
@@ -53,6 +55,7 @@ fn each_row<A: Allocator, W: Walks>(
     requires unwritten { IfSome known (IsUnwritten brush.now.state) }
     ensures { Continues (record { brush = brush.now; plane = (W.place walk).plane; mask = column.now.mask; clip = column.now.clip }) block.old block.new column.now.x (block.old.rect.top + row) (block.old.rect.top + past) result }
 {
+    let mut edges = edges.copied();
     let mut passed = 0u32;
     for at in row..past {
         let more = stencil_row(
@@ -79,7 +82,7 @@ fn alike_rows<A: Allocator>(
     test: &StencilTest,
     brush: &Brush,
 ) -> u32
-    requires column { IsColumn column.now plane.now.triangle block.old.rect }
+    requires column { IsColumn column.now block.old.rect }
     requires long { IsLong column.now block.old.rect }
     requires row { row + 8 ≤ 32 }
     requires named { IsNamed plane.now column.now.mask block.old.rect }
@@ -111,7 +114,7 @@ fn sure_rows<A: Allocator>(
     test: &StencilTest,
     brush: &Brush,
 ) -> u32
-    requires column { IsColumn column.now plane.now.triangle block.old.rect }
+    requires column { IsColumn column.now block.old.rect }
     requires long { IsLong column.now block.old.rect }
     requires row { row + 8 ≤ 32 }
     requires named { IsNamed plane.now column.now.mask block.old.rect }
@@ -142,7 +145,7 @@ fn known_rows<A: Allocator>(
     test: &StencilTest,
     brush: &Brush,
 ) -> u32
-    requires column { IsColumn column.now plane.now.triangle block.old.rect }
+    requires column { IsColumn column.now block.old.rect }
     requires long { IsLong column.now block.old.rect }
     requires row { row + 8 ≤ 32 }
     requires named { IsNamed plane.now column.now.mask block.old.rect }
@@ -179,10 +182,11 @@ fn cell_rows<A: Allocator, W: Walks>(
     brush: &Brush,
 ) -> u32
     requires same { mask ≡ column.now.mask }
-    requires column { IsColumn column.now plane.now.triangle block.old.rect }
+    requires column { IsColumn column.now block.old.rect }
     requires long { IsLong column.now block.old.rect }
     requires row { row + 8 ≤ 32 }
-    requires edges { edges.now ≡ record { triangle = plane.now.triangle; x = column.now.x; y = block.old.rect.top + row } }
+    requires edges { edges.now ≡ record edges.now { triangle = plane.now.triangle; x = column.now.x; y = block.old.rect.top + row } }
+    requires begun { BeganIn edges.now block.old.rect }
     requires walk { W.place walk.now ≡ record (W.place walk.now) { plane = plane.now; x = column.now.x; y = block.old.rect.top + row } }
     requires left { block.old.rect.left ≤ (W.place walk.now).left }
     requires top { block.old.rect.top ≤ (W.place walk.now).top }
@@ -231,8 +235,7 @@ fn cell_rows<A: Allocator, W: Walks>(
 /// Eight rows further down along the edges.
 #[inline(always)]
 fn edges_below(edges: &mut EdgeWalk<'_>)
-    requires x { edges.old.x < side_bound }
-    requires y { edges.old.y + 8 ≤ side_bound }
+    requires { edges.old.y + 8 ≤ side_bound }
     ensures { edges.new ≡ record edges.old { y = edges.old.y + 8 } }
 {
     for _ in 0..8u32 {
@@ -265,9 +268,10 @@ fn each_cell<A: Allocator, W: Walks>(
     brush: &Brush,
 ) -> u32
     requires same { mask ≡ column.now.mask }
-    requires column { IsColumn column.now plane.now.triangle block.old.rect }
+    requires column { IsColumn column.now block.old.rect }
     requires long { IsLong column.now block.old.rect }
-    requires edges { edges ≡ record { triangle = plane.now.triangle; x = column.now.x; y = column.now.clip.top } }
+    requires edges { edges ≡ record edges { triangle = plane.now.triangle; x = column.now.x; y = column.now.clip.top } }
+    requires begun { BeganIn edges block.old.rect }
     requires walk { W.place walk ≡ record (W.place walk) { plane = plane.now; x = column.now.x; y = column.now.clip.top } }
     requires set { set.now ≡ plane.now.triangle }
     requires left { block.old.rect.left ≤ (W.place walk).left }
@@ -314,8 +318,9 @@ fn clipped_rows<A: Allocator, W: Walks>(
     test: &StencilTest,
     brush: &Brush,
 ) -> u32
-    requires column { IsColumn column.now plane.now.triangle block.old.rect }
-    requires edges { edges ≡ record { triangle = plane.now.triangle; x = column.now.x; y = column.now.clip.top } }
+    requires column { IsColumn column.now block.old.rect }
+    requires edges { edges ≡ record edges { triangle = plane.now.triangle; x = column.now.x; y = column.now.clip.top } }
+    requires begun { BeganIn edges block.old.rect }
     requires walk { W.place walk ≡ record (W.place walk) { plane = plane.now; x = column.now.x; y = column.now.clip.top } }
     requires left { block.old.rect.left ≤ (W.place walk).left }
     requires top { block.old.rect.top ≤ (W.place walk).top }
@@ -355,8 +360,9 @@ pub(crate) fn stencil_column<A: Allocator, W: Walks>(
     test: &StencilTest,
     brush: &Brush,
 ) -> u32
-    requires column { IsColumn column.now plane.now.triangle block.old.rect }
-    requires edges { edges ≡ record { triangle = plane.now.triangle; x = column.now.x; y = column.now.clip.top } }
+    requires column { IsColumn column.now block.old.rect }
+    requires edges { edges ≡ record edges { triangle = plane.now.triangle; x = column.now.x; y = column.now.clip.top } }
+    requires begun { BeganIn edges block.old.rect }
     requires walk { W.place walk ≡ record (W.place walk) { plane = plane.now; x = column.now.x; y = column.now.clip.top } }
     requires set { set.now ≡ plane.now.triangle }
     requires left { block.old.rect.left ≤ (W.place walk).left }

@@ -1,10 +1,9 @@
-use Rattle.std.proofs.Common.{ap, rules, arith, ◌+◌, ◌≤◌}
+use Rattle.std.proofs.Common.{◌≡◌, ◌∙◌, ap, sym, rules, arith, ◌+◌, ◌-◌, ◌≤◌}
 use Rattle.gfxspec.specs.declared.geometry.PixelRect.{PixelRect}
 use Rattle.depthplane.specs.Places.{Places}
 use Rattle.tileprog.specs.Strokes.{Stroke}
-use Rattle.tileprog.proofs.Columning.{row_more, all_rows}
+use Rattle.tileprog.proofs.Columning.{no_row, row_more, all_rows}
 use Rattle.tileprog.proofs.columns.depth_spans.Goals as goal
-use Rattle.std.proofs.lemmas.Grind.{common_steps}
 
 pub loop-row-preserved : goal.loop-row-preserved
 loop-row-preserved g c =
@@ -38,7 +37,21 @@ pub overflow_sub-row-end : goal.overflow_sub-row-end
 overflow_sub-row-end g c = search rules
 
 pub loop-row-init : goal.loop-row-init
-loop-row-init g c = grind (arith, common_steps)
+loop-row-init g c =
+    let k = c.args.column.now in
+    let start = g.W.Walks.place c.args.walk in
+    let s : Stroke = record { brush = c.args.brush; plane = start.plane; mask = k.mask; clip = k.clip } in
+    let old = c.args.block.now in
+    let row = k.clip.top - c.rect-rect.result.top in
+    let top_is = ap (λ (r : PixelRect). r.top) c.rect-rect.ensures in
+    let within = c.requires.column.within.top in
+    let first : k.clip.top ≡ old.rect.top + row = omega (arith, top_is, within) in
+    record {
+      edges = c.copied-edges.ensures ∙ c.requires.edges ∙ (λ i. record c.args.edges { triangle = start.plane.triangle; x = k.x; y = first i });
+      walk = λ i. record start { x = ap (λ (p : Places). p.x) c.requires.walk i; y = (ap (λ (p : Places). p.y) c.requires.walk ∙ first) i };
+      so_far = no_row s old k.x (old.rect.top + row) (sym first);
+      few = omega arith;
+    }
 
 pub depth_row-more-requires-clause-column : goal.depth_row-more-requires-clause-column
 depth_row-more-requires-clause-column g c = search rules
@@ -67,11 +80,11 @@ depth_row-more-requires-clause-kind g c = search rules
 pub overflow_add-passed : goal.overflow_add-passed
 overflow_add-passed g c = search rules
 
-pub down-requires-clause-x : goal.down-requires-clause-x
-down-requires-clause-x g c = search rules
+pub down-requires : goal.down-requires
+down-requires g c = search rules
 
-pub down-requires-clause-y : goal.down-requires-clause-y
-down-requires-clause-y g c = search rules
+pub depth_row-more-requires-clause-begun : goal.depth_row-more-requires-clause-begun
+depth_row-more-requires-clause-begun g c = search rules
 
 pub next-requires : goal.next-requires
 next-requires g c = search rules

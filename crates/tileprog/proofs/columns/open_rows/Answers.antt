@@ -1,9 +1,8 @@
-use Rattle.std.proofs.Common.{ap, refl, rules, arith, ◌+◌, ◌≤◌}
+use Rattle.std.proofs.Common.{◌≡◌, ◌∙◌, ap, sym, refl, rules, arith, ◌+◌, ◌-◌, ◌≤◌}
 use Rattle.gfxspec.specs.declared.geometry.PixelRect.{PixelRect}
 use Rattle.tileprog.specs.Strokes.{Stroke}
-use Rattle.tileprog.proofs.Columning.{row_more, all_rows}
+use Rattle.tileprog.proofs.Columning.{no_row, row_more, all_rows}
 use Rattle.tileprog.proofs.columns.open_rows.Goals as goal
-use Rattle.std.proofs.lemmas.Grind.{common_steps}
 
 pub loop-row-preserved : goal.loop-row-preserved
 loop-row-preserved g c =
@@ -30,4 +29,16 @@ returns g c =
     all_rows s old c.loop-row.block k.x (old.rect.top + c.loop-row.row) c.loop-row.passed (search rules) c.loop-row.invariant.so_far (search rules)
 
 pub loop-row-init : goal.loop-row-init
-loop-row-init g c = grind (arith, common_steps)
+loop-row-init g c =
+    let k = c.args.column.now in
+    let s : Stroke = record { brush = c.args.brush; plane = c.args.plane.now; mask = k.mask; clip = k.clip } in
+    let old = c.args.block.now in
+    let row = k.clip.top - c.rect-rect.result.top in
+    let top_is = ap (λ (r : PixelRect). r.top) c.rect-rect.ensures in
+    let within = c.requires.column.within.top in
+    let first : k.clip.top ≡ old.rect.top + row = omega (arith, top_is, within) in
+    record {
+      edges = c.copied-edges.ensures ∙ c.requires.edges ∙ (λ i. record c.args.edges { triangle = c.args.plane.now.triangle; x = k.x; y = first i });
+      so_far = no_row s old k.x (old.rect.top + row) (sym first);
+      few = omega arith;
+    }

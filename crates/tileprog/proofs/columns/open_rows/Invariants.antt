@@ -6,7 +6,7 @@ abbrev pub invariant-loop-row : goal.invariant-loop-row
 invariant-loop-row g l =
     let k = l.fn.column in
     record {
-      edges : l.edges ≡ record { triangle = l.plane.triangle; x = k.x; y = l.fn.block.rect.top + l.row };
+      edges : l.edges ≡ record l.fn.edges { triangle = l.plane.triangle; x = k.x; y = l.fn.block.rect.top + l.row };
       so_far : SoFar (record { brush = l.brush; plane = l.plane; mask = k.mask; clip = k.clip }) l.fn.block l.block k.x (l.fn.block.rect.top + l.row) l.passed;
       few : l.passed ≤ 8 * l.row;
     }

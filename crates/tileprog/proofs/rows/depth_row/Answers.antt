@@ -1,7 +1,7 @@
 use Rattle.std.proofs.Common.{sym, refl, ◌+◌}
 use Rattle.tileprog.specs.Strokes.{Stroke}
 use Rattle.tileprog.proofs.Reaching.{depths_at, walked_depth}
-use Rattle.tileprog.proofs.Rowing.{lanes_at, row_missed, row_drawn}
+use Rattle.tileprog.proofs.Rowing.{lanes_at, row_decides, row_missed, row_drawn}
 use Rattle.tileprog.proofs.rows.depth_row.Goals as goal
 
 pub returns-then-cover-eq0 : goal.returns-then-cover-eq0
@@ -29,3 +29,9 @@ returns g c =
     c.draw_depths-bits.new.block c.depths-depths.result c.draw_depths-bits.result c.lanes_in.result
     (walked_depth s old.rect k.x y cover c.requires.named lanes c.requires.row.top c.requires.row.bottom c.depths-depths.result deep)
     c.draw_depths-bits.ensures.block c.draw_depths-bits.ensures.bits c.lanes_in.ensures.value c.lanes_in.ensures.few
+
+pub lanes_left-cover-requires-clause-decides : goal.lanes_left-cover-requires-clause-decides
+lanes_left-cover-requires-clause-decides g c =
+    let k = c.args.column.now in
+    let rect = c.args.block.now.rect in
+    row_decides (g.W.Walks.place c.args.walk.now).plane k.mask rect k.clip c.args.edges.now k.x (rect.top + c.args.row) c.requires.named c.requires.column.within c.requires.column.tile c.requires.begun c.requires.edges c.requires.row.top c.requires.row.bottom

@@ -1,7 +1,7 @@
 use Rattle.std.proofs.Common.{sym, refl, ◌+◌}
 use Rattle.tileprog.specs.Strokes.{Stroke}
 use Rattle.tileprog.proofs.Reaching.{eight_depths, eight_are}
-use Rattle.tileprog.proofs.Rowing.{lanes_at, row_missed, row_drawn}
+use Rattle.tileprog.proofs.Rowing.{lanes_at, row_decides, row_missed, row_drawn}
 use Rattle.tileprog.proofs.rows.open_row.Goals as goal
 
 pub returns-then-cover-eq0 : goal.returns-then-cover-eq0
@@ -28,3 +28,9 @@ returns g c =
     c.draw_open.new.block zs cover c.lanes_in.result
     (λ j h is reach. eight_are s old.rect k.x y cover c.requires.named lanes c.requires.row.top c.requires.row.bottom j h)
     (c.draw_open.ensures.block zs) (c.draw_open.ensures.bits zs) c.lanes_in.ensures.value c.lanes_in.ensures.few
+
+pub lanes_left-cover-requires-clause-decides : goal.lanes_left-cover-requires-clause-decides
+lanes_left-cover-requires-clause-decides g c =
+    let k = c.args.column.now in
+    let rect = c.args.block.now.rect in
+    row_decides c.args.plane.now k.mask rect k.clip c.args.edges.now k.x (rect.top + c.args.row) c.requires.named c.requires.column.within c.requires.column.tile c.requires.begun c.requires.edges c.requires.row.top c.requires.row.bottom

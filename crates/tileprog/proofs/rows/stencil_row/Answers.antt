@@ -3,7 +3,7 @@ use Rattle.std.specs.Prelude.{IfSome}
 use Rattle.tileprog.specs.Cells.{AllHave, IsUnwritten}
 use Rattle.tileprog.specs.Strokes.{Stroke}
 use Rattle.tileprog.proofs.Reaching.{depths_at, walked_depth, eight_depths, eight_are}
-use Rattle.tileprog.proofs.Rowing.{lanes_at, row_missed, row_drawn, lanes_have}
+use Rattle.tileprog.proofs.Rowing.{lanes_at, row_decides, row_missed, row_drawn, lanes_have}
 use Rattle.tileprog.proofs.rows.stencil_row.Goals as goal
 
 pub returns-then-cover-eq0 : goal.returns-then-cover-eq0
@@ -55,3 +55,9 @@ returns-in-Some g c =
     c.draw_alike-alike.new.block zs c.draw_alike-alike.result c.lanes_in.result
     (λ j h is reach. eight_are s old.rect k.x y cover c.requires.named lanes c.requires.row.top c.requires.row.bottom j h)
     (c.draw_alike-alike.ensures.block zs have) (c.draw_alike-alike.ensures.bits zs have) c.lanes_in.ensures.value c.lanes_in.ensures.few
+
+pub lanes_left-cover-requires-clause-decides : goal.lanes_left-cover-requires-clause-decides
+lanes_left-cover-requires-clause-decides g c =
+    let k = c.args.column.now in
+    let rect = c.args.block.now.rect in
+    row_decides (g.W.Walks.place c.args.walk.now).plane k.mask rect k.clip c.args.edges.now k.x (rect.top + c.args.row) c.requires.named c.requires.column.within c.requires.column.tile c.requires.begun c.requires.edges c.requires.row.top c.requires.row.bottom

@@ -16,7 +16,7 @@ loop-k-init g c =
     let here : old.rect.top ≡ old.rect.top + 8 * 0 = omega arith in
     let first = c.requires.long.top ∙ here in
     record {
-      edges = c.requires.edges ∙ (λ i. record { triangle = plane.triangle; x = k.x; y = first i });
+      edges = c.requires.edges ∙ (λ i. record c.args.edges { triangle = plane.triangle; x = k.x; y = first i });
       walk = λ i. record start { x = ap (λ (p : Places). p.x) c.requires.walk i; y = (ap (λ (p : Places). p.y) c.requires.walk ∙ first) i };
       rect = refl;
       continues = subst (λ z. Continues s old old k.x old.rect.top z 0) here (none_yet s old k.x old.rect.top);

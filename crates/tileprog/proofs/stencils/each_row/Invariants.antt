@@ -10,7 +10,7 @@ invariant-loop-at g l =
     let old = l.fn.block in
     let start = g.W.Walks.place l.fn.walk in
     record {
-      edges : l.edges ≡ record { triangle = start.plane.triangle; x = k.x; y = old.rect.top + l.at };
+      edges : l.edges ≡ record l.fn.edges { triangle = start.plane.triangle; x = k.x; y = old.rect.top + l.at };
       walk : g.W.Walks.place l.walk ≡ record start { x = k.x; y = old.rect.top + l.at };
       rect : l.block.rect ≡ old.rect;
       known : IfSome l.known (λ deep. AllHave deep l.brush.state start.plane l.block k.x l.at l.past);
