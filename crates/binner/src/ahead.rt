@@ -16,7 +16,7 @@ ghost use Rattle.binner.specs.Setups.{AreSetups, all_setups, drawn_by, MatchesDr
 use crate::draws::draw_of;
 use crate::predicate::is_withheld;
 use crate::prepare::prepared;
-use crate::setup::TriSetup;
+use crate::setup::{Prepared, TriSetup};
 use assemble::{Draw, triangle_count, triangles};
 use cmdlist::{Command, State};
 use gfxspec::{Size, Vertex};
@@ -75,7 +75,7 @@ fn setups_of<A: Allocator>(
 {
     let mut setups = Vec::with_capacity(alloc, tris.len())?;
     for tri in tris {
-        if let Some(setup) = prepared(&tri.v, state, size) {
+        if let Some(Prepared { setup, edges: _ }) = prepared(&tri.v, state, size) {
             setups.push(setup)?;
         }
     }

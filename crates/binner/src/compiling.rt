@@ -26,9 +26,10 @@ use crate::lists::{Lists, add_to_all, add_to_tiles};
 use crate::opened::{note, nothing_begun};
 use crate::predicate::is_withheld;
 use crate::prepare::prepared;
-use crate::setup::TriSetup;
+use crate::setup::{Prepared, TriSetup};
 use assemble::{Draw, triangles};
 use cmdlist::{Command, State};
+use edges::EdgeSet;
 use gfxspec::DepthStencil;
 use std::alloc::{AllocError, Allocator};
 use tileword::Word;
@@ -84,21 +85,23 @@ fn current_entry<A: Allocator + Copy>(
     Ok(current)
 }
 
-/// Adds a triangle under an entry.
+/// Adds a triangle with these edges under an entry.
 #[inline(always)]
 fn add_setup<A: Allocator + Copy>(
     compiling: &mut Compiling<A>,
     setup: TriSetup,
+    edges: &EdgeSet,
     current: Current,
 ) -> Result<(), AllocError>
     requires sound { IsSound compiling.old }
     requires room { HasRoom compiling.old }
     requires triangles { length compiling.old.triangles.items < 65536 }
+    requires edges { edges.now ≡ setup.edges }
     ensures bins { length compiling.new.lists.bins ≡ length compiling.old.lists.bins }
     ensures added { OnOk result (AddsSetup setup current compiling.old compiling.new) }
 {
     let number = compiling.triangles.len() as u16;
-    add_to_tiles(&mut compiling.lists, &setup, current, number)?;
+    add_to_tiles(&mut compiling.lists, &setup, edges, current, number)?;
     compiling.triangles.push(setup)?;
     Ok(())
 }
@@ -158,8 +161,8 @@ fn add_draw<A: Allocator + Copy>(
 {
     let current = current_entry(compiling, state, issues)?;
     for tri in triangles(draw) {
-        if let Some(setup) = prepared(&tri.v, state, compiling.lists.size) {
-            add_setup(compiling, setup, current)?;
+        if let Some(Prepared { setup, edges }) = prepared(&tri.v, state, compiling.lists.size) {
+            add_setup(compiling, setup, &edges, current)?;
         }
     }
     Ok(())
@@ -189,7 +192,8 @@ fn add_parts<A: Allocator + Copy>(
     let current = current_entry(compiling, state, issues)?;
     'parts: for part in parts {
         'setups: for setup in part {
-            add_setup(compiling, setup, current)?;
+            let edges = setup.edges.unpacked();
+            add_setup(compiling, setup, &edges, current)?;
         }
     }
     Ok(())

@@ -10,7 +10,7 @@ ghost use Rattle.cmdlist.specs.Seen.{state_value};
 ghost use Rattle.binner.specs.Ready.{IsReady, common_rect};
 ghost use Rattle.binner.specs.Meaning.{IsSetupOf};
 
-use crate::setup::TriSetup;
+use crate::setup::{Prepared, TriSetup};
 use assemble::{culled, facing_by_area};
 use cmdlist::State;
 use depthplane::{Plane, with_bias};
@@ -65,9 +65,10 @@ fn is_seen(bounds: PixelRect, size: Size) -> bool
 /// A triangle under these settings, unless it is dropped or reaches no pixel of the target; the leading vertex is first.
 #[inline(always)]
 #[tactic(auto, using(gfxspec::proofs::Threes::All_three))]
-pub(crate) fn prepared(vertices: &[Vertex; 3], state: &State<'_>, size: Size) -> Option<TriSetup>
+pub(crate) fn prepared(vertices: &[Vertex; 3], state: &State<'_>, size: Size) -> Option<Prepared>
     requires { IsReady (primitive_of (record { v = vertices.now })) }
-    ensures setup { IfSome result (λ t. IsSetupOf t (primitive_of (record { v = vertices.now })) (state_value state.now)) }
+    ensures setup { IfSome result (λ p. IsSetupOf p.setup (primitive_of (record { v = vertices.now })) (state_value state.now)) }
+    ensures edges { IfSome result (λ p. p.edges ≡ p.setup.edges) }
     ensures dropped { IsNone result → (x y : ℕ) → x < side_bound → y < side_bound → x < size.width → y < size.height
         → reaches (primitive_of (record { v = vertices.now })) (state_value state.now) x y ≡ false }
 {
@@ -85,7 +86,7 @@ pub(crate) fn prepared(vertices: &[Vertex; 3], state: &State<'_>, size: Size) ->
     }
     let bias = state.raster.depth_bias();
     let plane = Plane::of_sides(&sides, [first.z, second.z, third.z], bias);
-    Some(TriSetup {
+    let setup = TriSetup {
         edges: edges.packed(),
         plane,
         bounds,
@@ -93,5 +94,6 @@ pub(crate) fn prepared(vertices: &[Vertex; 3], state: &State<'_>, size: Size) ->
         rgba: first.rgba,
         least_depth: with_bias(first.z.min(second.z).min(third.z), bias),
         greatest_depth: with_bias(first.z.max(second.z).max(third.z), bias),
-    })
+    };
+    Some(Prepared { setup, edges })
 }

@@ -7,7 +7,7 @@ ghost use Rattle.gfxspec.specs.Raster.{is_empty};
 ghost use Rattle.depthplane.specs.Height.{AreDepths};
 
 use depthplane::Plane;
-use edges::PackedEdges;
+use edges::{EdgeSet, PackedEdges};
 use gfxspec::PixelRect;
 use std::mem::size_of;
 
@@ -34,4 +34,11 @@ pub struct TriSetup {
     pub ghost greatest: { greatest_depth ≡ biased plane.bias (max (max plane.z0 plane.z1) plane.z2) },
     pub ghost right: { bounds.right ≤ side_bound },
     pub ghost bottom: { bounds.bottom ≤ side_bound },
+}
+
+/// A triangle that is made ready, and its edges, which a list keeps packed.
+#[derive(Drop)]
+pub(crate) struct Prepared {
+    pub(crate) setup: TriSetup,
+    pub(crate) edges: EdgeSet,
 }

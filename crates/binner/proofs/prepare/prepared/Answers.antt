@@ -41,8 +41,8 @@ returns-then-not-is_seen-clause-dropped c n x y small_x small_y within_x within_
     out_of_sight t s c.in_ok-edges.edges c.within_reach-bounds.result x y (c.in_ok-edges.ensures.set ∙ ap triangle_of c.of-sides.ensures ∙ c.of-corners.ensures ∙ ap snapped_triangle same)
     (c.within_reach-bounds.ensures.reach x y small_x small_y) (c.is_seen.ensures (search rules) x y within_x within_y)
 
-pub invariant_of-result : goal.invariant_of-result
-invariant_of-result c =
+pub invariant_of-setup : goal.invariant_of-setup
+invariant_of-setup c =
     let ready = all_ready c.args.vertices.now none (search rules) c.requires in
     let f : FitsSigned w32 c.depth_bias-bias.result = search rules in
     let plane = simp to_z-of_z at c.of_sides-plane.ensures in
@@ -81,6 +81,9 @@ returns-clause-setup c =
       rgba = ap (λ (p : Primitive). p.first.rgba) same;
       reach = subst Reach (sym c.packed.ensures) c.within_reach-bounds.ensures.reach;
     }
+
+pub returns-clause-edges : goal.returns-clause-edges
+returns-clause-edges c = sym c.packed.ensures
 
 pub bounds-vertices-0 : goal.bounds-vertices-0
 bounds-vertices-0 c = search rules
