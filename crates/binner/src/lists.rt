@@ -77,6 +77,7 @@ fn push_number<A: Allocator + Copy>(
 }
 
 /// Puts a word at the end of a tile's list.
+#[inline(always)]
 fn push_word<A: Allocator + Copy>(
     lists: &mut Lists<A>,
     tile: u32,
