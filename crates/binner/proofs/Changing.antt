@@ -1,6 +1,6 @@
 -- Changes of one tile's list.
-use Rattle.std.proofs.Common.{◌≡◌, ◌∙◌, ap, sym, subst, refl, arith, ℕ, ◌+◌, ◌≤◌, inl, inr, ⊎_elim, List, [], ◌∷◌, ◌++◌, length, Some, length-append}
-use Rattle.std.specs.Prelude.{Result, Ok, Err, OnOk, false}
+use Rattle.std.proofs.Common.{◌≡◌, ◌∙◌, ap, sym, subst, refl, arith, ℕ, ◌+◌, ◌≤◌, inl, inr, ⊎_elim, List, [], ◌∷◌, ◌++◌, length, Some, true, length-append}
+use Rattle.std.specs.Prelude.{Result, Ok, Err, OnOk, None, false}
 use Rattle.std.specs.Result.{is_err}
 use Rattle.std.proofs.lemmas.Bool.{cases_eq}
 use Rattle.gfxspec.specs.declared.geometry.PixelRect.{PixelRect}
@@ -15,9 +15,9 @@ use Rattle.tileword.specs.Word.{encoded, decoded}
 use Rattle.binmem.specs.Lists.{IsTail}
 use Rattle.binner.specs.declared.entry.Current.{Current}
 use Rattle.binner.specs.declared.lists.Lists.{Lists}
-use Rattle.binner.specs.Lists.{TileList, at, IsShort, ChangesAt, IsDrawnSince, GainsWord, PutsInForce, AddsTriangle, CanCut, both_left, TakesClear}
+use Rattle.binner.specs.Lists.{TileList, at, has_some, IsShort, ChangesAt, IsDrawnSince, GainsWord, PutsInForce, AddsTriangle, CanCut, both_left, TakesClear}
 use Rattle.binner.proofs.Lasting.{drawn_of_tail}
-use Rattle.binner.proofs.Pushing.{flagged}
+use Rattle.binner.proofs.Pushing.{flagged, some_pushed}
 
 -- what holds on success
 pub on_ok : {T E P Q : Type 0} (r : Result T E) → (P → Q) → OnOk r P → OnOk r Q
@@ -28,6 +28,15 @@ on_ok (Err e) f h = h
 pub told : {T E P : Type 0} (r : Result T E) → is_err r ≡ false → OnOk r P → P
 told (Ok x) h p = p
 told (Err e) h p = absurd cc
+
+some_drawn : (first : ℕ) (ns : List ℕ) → IsDrawnSince first ns → has_some ns ≡ true
+some_drawn first [] d = let e : None ≡ Some d.n = d.last None in absurd cc
+some_drawn first (n ∷ ns) d = refl
+
+-- a list with an entry in force has a word
+pub forced_some : (s : Current) (o n : TileList) → PutsInForce s o n → has_some n.numbers ≡ true
+forced_some s o n (inl h) = subst (λ m. has_some m.numbers ≡ true) (sym h.1) (some_drawn s.first o.numbers h.0)
+forced_some s o n (inr h) = subst (λ m. has_some m.numbers ≡ true) (sym h.0) (some_pushed o.numbers (encoded (State s.entry)))
 
 abbrev pub Longer : ℕ → TileList → TileList → Type 0
 Longer m o n = length n.numbers ≤ length o.numbers + m

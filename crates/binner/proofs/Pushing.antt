@@ -28,7 +28,7 @@ same_number t k h = grind (arith, nat_tests)
 other_number : (t k : ℕ) → k ≢ t → (t == k) ≡ false
 other_number t k h = grind (arith, nat_tests)
 
-some_pushed : (ns : List ℕ) (n : ℕ) → has_some (ns ++ n ∷ []) ≡ true
+pub some_pushed : (ns : List ℕ) (n : ℕ) → has_some (ns ++ n ∷ []) ≡ true
 some_pushed [] n = refl
 some_pushed (m ∷ ns) n = refl
 

@@ -9,7 +9,7 @@ ghost use Rattle.gfxspec.specs.Tiles.{tiles_along, tile_count, tile_rect};
 ghost use Rattle.classify.specs.Region.{IsReal};
 ghost use Rattle.binmem.specs.Lists.{word_count, with_word as with_number};
 ghost use Rattle.binner.specs.Cuts.{AreBothClears};
-ghost use Rattle.binner.specs.Lists.{at, IsLists, IsShort, IsDrawnSince, ChangesAt, EachChanges, GainsWord, PutsInForce, AddsTriangle, TakesTriangle, CanCut, both_left, TakesClear};
+ghost use Rattle.binner.specs.Lists.{at, has_some, IsLists, IsShort, IsDrawnSince, ChangesAt, EachChanges, GainsWord, PutsInForce, AddsTriangle, TakesTriangle, CanCut, both_left, TakesClear};
 
 use crate::entry::Current;
 use crate::setup::TriSetup;
@@ -95,6 +95,24 @@ fn push_word<A: Allocator + Copy>(
     push_number(&mut lists.bins, tile, encode(word))
 }
 
+/// Puts a word behind others of a tile's list.
+#[inline(always)]
+fn push_behind<A: Allocator + Copy>(
+    lists: &mut Lists<A>,
+    tile: u32,
+    word: Word,
+) -> Result<(), AllocError>
+    requires sound { IsLists lists.old }
+    requires tile { tile < tile_count lists.old.size }
+    requires room { IsShort 240000 lists.old }
+    requires others { IsTrue (has_some (at lists.old tile).numbers) }
+    ensures bins { length lists.new.bins ≡ length lists.old.bins }
+    ensures sound { OnOk result (IsLists lists.new) }
+    ensures pushed { OnOk result (ChangesAt tile (GainsWord word) lists.old lists.new) }
+{
+    push_number(&mut lists.bins, tile, encode(word))
+}
+
 /// Whether a list's last words are a triangle, this one or a later one, and clears behind it.
 #[inline(always)]
 fn is_drawn_since(tail: &[u32], first: u32) -> bool
@@ -163,7 +181,7 @@ fn add_triangle<A: Allocator + Copy>(
         return Ok(());
     };
     put_in_force(lists, tile, current)?;
-    push_word(lists, tile, Word::Tri(number, EdgeMask::new(mask)))?;
+    push_behind(lists, tile, Word::Tri(number, EdgeMask::new(mask)))?;
     note_counted(&mut lists.counted, tile, current.counted);
     Ok(())
 }
