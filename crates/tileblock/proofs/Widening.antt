@@ -5,7 +5,8 @@ use Rattle.gfxspec.specs.Tiles.{IsInTile}
 use Rattle.tileblock.specs.declared.extremes.Extremes.{Extremes}
 use Rattle.tileblock.specs.Block.{Block, pixel_at}
 use Rattle.tileblock.specs.Bounds.{LieBetween}
-use Rattle.tileblock.specs.Widening.{HoldsRow, IsWider}
+use Rattle.tileblock.specs.Cells.{CellLies}
+use Rattle.tileblock.specs.Widening.{HoldsRow, HoldsSpan, IsWider}
 use Rattle.tileblock.specs.SpanStored.{lane_pixel}
 
 -- a row that was looked at before
@@ -78,3 +79,29 @@ rows_between b e least greatest tile rows low high x y is =
     let m = (rows row in_tile).greatest span j few lane in
     let here : P (b.rect.left + 8 * span + j) (b.rect.top + row) = (omega (arith, l, k), omega (arith, h, m)) in
     subst (λ v. P x v) at_y (subst (λ u. P u (b.rect.top + row)) at_x here)
+
+-- one span more is looked at
+module _ (b : Block) (span row : ℕ) (was now : Extremes) (depths : List ℕ)
+    (l : (j : ℕ) → j < 8 → slice_index now.least j ≡ min (slice_index was.least j) (slice_index depths j))
+    (g : (j : ℕ) → j < 8 → slice_index now.greatest j ≡ max (slice_index was.greatest j) (slice_index depths j)) where
+  pub span_held_by : HoldsSpan b span row was → HoldsSpan b span row now
+  span_held_by h = record {
+    least = λ j s. let a = h.least j s in let c = l j s in omega (arith, a, c);
+    greatest = λ j s. let a = h.greatest j s in let c = g j s in omega (arith, a, c);
+  }
+
+  pub span_held : ((j : ℕ) → j < 8 → slice_index depths j ≡ (lane_pixel b span row j).ds.depth) → HoldsSpan b span row now
+  span_held e = record {
+    least = λ j s. let a = e j s in let c = l j s in omega (arith, a, c);
+    greatest = λ j s. let a = e j s in let c = g j s in omega (arith, a, c);
+  }
+
+-- eight rows of a span
+pub cell_between : (b : Block) (e : Extremes) (span cell least greatest : ℕ) → ((k : ℕ) → k < 8 → HoldsSpan b span (8 * cell + k) e)
+    → ((j : ℕ) → j < 8 → least ≤ slice_index e.least j) → ((j : ℕ) → j < 8 → slice_index e.greatest j ≤ greatest) → CellLies b span cell least greatest
+cell_between b e span cell least greatest rows low high k j few lane =
+    let l = low j lane in
+    let h = high j lane in
+    let a = (rows k few).least j lane in
+    let c = (rows k few).greatest j lane in
+    (omega (arith, l, a), omega (arith, h, c))

@@ -12,10 +12,12 @@ struct Spans {
     colors: [[u32; 8]; 128],
     depths: [[u32; 8]; 128],
     stencils: [[u8; 8]; 128],
+    /// What the depths of cells lie between, where that is known of any.
+    cells: Option<Cells>,
 }
 
 impl Spans {
-    ghost use Rattle.std.specs.Prelude.{◌≡◌, replicate};
+    ghost use Rattle.std.specs.Prelude.{◌≡◌, replicate, None};
     ghost use Rattle.std.specs.Int.{w32, from_le_bytes};
     ghost use Rattle.tileblock.specs.Block.{stored};
 
@@ -23,12 +25,14 @@ impl Spans {
         ensures colors { self.new.colors ≡ stored self.old.colors x y (from_le_bytes w32 pixel.rgba) }
         ensures depths { self.new.depths ≡ stored self.old.depths x y pixel.ds.depth }
         ensures stencils { self.new.stencils ≡ stored self.old.stencils x y pixel.ds.stencil }
+        ensures cells { self.new.cells ≡ None }
     {
         let at = (4 * (y % 32) + x % 32 / 8) as usize;
         let lane = (x % 8) as usize;
         self.colors[at][lane] = u32::from_le_bytes(pixel.rgba);
         self.depths[at][lane] = pixel.ds.depth;
         self.stencils[at][lane] = pixel.ds.stencil;
+        self.cells = None;
     }
 
     fn clear_color(&mut self, color: u32)
@@ -41,10 +45,12 @@ impl Spans {
         ensures { self.new ≡ record self.old {
           depths = replicate 128 (replicate 8 value.depth);
           stencils = replicate 128 (replicate 8 value.stencil);
+          cells = None;
         } }
     {
         self.depths = [[value.depth; 8]; 128];
         self.stencils = [[value.stencil; 8]; 128];
+        self.cells = None;
     }
 }
 
@@ -53,6 +59,28 @@ impl Spans {
 pub struct DepthBounds {
     pub least: u32,
     pub greatest: u32,
+}
+
+/// What the depths of a tile's cells lie between, where that is known. A cell is eight rows of a span: the k-th from the top in span s
+/// stands at place 4 * k + s.
+#[derive(Clone, Copy)]
+struct Cells {
+    bounds: [Option<DepthBounds>; 16],
+}
+
+impl Cells {
+    ghost use Rattle.std.specs.Prelude.{◌≡◌};
+    ghost use Rattle.tileblock.specs.Cells.{cells_of};
+
+    /// What is known of each cell.
+    fn of(known: Option<Cells>) -> Cells
+        ensures { result ≡ cells_of known }
+    {
+        match known {
+            Some(cells) => cells,
+            None => Cells { bounds: [None; 16] },
+        }
+    }
 }
 
 /// The pixels of a tile that lie on the target.
@@ -72,7 +100,7 @@ impl<A: Allocator> Model for TileBlock<A> {
 
     ghost view = { λ b. record { rect = b.rect; colors = b.spans.value.colors; depths = b.spans.value.depths; stencils = b.spans.value.stencils } };
 
-    ghost invariant = { λ b. IsBoundedBlock (record { rect = b.rect; colors = b.spans.value.colors; depths = b.spans.value.depths; stencils = b.spans.value.stencils }) b.bounds };
+    ghost invariant = { λ b. IsBoundedBlock (record { rect = b.rect; colors = b.spans.value.colors; depths = b.spans.value.depths; stencils = b.spans.value.stencils }) b.bounds b.spans.value.cells };
 }
 
 /// A tile that was taken out of its target.
@@ -90,7 +118,8 @@ impl<A: Allocator> TileBlock<A> {
     ghost use Rattle.gfxspec.specs.Tiles.{IsInTile};
     ghost use Rattle.tileblock.specs.Block.{Block, pixel_at};
     ghost use Rattle.tileblock.specs.Bounds.{LieBetween};
-    ghost use Rattle.tileblock.specs.Widening.{HoldsRow, IsWider};
+    ghost use Rattle.tileblock.specs.Cells.{CellLies};
+    ghost use Rattle.tileblock.specs.Widening.{HoldsRow, HoldsSpan, IsWider};
     ghost use Rattle.lanes.specs.Stencil.{has};
     ghost use Rattle.tileblock.specs.SpanStored.{SpanStored};
 
@@ -106,6 +135,7 @@ impl<A: Allocator> TileBlock<A> {
                 colors: [[0; 8]; 128],
                 depths: [[DEPTH_MAX; 8]; 128],
                 stencils: [[0; 8]; 128],
+                cells: None,
             },
         )?;
         let bounds = Some(DepthBounds {
@@ -207,6 +237,7 @@ impl<A: Allocator> TileBlock<A> {
     {
         let at = (4 * row + span) as usize;
         self.spans.depths[at] = depths;
+        self.spans.cells = None;
         self.bounds = None;
     }
 
@@ -332,5 +363,57 @@ impl<A: Allocator> TileBlock<A> {
     {
         let all = self.extremes();
         self.keep_bounds(all.least_of_all(), all.greatest_of_all());
+    }
+
+    /// What the depths of a cell lie between, if that is known: of eight rows of a span, of which the first is row 8 * `cell`.
+    #[inline]
+    pub fn cell_bounds(&self, span: u32, cell: u32) -> Option<DepthBounds>
+        requires span { span < 4 }
+        requires cell { cell < 4 }
+        ensures { IfSome result (λ d. CellLies self.now span cell d.least d.greatest) }
+    {
+        match &self.spans.cells {
+            Some(cells) => cells.bounds[(4 * cell + span) as usize],
+            None => None,
+        }
+    }
+
+    /// Keeps what the depths of a cell lie between, until one is stored anywhere.
+    fn keep_cell(&mut self, span: u32, cell: u32, least: u32, greatest: u32)
+        requires span { span < 4 }
+        requires cell { cell < 4 }
+        requires lie { CellLies self.old span cell least greatest }
+        ensures { self.new ≡ self.old }
+    {
+        let at = (4 * cell + span) as usize;
+        let mut cells = Cells::of(self.spans.cells);
+        cells.bounds[at] = Some(DepthBounds { least, greatest });
+        self.spans.cells = Some(cells);
+    }
+
+    /// What the depths of a cell lie between, lane by lane.
+    fn cell_extremes(&self, span: u32, cell: u32) -> Extremes
+        requires span { span < 4 }
+        requires cell { cell < 4 }
+        ensures { (k : ℕ) → k < 8 → HoldsSpan self.now span (8 * cell + k) result }
+    {
+        let mut all = Extremes::none();
+        for k in 0..8u32 {
+            let depths = self.depth_span(span, 8 * cell + k);
+            let more = all.with(&depths);
+            all = more;
+        }
+        all
+    }
+
+    /// Looks at the depths of a cell, and keeps what they lie between, until one is stored.
+    #[inline(never)]
+    pub fn measure_cell(&mut self, span: u32, cell: u32)
+        requires span { span < 4 }
+        requires cell { cell < 4 }
+        ensures { self.new ≡ self.old }
+    {
+        let all = self.cell_extremes(span, cell);
+        self.keep_cell(span, cell, all.least_of_all(), all.greatest_of_all());
     }
 }
