@@ -1,14 +1,11 @@
 -- Cells whose depth test has one outcome.
 use Rattle.std.proofs.Common.{◌≡◌, ◌∙◌, ap, sym, subst, refl, arith, ℕ, zero, suc, ◌+◌, ◌-◌, ◌*◌, ◌^◌, ◌<◌, ◌≤◌, Bool, true, false, ◌&&◌, ◌||◌, nat_lt, Option, Some, None}
 use Rattle.std.specs.Int.{bit_at, to_le_bytes, w32}
-use Rattle.std.proofs.lemmas.List.{get_or-replicate}
-use Rattle.std.specs.Prelude.{slice_index, replicate, nat_le, not, ◌==◌, IfSome, IsTrue, if◌then◌else◌}
+use Rattle.std.specs.Prelude.{nat_le, not, ◌==◌, IfSome, IsTrue, if◌then◌else◌}
 use Rattle.std.proofs.lemmas.Bool.Decides.{nat_tests}
 use Rattle.gfxspec.specs.declared.pixel.Pixel.{Pixel}
 use Rattle.gfxspec.specs.declared.pixel.DepthStencil.{DepthStencil}
 use Rattle.gfxspec.specs.declared.geometry.PixelRect.{PixelRect}
-use Rattle.gfxspec.specs.declared.state.Compare.{Compare}
-use Rattle.gfxspec.specs.declared.state.Compare.TheVariants.{Less, LessEqual, Greater, GreaterEqual}
 use Rattle.gfxspec.specs.DepthStencil.{DepthStencilSetting, compares, depth_passes}
 use Rattle.gfxspec.specs.Color.{written_color}
 use Rattle.gfxspec.specs.Tiles.{IsIn}
@@ -18,62 +15,36 @@ use Rattle.depthplane.specs.Height.{DeepTriangle}
 use Rattle.depthplane.specs.Place.{depth_of}
 use Rattle.lanes.specs.Stencil.{StencilRule, reference_passes, stencil_after}
 use Rattle.tileblock.specs.Block.{Block, pixel_at}
-use Rattle.tileblock.specs.SpanStored.{lane_pixel}
+use Rattle.tileblock.specs.Cells.{CellLies}
+use Rattle.tileblock.specs.declared.blocks.DepthBounds.{DepthBounds}
 use Rattle.tileprog.specs.declared.brush.Brush.{Brush}
 use Rattle.tileprog.specs.declared.kind.Tests.TheVariants.{Stencil}
-use Rattle.tileprog.specs.Alike.{opposite}
+use Rattle.tileprog.specs.Alike.{HasOutcome}
 use Rattle.tileprog.specs.Brushes.{tested_by, drawn_by}
 use Rattle.tileprog.specs.Cells.{InRows, AllHave, AreCovered, IsStill, IsUnwritten}
 use Rattle.tileprog.specs.Columns.{RowDrew}
 use Rattle.tileprog.specs.Kinds.{tests_of}
 use Rattle.tileprog.specs.Strokes.{Stroke, stroked}
 use Rattle.tileprog.specs.Within.{in_box}
-use Rattle.tileprog.proofs.AlikeLaws.{otherwise}
-use Rattle.tileprog.proofs.Lanes.{has_none, rule_of, deep_enough, stencil_lane, stencil_passes_both, both_lanes, lane_kept, lane_unpainted, kept_all}
+use Rattle.tileprog.proofs.Lanes.{rule_of, deep_enough, stencil_lane, stencil_passes_both, both_lanes, lane_kept, lane_unpainted, kept_all}
 
--- ---- against the greatest and the least depth
+-- ---- from what is known of the stored depths to pixels
 
-pub less_keeps : (a b d e : ℕ) → a ≤ d → e ≤ b → compares Less a b ≡ false → compares Less d e ≡ false
-less_keeps a b d e p q h = grind (arith, nat_tests)
-
-pub less_equal_keeps : (a b d e : ℕ) → a ≤ d → e ≤ b → compares LessEqual a b ≡ false → compares LessEqual d e ≡ false
-less_equal_keeps a b d e p q h = grind (arith, nat_tests)
-
-pub greater_keeps : (a b d e : ℕ) → d ≤ a → b ≤ e → compares Greater a b ≡ false → compares Greater d e ≡ false
-greater_keeps a b d e p q h = grind (arith, nat_tests)
-
-pub greater_equal_keeps : (a b d e : ℕ) → d ≤ a → b ≤ e → compares GreaterEqual a b ≡ false → compares GreaterEqual d e ≡ false
-greater_equal_keeps a b d e p q h = grind (arith, nat_tests)
-
--- a number that is compared with each of eight and passes nowhere
-pub fails_there : (func : Compare) (z n m j : ℕ) → (bit_at m j == 1) ≡ compares func (slice_index (replicate 8 z) j) n → j < 8 → m ≡ 0 → compares func z n ≡ false
-fails_there func z n m j is h none = (λ t. compares func (sym (get_or-replicate 8 j z 0 h) t) n) ∙ sym is ∙ has_none m j none
-
-pub zero_is : (n : ℕ) → (n == 0) ≡ true → n ≡ 0
-zero_is n h = grind (arith, nat_tests, h)
-
--- ---- from lanes to pixels
-
-module _ (deep : Bool) (s : DepthStencilSetting) (func : Compare) (on : s.depth ≡ true) (func_is : s.func ≡ func) (d : DeepTriangle) (b : Block) (span row x least greatest : ℕ) (x_is : x ≡ b.rect.left + 8 * span)
-    (each : (k j a : ℕ) → k < 8 → j < 8 → least ≤ a → a ≤ greatest → compares func a (lane_pixel b span (row + k) j).ds.depth ≡ deep)
-    (lie : (u v : ℕ) → InRows b.rect x row (row + 8) u v → (least ≤ depth_of d u v) × (depth_of d u v ≤ greatest)) where
-  pub all_have : AllHave deep s d b x row (row + 8)
-  all_have = λ u v is here.
-      let l = here.left in
-      let r = here.right in
-      let t = here.top in
-      let o = here.bottom in
-      let between = lie u v here in
-      let u_is : b.rect.left + 8 * span + (u - x) ≡ u = omega (arith, x_is, l) in
-      let v_is : b.rect.top + (row + (v - (b.rect.top + row))) ≡ v = omega (arith, t) in
-      (λ i. not (on i) || compares (func_is i) (depth_of d u v) (pixel_at b (sym u_is i) (sym v_is i)).ds.depth)
-      ∙ each (v - (b.rect.top + row)) (u - x) (depth_of d u v) (omega (arith, t, o)) (omega (arith, l, r)) between.0 between.1
-
--- where the opposite comparison fails at each lane
-pub each_holds : (b : Block) (span row least greatest : ℕ) (func : Compare)
-    → ((k j a : ℕ) → k < 8 → j < 8 → least ≤ a → a ≤ greatest → compares (opposite func) a (lane_pixel b span (row + k) j).ds.depth ≡ false)
-    → (k j a : ℕ) → k < 8 → j < 8 → least ≤ a → a ≤ greatest → compares func a (lane_pixel b span (row + k) j).ds.depth ≡ true
-each_holds b span row least greatest func fails k j a p q r t = otherwise func a (lane_pixel b span (row + k) j).ds.depth (fails k j a p q r t)
+-- depths that lie between two have one outcome against all that may be stored in a cell
+pub cell_has : (deep : Bool) (s : DepthStencilSetting) (d : DeepTriangle) (b : Block) (span cell x least greatest : ℕ) (known : DepthBounds) → x ≡ b.rect.left + 8 * span → CellLies b span cell known.least known.greatest
+    → ((u v : ℕ) → InRows b.rect x (8 * cell) (8 * cell + 8) u v → (least ≤ depth_of d u v) × (depth_of d u v ≤ greatest)) → HasOutcome s least greatest (Some known) deep → AllHave deep s d b x (8 * cell) (8 * cell + 8)
+cell_has deep s d b span cell x least greatest known x_is stored lie has = λ u v is here.
+    let l = here.left in
+    let r = here.right in
+    let t = here.top in
+    let o = here.bottom in
+    let between = lie u v here in
+    let k = v - (b.rect.top + 8 * cell) in
+    let u_is : b.rect.left + 8 * span + (u - x) ≡ u = omega (arith, x_is, l) in
+    let v_is : b.rect.top + (8 * cell + k) ≡ v = omega (arith, t) in
+    let Q : ℕ → ℕ → Type 0 = λ u v. (known.least ≤ (pixel_at b u v).ds.depth) × ((pixel_at b u v).ds.depth ≤ known.greatest) in
+    let there : Q (b.rect.left + 8 * span + (u - x)) (b.rect.top + (8 * cell + k)) = stored k (u - x) (omega (arith, t, o)) (omega (arith, l, r)) in
+    has (depth_of d u v) (pixel_at b u v).ds.depth between.0 between.1 (subst (λ w. Q u w) v_is (subst (λ w. Q w (b.rect.top + (8 * cell + k))) u_is there))
 
 -- where depth isn't tested
 pub untested_cell : (s : DepthStencilSetting) (d : DeepTriangle) (b : Block) (x row past : ℕ) → s.depth ≡ false → AllHave true s d b x row past

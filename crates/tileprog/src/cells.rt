@@ -1,10 +1,8 @@
 //! Cells of a column: eight rows of a span, whose depths are asked about together.
 
-ghost use Rattle.std.specs.Prelude.{◌≡◌, ◌<◌, ◌≤◌, ◌+◌, ℕ, true, false, IsTrue, IfSome, slice_index};
-ghost use Rattle.gfxspec.specs.DepthStencil.{compares};
+ghost use Rattle.std.specs.Prelude.{◌≡◌, ◌<◌, ◌≤◌, ◌+◌, ◌*◌, ℕ, true, false, IsTrue, IfSome};
 ghost use Rattle.classify.specs.Region.{IsReal};
 ghost use Rattle.depthplane.specs.Place.{depth_of};
-ghost use Rattle.tileblock.specs.SpanStored.{lane_pixel};
 ghost use Rattle.tileprog.specs.Cells.{InRows, AllHave, AreCovered, EdgesAre, IsUnwritten, IsLong, Tells, IsCell};
 ghost use Rattle.tileprog.specs.Columns.{IsColumn};
 ghost use Rattle.tileprog.specs.Strokes.{IsNamed};
@@ -12,11 +10,11 @@ ghost use Rattle.tileprog.specs.Strokes.{IsNamed};
 use crate::alike::opposite;
 use crate::brush::Brush;
 use crate::column::Column;
+use crate::hidden::none_passes;
 use classify::{Class, classify};
 use depthplane::Plane;
 use edges::EdgeSet;
-use gfxspec::{Compare, PixelRect};
-use lanes::{depth_mask, greater8, lesser8};
+use gfxspec::PixelRect;
 use std::alloc::Allocator;
 use tileblock::{DepthBounds, TileBlock};
 
@@ -26,103 +24,6 @@ use tileblock::{DepthBounds, TileBlock};
 pub(crate) struct Cell {
     pub(crate) covered: Option<bool>,
     pub(crate) deep: Option<bool>,
-}
-
-/// In each lane the greatest of the depths that are stored in eight rows of a span.
-#[inline(always)]
-fn greatest_each<A: Allocator>(block: &TileBlock<A>, span: u32, row: u32) -> [u32; 8]
-    requires span { span < 4 }
-    requires row { row + 8 ≤ 32 }
-    ensures { (k j : ℕ) → k < 8 → j < 8 → (lane_pixel block.now span (row + k) j).ds.depth ≤ slice_index result j }
-{
-    let mut all = [0; 8];
-    for k in 0..8u32 {
-        all = greater8(&all, &block.depth_span(span, row + k));
-    }
-    all
-}
-
-/// In each lane the least of the depths that are stored in eight rows of a span.
-#[inline(always)]
-fn least_each<A: Allocator>(block: &TileBlock<A>, span: u32, row: u32) -> [u32; 8]
-    requires span { span < 4 }
-    requires row { row + 8 ≤ 32 }
-    ensures { (k j : ℕ) → k < 8 → j < 8 → slice_index result j ≤ (lane_pixel block.now span (row + k) j).ds.depth }
-{
-    let mut all = [u32::MAX; 8];
-    for k in 0..8u32 {
-        all = lesser8(&all, &block.depth_span(span, row + k));
-    }
-    all
-}
-
-/// Whether no depth from `depth` on passes against any of those that are stored in eight rows of a span, under a comparison for lesser
-/// depths. The first row is looked at before the others.
-#[inline(always)]
-fn fail_from<A: Allocator>(
-    block: &TileBlock<A>,
-    span: u32,
-    row: u32,
-    func: Compare,
-    depth: u32,
-) -> bool
-    requires span { span < 4 }
-    requires row { row + 8 ≤ 32 }
-    requires order { (a b d e : ℕ) → a ≤ d → e ≤ b → compares func a b ≡ false → compares func d e ≡ false }
-    ensures { IsTrue result → (k j a : ℕ) → k < 8 → j < 8 → depth ≤ a → compares func a (lane_pixel block.now span (row + k) j).ds.depth ≡ false }
-{
-    let first = depth_mask(func, &[depth; 8], &block.depth_span(span, row));
-    if first != 0 {
-        return false;
-    }
-    depth_mask(func, &[depth; 8], &greatest_each(block, span, row)) == 0
-}
-
-/// Whether no depth as far as `depth` passes against any of those that are stored in eight rows of a span, under a comparison for greater
-/// depths. The first row is looked at before the others.
-#[inline(always)]
-fn fail_to<A: Allocator>(
-    block: &TileBlock<A>,
-    span: u32,
-    row: u32,
-    func: Compare,
-    depth: u32,
-) -> bool
-    requires span { span < 4 }
-    requires row { row + 8 ≤ 32 }
-    requires order { (a b d e : ℕ) → d ≤ a → b ≤ e → compares func a b ≡ false → compares func d e ≡ false }
-    ensures { IsTrue result → (k j a : ℕ) → k < 8 → j < 8 → a ≤ depth → compares func a (lane_pixel block.now span (row + k) j).ds.depth ≡ false }
-{
-    let first = depth_mask(func, &[depth; 8], &block.depth_span(span, row));
-    if first != 0 {
-        return false;
-    }
-    depth_mask(func, &[depth; 8], &least_each(block, span, row)) == 0
-}
-
-/// Whether no depth from `least` to `greatest` passes against any of those that are stored in eight rows of a span. Of equality that isn't
-/// asked.
-#[inline(always)]
-fn all_fail<A: Allocator>(
-    block: &TileBlock<A>,
-    span: u32,
-    row: u32,
-    func: Compare,
-    range: DepthBounds,
-) -> bool
-    requires span { span < 4 }
-    requires row { row + 8 ≤ 32 }
-    ensures { IsTrue result → (k j a : ℕ) → k < 8 → j < 8 → range.least ≤ a → a ≤ range.greatest
-        → compares func a (lane_pixel block.now span (row + k) j).ds.depth ≡ false }
-{
-    match func {
-        Compare::Never => true,
-        Compare::Less => fail_from(block, span, row, Compare::Less, range.least),
-        Compare::LessEqual => fail_from(block, span, row, Compare::LessEqual, range.least),
-        Compare::Greater => fail_to(block, span, row, Compare::Greater, range.greatest),
-        Compare::GreaterEqual => fail_to(block, span, row, Compare::GreaterEqual, range.greatest),
-        Compare::Equal | Compare::NotEqual | Compare::Always => false,
-    }
 }
 
 /// The eight rows of a column from `row` on.
@@ -207,55 +108,58 @@ fn cell_range(plane: &Plane, rect: PixelRect, column: &Column, row: u32) -> Dept
     DepthBounds { least, greatest }
 }
 
-/// Whether the depth test of a brush passes at all pixels of the eight rows of a column from `row` on, or at none. Where depths would
-/// be stored, that all pass is not told.
+/// Whether the depth test of a brush passes at all pixels of a cell of a column, or at none, as far as what is known of the stored
+/// depths tells. Where depths would be stored, that all pass is not told.
 #[inline(always)]
 fn deep_from<A: Allocator>(
     block: &TileBlock<A>,
     plane: &Plane,
     column: &Column,
-    row: u32,
+    cell: u32,
     brush: &Brush,
 ) -> Option<bool>
     requires column { IsColumn column.now block.now.rect }
-    requires row { row < 32 }
+    requires cell { cell < 4 }
     requires named { IsNamed plane.now column.now.mask block.now.rect }
-    requires cell { IsCell column.now plane.now.triangle block.now.rect row }
+    requires whole { IsCell column.now plane.now.triangle block.now.rect (8 * cell) }
     requires depth { brush.now.state.depth ≡ true }
-    ensures deep { IfSome result (λ deep. AllHave deep brush.now.state plane.now block.now column.now.x row (row + 8)) }
+    ensures deep { IfSome result (λ deep. AllHave deep brush.now.state plane.now block.now column.now.x (8 * cell) (8 * cell + 8)) }
     ensures unwritten { IfSome result (IsUnwritten brush.now.state) }
 {
+    let Some(known) = block.cell_bounds(column.span, cell) else {
+        return None;
+    };
     let rect = block.rect();
-    let range = cell_range(plane, rect, column, row);
+    let range = cell_range(plane, rect, column, 8 * cell);
     let func = brush.state.func();
-    let fails = all_fail(block, column.span, row, func, range);
+    let fails = none_passes(func, range.least, range.greatest, known);
     if fails {
         return Some(false);
     }
     if brush.state.write() {
         return None;
     }
-    let passes = all_fail(block, column.span, row, opposite(func), range);
+    let passes = none_passes(opposite(func), range.least, range.greatest, known);
     if passes { Some(true) } else { None }
 }
 
-/// Whether the depth test of a brush passes at all pixels of the eight rows of a column from `row` on, or at none, if that is asked: where
-/// depth is tested, only where the edges hold at all of them.
+/// Whether the depth test of a brush passes at all pixels of a cell of a column, or at none, if that is asked: where depth is tested,
+/// only where the edges hold at all of them.
 #[inline(always)]
 fn depth_outcome<A: Allocator>(
     block: &TileBlock<A>,
     plane: &Plane,
     column: &Column,
-    row: u32,
+    cell: u32,
     covered: Option<bool>,
     brush: &Brush,
 ) -> Option<bool>
     requires column { IsColumn column.now block.now.rect }
     requires long { IsLong column.now block.now.rect }
-    requires row { row + 8 ≤ 32 }
+    requires cell { cell < 4 }
     requires named { IsNamed plane.now column.now.mask block.now.rect }
-    requires covered { IfSome covered (λ all. AreCovered all column.now.mask plane.now.triangle block.now.rect column.now.x row (row + 8)) }
-    ensures deep { IfSome result (λ deep. AllHave deep brush.now.state plane.now block.now column.now.x row (row + 8)) }
+    requires covered { IfSome covered (λ all. AreCovered all column.now.mask plane.now.triangle block.now.rect column.now.x (8 * cell) (8 * cell + 8)) }
+    ensures deep { IfSome result (λ deep. AllHave deep brush.now.state plane.now block.now column.now.x (8 * cell) (8 * cell + 8)) }
     ensures unwritten { IfSome result (IsUnwritten brush.now.state) }
 {
     if !brush.state.depth() {
@@ -267,29 +171,58 @@ fn depth_outcome<A: Allocator>(
     if !all {
         return None;
     }
-    deep_from(block, plane, column, row, brush)
+    deep_from(block, plane, column, cell, brush)
 }
 
-/// The eight rows of a column from `row` on, under a brush with a stencil test.
+/// Looks at the stored depths of a cell that is asked about, where nothing is known of them. A brush that stores depths doesn't look: the
+/// block would forget at once.
+#[inline(always)]
+fn look_at<A: Allocator>(
+    block: &mut TileBlock<A>,
+    span: u32,
+    cell: u32,
+    covered: Option<bool>,
+    brush: &Brush,
+)
+    requires span { span < 4 }
+    requires cell { cell < 4 }
+    ensures { block.new ≡ block.old }
+{
+    let Some(all) = covered else {
+        return;
+    };
+    if !all || !brush.state.depth() || brush.state.write() {
+        return;
+    }
+    let known = block.cell_bounds(span, cell);
+    if known.is_none() {
+        block.measure_cell(span, cell);
+    }
+}
+
+/// A cell of a column, which is eight rows from row 8 * `cell` on, under a brush with a stencil test. Of the block no more than what it
+/// knows of its depths changes.
 #[inline(always)]
 pub(crate) fn cell_of<A: Allocator>(
-    block: &TileBlock<A>,
+    block: &mut TileBlock<A>,
     set: &EdgeSet,
     plane: &Plane,
     column: &Column,
     mask: u8,
-    row: u32,
+    cell: u32,
     brush: &Brush,
 ) -> Cell
     requires same { mask ≡ column.now.mask }
     requires set { set.now ≡ plane.now.triangle }
-    requires column { IsColumn column.now block.now.rect }
-    requires long { IsLong column.now block.now.rect }
-    requires row { row + 8 ≤ 32 }
-    requires named { IsNamed plane.now column.now.mask block.now.rect }
-    ensures { Tells result brush.now.state plane.now column.now.mask block.now column.now.x row }
+    requires column { IsColumn column.now block.old.rect }
+    requires long { IsLong column.now block.old.rect }
+    requires cell { cell < 4 }
+    requires named { IsNamed plane.now column.now.mask block.old.rect }
+    ensures block { block.new ≡ block.old }
+    ensures told { Tells result brush.now.state plane.now column.now.mask block.old column.now.x (8 * cell) }
 {
-    let covered = cover_outcome(set, plane, block.rect(), column, mask, row);
-    let deep = depth_outcome(block, plane, column, row, covered, brush);
+    let covered = cover_outcome(set, plane, block.rect(), column, mask, 8 * cell);
+    look_at(block, column.span, cell, covered, brush);
+    let deep = depth_outcome(block, plane, column, cell, covered, brush);
     Cell { covered, deep }
 }

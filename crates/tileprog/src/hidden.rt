@@ -18,6 +18,7 @@ pub(crate) fn asks_plane(entry: &StateEntry, stored: Option<DepthBounds>, whole:
 }
 
 /// No depth from `least` to `greatest` passes against any of the stored ones.
+#[inline]
 pub(crate) fn none_passes(func: Compare, least: u32, greatest: u32, stored: DepthBounds) -> bool
     ensures { result ≡ none_passes func least greatest stored.least stored.greatest }
 {

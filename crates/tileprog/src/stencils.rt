@@ -283,8 +283,8 @@ fn each_cell<A: Allocator, W: Walks>(
 {
     let mut passed = 0u32;
     for k in 0..4u32 {
+        let cell = cell_of(block, set, plane, column, mask, k, brush);
         let row = 8 * k;
-        let cell = cell_of(block, set, plane, column, mask, row, brush);
         let more = cell_rows(
             block, column, mask, plane, row, cell, &edges, &walk, test, brush,
         );

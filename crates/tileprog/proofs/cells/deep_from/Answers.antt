@@ -1,11 +1,15 @@
-use Rattle.std.proofs.Common.{◌≡◌, sym, subst, ℕ, ◌+◌, ◌<◌, ◌≤◌, false, true}
+use Rattle.std.proofs.Common.{◌≡◌, ◌∙◌, ap, sym, subst, ℕ, ◌+◌, ◌*◌, ◌≤◌, true, false, Option, Some}
+use Rattle.std.specs.Prelude.{IfSome}
 use Rattle.gfxspec.specs.declared.geometry.PixelRect.{PixelRect}
 use Rattle.gfxspec.specs.declared.state.Compare.{Compare}
-use Rattle.gfxspec.specs.DepthStencil.{compares}
 use Rattle.depthplane.specs.Place.{depth_of}
-use Rattle.tileblock.specs.SpanStored.{lane_pixel}
+use Rattle.tileblock.specs.Cells.{CellLies}
+use Rattle.tileblock.specs.declared.blocks.DepthBounds.{DepthBounds}
+use Rattle.tileprog.specs.Alike.{opposite}
 use Rattle.tileprog.specs.Cells.{InRows}
-use Rattle.tileprog.proofs.CellLaws.{all_have, each_holds}
+use Rattle.tileprog.specs.Hidden.{none_passes}
+use Rattle.tileprog.proofs.AlikeLaws.{all_fail, all_pass}
+use Rattle.tileprog.proofs.CellLaws.{cell_has}
 use Rattle.tileprog.proofs.cells.deep_from.Goals as goal
 
 pub returns-then-fails-clause-deep : goal.returns-then-fails-clause-deep
@@ -15,9 +19,14 @@ returns-then-fails-clause-deep g c =
     let s = c.args.brush.now.state in
     let d = c.args.plane.now in
     let range = c.cell_range-range.result in
-    let L : PixelRect → Type 0 = λ r. (u v : ℕ) → InRows r k.x c.args.row (c.args.row + 8) u v → (range.least ≤ depth_of d u v) × (depth_of d u v ≤ range.greatest) in
+    let known = c.in-Some.known in
+    let row = 8 * c.args.cell in
+    let L : PixelRect → Type 0 = λ r. (u v : ℕ) → InRows r k.x row (row + 8) u v → (range.least ≤ depth_of d u v) × (depth_of d u v ≤ range.greatest) in
     let lie : L b.rect = subst L c.rect-rect.ensures c.cell_range-range.ensures in
-    all_have false s c.func-func.result c.requires.depth (sym c.func-func.ensures) d b k.span c.args.row k.x range.least range.greatest c.requires.column.x (c.all_fail-fails.ensures c.if-fails.true) lie
+    let P : Option DepthBounds → Type 0 = λ o. IfSome o (λ (w : DepthBounds). CellLies b k.span c.args.cell w.least w.greatest) in
+    let stored : P (Some known) = subst P c.in-Some.is c.cell_bounds.ensures in
+    let none : none_passes s.func range.least range.greatest known.least known.greatest ≡ true = ap (λ (f : Compare). none_passes f range.least range.greatest known.least known.greatest) (sym c.func-func.ensures) ∙ sym c.none_passes-fails.ensures ∙ c.if-fails.true in
+    cell_has false s d b k.span c.args.cell k.x range.least range.greatest known c.requires.column.x stored lie (all_fail s range.least range.greatest known c.requires.depth none)
 
 pub returns-then-passes-clause-deep : goal.returns-then-passes-clause-deep
 returns-then-passes-clause-deep g c =
@@ -26,9 +35,12 @@ returns-then-passes-clause-deep g c =
     let s = c.args.brush.now.state in
     let d = c.args.plane.now in
     let range = c.cell_range-range.result in
-    let L : PixelRect → Type 0 = λ r. (u v : ℕ) → InRows r k.x c.args.row (c.args.row + 8) u v → (range.least ≤ depth_of d u v) × (depth_of d u v ≤ range.greatest) in
+    let known = c.in-Some.known in
+    let row = 8 * c.args.cell in
+    let L : PixelRect → Type 0 = λ r. (u v : ℕ) → InRows r k.x row (row + 8) u v → (range.least ≤ depth_of d u v) × (depth_of d u v ≤ range.greatest) in
     let lie : L b.rect = subst L c.rect-rect.ensures c.cell_range-range.ensures in
-    let func = c.func-func.result in
-    let O : Compare → Type 0 = λ f. (i j a : ℕ) → i < 8 → j < 8 → range.least ≤ a → a ≤ range.greatest → compares f a (lane_pixel b k.span (c.args.row + i) j).ds.depth ≡ false in
-    let fails = subst O c.opposite.ensures (c.all_fail-passes.ensures c.if-passes.true) in
-    all_have true s func c.requires.depth (sym c.func-func.ensures) d b k.span c.args.row k.x range.least range.greatest c.requires.column.x (each_holds b k.span c.args.row range.least range.greatest func fails) lie
+    let P : Option DepthBounds → Type 0 = λ o. IfSome o (λ (w : DepthBounds). CellLies b k.span c.args.cell w.least w.greatest) in
+    let stored : P (Some known) = subst P c.in-Some.is c.cell_bounds.ensures in
+    let other : c.opposite.result ≡ opposite s.func = c.opposite.ensures ∙ ap opposite c.func-func.ensures in
+    let none : none_passes (opposite s.func) range.least range.greatest known.least known.greatest ≡ true = ap (λ (f : Compare). none_passes f range.least range.greatest known.least known.greatest) (sym other) ∙ sym c.none_passes-passes.ensures ∙ c.if-passes.true in
+    cell_has true s d b k.span c.args.cell k.x range.least range.greatest known c.requires.column.x stored lie (all_pass s range.least range.greatest known c.requires.depth none)

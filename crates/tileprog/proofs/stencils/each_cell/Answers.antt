@@ -1,6 +1,7 @@
 use Rattle.std.proofs.Common.{◌≡◌, ◌∙◌, ap, sym, subst, refl, rules, arith, ◌+◌, ◌*◌}
 use Rattle.gfxspec.specs.declared.geometry.PixelRect.{PixelRect}
 use Rattle.depthplane.specs.Places.{Places}
+use Rattle.tileblock.specs.Block.{Block}
 use Rattle.tileprog.specs.Columns.{Continues}
 use Rattle.tileprog.specs.Strokes.{Stroke}
 use Rattle.tileprog.proofs.Columning.{none_yet, rows_behind, column_behind}
@@ -31,13 +32,16 @@ loop-k-preserved g c =
     let mid = c.loop-k.block in
     let new = c.cell_rows-more.new.block in
     let row = 8 * c.loop-k.k in
+    let more = c.cell_rows-more.result in
     let inv = c.loop-k.invariant in
     let top_is = ap (λ (r : PixelRect). r.top) inv.rect in
+    let D : Block → Type 0 = λ b. Continues s b new k.x (b.rect.top + row) (b.rect.top + (row + 8)) more in
+    let drawn : D mid = subst D c.cell_of-cell.ensures.block c.cell_rows-more.ensures in
     record {
       edges = search rules;
       walk = search rules;
-      rect = c.cell_rows-more.ensures.rect ∙ inv.rect;
-      continues = rows_behind s old mid new k.x old.rect.top (old.rect.top + row) (mid.rect.top + row) (mid.rect.top + (row + 8)) (old.rect.top + 8 * (c.loop-k.k + 1)) c.loop-k.passed c.cell_rows-more.result inv.continues c.cell_rows-more.ensures
+      rect = drawn.rect ∙ inv.rect;
+      continues = rows_behind s old mid new k.x old.rect.top (old.rect.top + row) (mid.rect.top + row) (mid.rect.top + (row + 8)) (old.rect.top + 8 * (c.loop-k.k + 1)) c.loop-k.passed more inv.continues drawn
           (ap (λ v. v + row) top_is) (omega (arith, top_is));
     }
 

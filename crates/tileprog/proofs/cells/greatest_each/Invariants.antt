@@ -1,6 +1,0 @@
-use Rattle.std.proofs.Common.{ℕ, ◌+◌, ◌<◌, ◌≤◌, slice_index}
-use Rattle.tileblock.specs.SpanStored.{lane_pixel}
-use Rattle.tileprog.proofs.cells.greatest_each.Given as goal
-
-abbrev pub invariant-loop-k : goal.invariant-loop-k
-invariant-loop-k g l = record { each : (i j : ℕ) → i < l.k → j < 8 → (lane_pixel l.block l.span (l.row + i) j).ds.depth ≤ slice_index l.all j }
