@@ -1,19 +1,22 @@
 -- The first refused line of all contexts.
-use Rattle.std.proofs.Common.{◌≡◌, ◌∙◌, ap, sym, subst, refl, ℕ, zero, suc, ◌<◌, ◌≤◌, arith, Bool, true, false, cond, nat_lt, List, [], ◌∷◌, length, Some, None, Option}
-use Rattle.std.specs.Prelude.{MatchOption}
+use Rattle.std.proofs.Common.{◌≡◌, subst, refl, ℕ, zero, suc, ◌+◌, ◌-◌, ◌<◌, ◌≤◌, arith, Bool, true, false, cond, nat_lt, List, [], ◌∷◌, length, Some, None, Option}
+use Rattle.std.specs.Prelude.{MatchOption, All}
 use Rattle.std.proofs.lemmas.Bool.Decides.{nat_tests}
+use Rattle.std.proofs.lemmas.List.Elements.{All-cons, All-nil}
 use Rattle.atomic_table.specs.Seated.{TableId}
+use Rattle.gfxspec.specs.Commands.{Command}
 use Rattle.scenetext.specs.Scene.{Line}
+use Rattle.port.specs.History.{PortHistory}
+use Rattle.recorders.specs.declared.recorded.Recorded.{Recorded}
 use Rattle.recorders.specs.declared.refusal.RefusedLine.{RefusedLine}
 use Rattle.recorders.specs.declared.refusal.ContextEnd.{ContextEnd}
 use Rattle.recorders.specs.declared.refusal.RecordingEnd.{RecordingEnd}
-use Rattle.recorders.specs.declared.by_port.ByPort.{ByPort}
 use Rattle.recorders.specs.declared.recorder.RecorderResult.{RecorderResult}
-use Rattle.recorders.specs.Ports.{at_port, port_of}
-use Rattle.recorders.specs.Apart.{AcceptsTo, IsStopOf, stop_or}
-use Rattle.recorders.specs.Recorders.{IsEnd, AreEnded, end_in}
-use Rattle.recorders.specs.Ending.{earlier_of, first_of, end_at, ends_by, IsStopOfSome, Lacks, AreRecorded, AreEnds, EndsLack}
-use Rattle.recorders.specs.Receiving.{AreResults, ResultsLack, ends_of}
+use Rattle.recorders.specs.Apart.{AcceptsTo, IsStopOf, IsListed, stop_or}
+use Rattle.recorders.specs.Sinks.{lists_sent}
+use Rattle.recorders.specs.Recorders.{IsEnd, AreEnded}
+use Rattle.recorders.specs.Ending.{earlier_of, first_of, pair_at, end_at, IsStopOfSome, Lacks, AreRecorded, AreEnds, EndsLack}
+use Rattle.recorders.specs.Receiving.{IsResultOf, AreResults}
 use Rattle.recorders.proofs.Growing.{fewer_lists}
 use Rattle.recorders.proofs.PortLemmas.{each_port}
 
@@ -47,34 +50,49 @@ match_more (Some x) f h = f x h
 -- ---- the first of many
 
 -- it is among them, or was known
-first_is : (P : Option RefusedLine → Type 0) (known : Option RefusedLine) (ends : List ContextEnd) → P known → ((k : ℕ) → k < length ends → P (end_at ends k).refused) → P (first_of known ends)
-first_is P known [] p each = p
-first_is P known (e ∷ ends) p each =
-    first_is P (earlier_of known e.refused) ends (earlier_is P known e.refused p (each 0 (omega arith))) (λ k low. each (suc k) (omega (arith, low)))
+first_is : (P : Option RefusedLine → Type 0) (known : Option RefusedLine) (ends : List RecordingEnd) → P known → ((p : ℕ) → p < length ends → P (pair_at ends p).first.refused × P (pair_at ends p).second.refused) → P (first_of known ends)
+first_is P known [] h each = h
+first_is P known (e ∷ ends) h each =
+    let here = each 0 (omega arith) in
+    first_is P (earlier_of known (earlier_of e.first.refused e.second.refused)) ends (earlier_is P known _ h (earlier_is P e.first.refused e.second.refused here.0 here.1)) (λ p low. each (suc p) (omega (arith, low)))
 
-below_each : (a : ℕ) (e : ContextEnd) (ends : List ContextEnd) (n : ℕ) → a ≤ stop_or e.refused n → ((k : ℕ) → k < length ends → a ≤ stop_or (end_at ends k).refused n) → (k : ℕ) → k < length (e ∷ ends) → a ≤ stop_or (end_at (e ∷ ends) k).refused n
-below_each a e ends n one rest zero low = one
-below_each a e ends n one rest (suc k) low = rest k (omega (arith, low))
+-- neither context of a recorder refused a line before this one
+abbrev NotBefore : ℕ → ℕ → RecordingEnd → Type 0
+NotBefore n a e = (a ≤ stop_or e.first.refused n) × (a ≤ stop_or e.second.refused n)
+
+each_more : (F : RecordingEnd → Type 0) (e : RecordingEnd) (ends : List RecordingEnd) → F e → ((p : ℕ) → p < length ends → F (pair_at ends p)) → (p : ℕ) → p < length (e ∷ ends) → F (pair_at (e ∷ ends) p)
+each_more F e ends one rest zero low = one
+each_more F e ends one rest (suc p) low = rest p (omega (arith, low))
 
 -- and none of them is before it
-first_low : (known : Option RefusedLine) (ends : List ContextEnd) (n : ℕ) → stop_or known n ≤ n → ((k : ℕ) → k < length ends → stop_or (end_at ends k).refused n ≤ n) → (stop_or (first_of known ends) n ≤ stop_or known n) × ((k : ℕ) → k < length ends → stop_or (first_of known ends) n ≤ stop_or (end_at ends k).refused n)
-first_low known [] n h each = (omega arith, λ k low. absurd (omega (arith, low)))
+first_low : (known : Option RefusedLine) (ends : List RecordingEnd) (n : ℕ) → stop_or known n ≤ n → ((p : ℕ) → p < length ends → (stop_or (pair_at ends p).first.refused n ≤ n) × (stop_or (pair_at ends p).second.refused n ≤ n)) → (stop_or (first_of known ends) n ≤ stop_or known n) × ((p : ℕ) → p < length ends → NotBefore n (stop_or (first_of known ends) n) (pair_at ends p))
+first_low known [] n h each = (omega arith, λ p low. absurd (omega (arith, low)))
 first_low known (e ∷ ends) n h each =
-    let two = earlier_low known e.refused n h (each 0 (omega arith)) in
+    let here = each 0 (omega arith) in
+    let both = earlier_low e.first.refused e.second.refused n here.0 here.1 in
+    let to_first = both.0 in
+    let to_second = both.1 in
+    let first_in = here.0 in
+    let two = earlier_low known (earlier_of e.first.refused e.second.refused) n h (omega (arith, to_first, first_in)) in
     let to_known = two.0 in
-    let to_first = two.1 in
-    let rest = first_low (earlier_of known e.refused) ends n (omega (arith, to_known, h)) (λ k low. each (suc k) (omega (arith, low))) in
-    let low = rest.0 in
-    (omega (arith, low, to_known), below_each _ e ends n (omega (arith, low, to_first)) rest.1)
+    let to_both = two.1 in
+    let rest = first_low (earlier_of known (earlier_of e.first.refused e.second.refused)) ends n (omega (arith, to_known, h)) (λ p low. each (suc p) (omega (arith, low))) in
+    let low = rest.0 in (
+      omega (arith, low, to_known),
+      each_more (NotBefore n (stop_or (first_of known (e ∷ ends)) n)) e ends (omega (arith, low, to_both, to_first), omega (arith, low, to_both, to_second)) rest.1,
+    )
 
 -- ---- of eight contexts
 
-pub each_context : (F : ℕ → Type 0) → F 0 → F 1 → F 2 → F 3 → F 4 → F 5 → F 6 → F 7 → (k : ℕ) → k < 8 → F k
-each_context F a b c d e f g h zero low = a
-each_context F a b c d e f g h (suc zero) low = b
-each_context F a b c d e f g h (suc (suc zero)) low = c
-each_context F a b c d e f g h (suc (suc (suc zero))) low = d
-each_context F a b c d e f g h (suc (suc (suc (suc k)))) low = each_port (λ n. F (suc (suc (suc (suc n))))) e f g h k (omega (arith, low))
+each_context : (F : ℕ → ContextEnd → Type 0) (ends : List RecordingEnd) → ((p : ℕ) → p < 4 → F p (pair_at ends p).first × F (p + 4) (pair_at ends p).second) → (k : ℕ) → k < 8 → F k (end_at ends k)
+each_context F ends each k low = by (nat_lt k 4) refl
+  where
+    by : (b : Bool) → nat_lt k 4 ≡ b → F k (cond b (pair_at ends (cond b k (k - 4))).first (pair_at ends (cond b k (k - 4))).second)
+    by true e = let less : k < 4 = grind (arith, nat_tests) in (each k less).0
+    by false e =
+        let more : 4 ≤ k = grind (arith, nat_tests) in
+        let back : k - 4 + 4 ≡ k = omega (arith, more) in
+        subst (λ j. F j (pair_at ends (k - 4)).second) back (each (k - 4) (omega (arith, more, low))).1
 
 within : (ls : List Line) (k : ℕ) (e : ContextEnd) → IsEnd ls k e → stop_or e.refused (length ls) ≤ length ls
 within ls k e h = by e.refused h.stop_is
@@ -83,21 +101,28 @@ within ls k e h = by e.refused h.stop_is
     by None is = omega arith
     by (Some s) is = let low = is.0 in omega (arith, low)
 
-module _ (ls : List Line) (ends : List ContextEnd) (are : AreEnds ls ends) where
-  eight : length ends ≡ 8
-  eight = are.0
+module _ (ls : List Line) (ends : List RecordingEnd) (are : AreEnds ls ends) where
+  four : length ends ≡ 4
+  four = are.0
+
+  ended : (p : ℕ) → p < length ends → AreEnded ls p (pair_at ends p)
+  ended p few = are.1 p (omega (arith, few, four))
 
   h : (k : ℕ) → k < 8 → IsEnd ls k (end_at ends k)
-  h = are.1
+  h = each_context (IsEnd ls) ends (λ p low. ((are.1 p low).first_is, (are.1 p low).second_is))
 
   abbrev first : Option RefusedLine
   first = first_of None ends
 
   none_before : (k : ℕ) → k < 8 → stop_or first (length ls) ≤ stop_or (end_at ends k).refused (length ls)
-  none_before k low = (first_low None ends (length ls) (omega arith) (λ j few. within ls j (end_at ends j) (h j (omega (arith, few, eight))))).1 k (omega (arith, low, eight))
+  none_before =
+      each_context (λ k e. stop_or first (length ls) ≤ stop_or e.refused (length ls)) ends
+      (λ p low. (first_low None ends (length ls) (omega arith) (λ q few. (within ls q _ (ended q few).first_is, within ls (q + 4) _ (ended q few).second_is))).1 p (omega (arith, low, four)))
 
   stop_is : IsStopOfSome ls first
-  stop_is = first_is (IsStopOfSome ls) None ends tt (λ k few. some k (omega (arith, few, eight)) (end_at ends k).refused (h k (omega (arith, few, eight))).stop_is)
+  stop_is =
+      first_is (IsStopOfSome ls) None ends tt
+      (λ p few. (some p (omega (arith, few, four)) _ (ended p few).first_is.stop_is, some (p + 4) (omega (arith, few, four)) _ (ended p few).second_is.stop_is))
     where
       some : (k : ℕ) → k < 8 → (s : Option RefusedLine) → IsStopOf ls k (length ls) s → IsStopOfSome ls s
       some k low None is = tt
@@ -118,15 +143,18 @@ module _ (ls : List Line) (ends : List ContextEnd) (are : AreEnds ls ends) where
 
 -- ---- of four recorders
 
-pub all_ended : (ls : List Line) (a b c d : RecordingEnd) → AreEnded ls 0 a → AreEnded ls 1 b → AreEnded ls 2 c → AreEnded ls 3 d → AreEnds ls (ends_by a b c d)
-all_ended ls a b c d p q r s =
-    (refl, each_context (λ k. IsEnd ls k (end_at (ends_by a b c d) k)) p.first_is q.first_is r.first_is s.first_is p.second_is q.second_is r.second_is s.second_is)
+pub all_ended : (ls : List Line) (a b c d : RecordingEnd) → AreEnded ls 0 a → AreEnded ls 1 b → AreEnded ls 2 c → AreEnded ls 3 d → AreEnds ls (a ∷ b ∷ c ∷ d ∷ [])
+all_ended ls a b c d p q r s = (refl, each_port (λ n. AreEnded ls n (pair_at (a ∷ b ∷ c ∷ d ∷ []) n)) p q r s)
 
-pub all_results : {A : Type 0} (ls : List Line) (queue : TableId) (results : ByPort (RecorderResult A)) (ends : List ContextEnd) (refused : Option RefusedLine) (missing : Option (ℕ × ℕ)) → AreResults ls queue results → ends ≡ ends_of results → refused ≡ first_of None ends → MatchOption missing (Unit {0}) (λ name. name.0 < 8 → ResultsLack results name.0 name.1) → AreRecorded ls refused missing
-all_results ls queue results ends refused missing h is least lacks =
-    subst (λ s. AreRecorded ls s missing) (sym (least ∙ ap (first_of None) is))
-    (all_recorded ls (ends_of results) (all_ended ls _ _ _ _ (h 0 (omega arith)).ends (h 1 (omega arith)).ends (h 2 (omega arith)).ends (h 3 (omega arith)).ends)
-    missing (match_more missing (λ name lack low. subst (λ (e : ContextEnd). e.lists ≤ name.1) (same name.0 low) (lack low)) lacks))
-  where
-    same : (k : ℕ) → k < 8 → end_in (at_port results (port_of k)).end k ≡ end_at (ends_of results) k
-    same = each_context (λ k. end_in (at_port results (port_of k)).end k ≡ end_at (ends_of results) k) refl refl refl refl refl refl refl refl
+all_four : {X : Type 0} (P : X → Type 0) (a b c d : X) → P a → P b → P c → P d → All P (a ∷ b ∷ c ∷ d ∷ [])
+all_four P a b c d p q r s = All-cons P a (b ∷ c ∷ d ∷ []) p (All-cons P b (c ∷ d ∷ []) q (All-cons P c (d ∷ []) r (All-cons P d [] s (All-nil P))))
+
+pub all_results : {A : Type 0} (ls : List Line) (queue : TableId) (a b c d : RecorderResult A) → IsResultOf ls queue 0 a → IsResultOf ls queue 1 b → IsResultOf ls queue 2 c → IsResultOf ls queue 3 d → AreResults {A = A} ls queue (record { passes = a.pass ∷ b.pass ∷ c.pass ∷ d.pass ∷ []; ends = a.end ∷ b.end ∷ c.end ∷ d.end ∷ [] })
+all_results ls queue a b c d p q r s = record {
+  back = (
+    (λ i. p.port_is i ∷ q.port_is i ∷ r.port_is i ∷ s.port_is i ∷ []),
+    all_four (λ (h : PortHistory (Recorded (List Command))). h.queue ≡ queue) _ _ _ _ p.queue_is q.queue_is r.queue_is s.queue_is,
+  );
+  sent = all_four (λ (h : PortHistory (Recorded (List Command))). All (IsListed ls) (lists_sent h.sent)) _ _ _ _ p.sent q.sent r.sent s.sent;
+  ends = all_ended ls _ _ _ _ p.ends q.ends r.ends s.ends;
+}

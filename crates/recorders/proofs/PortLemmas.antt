@@ -2,24 +2,24 @@
 use Rattle.std.proofs.Common.{◌≡◌, ◌∙◌, ap, sym, subst, refl, ℕ, zero, suc, ◌-◌, ◌<◌, ◌≤◌, arith, Bool, true, false, cond, eqb, nat_lt, List, [], ◌∷◌, ◌++◌, length, Some, None, Option}
 use Rattle.std.specs.Prelude.{unwrap_or, MatchOption, All, slice_index_or}
 use Rattle.std.proofs.lemmas.Bool.Decides.{nat_tests}
-use Rattle.std.proofs.lemmas.List.{append-nil, length-append, length_push, map-append, get_or_push, get_or_append_left}
+use Rattle.std.proofs.lemmas.List.{append-nil, length-append, length-map, length_push, map-append, get_or-map, get_or_push, get_or_append_left}
 use Rattle.atomic_table.specs.Seated.{TableId}
 use Rattle.gfxspec.specs.Commands.{Command}
 use Rattle.scenetext.specs.Scene.{Line}
 use Rattle.port.specs.declared.submission.Submission.{Submission}
 use Rattle.port.specs.History.{of_port, with_if, PortHistory, DrainHistory, drain_history, AreAll, AllTaken}
-use Rattle.recorders.specs.declared.by_port.ByPort.{ByPort}
+use Rattle.recorders.specs.declared.ports.RecorderResults.{RecorderResults}
 use Rattle.recorders.specs.declared.recorded.Recorded.{Recorded}
 use Rattle.recorders.specs.declared.recorder.RecorderResult.{RecorderResult}
-use Rattle.recorders.specs.Ports.{at_port, port_of}
+use Rattle.recorders.specs.declared.refusal.RecordingEnd.{RecordingEnd}
 use Rattle.recorders.specs.Sinks.{Way, Sender, lists_sent, sender_lists, sender_way}
 use Rattle.recorders.specs.Apart.{listed, IsListed}
 use Rattle.recorders.specs.Asking.{Asked}
-use Rattle.recorders.specs.Recorders.{IsRecording, end_in}
+use Rattle.recorders.specs.Recorders.{IsRecording, end_in, port_of}
 use Rattle.recorders.specs.Rows.{AreRows, IsNext, with_list}
 use Rattle.recorders.proofs.RowLemmas.{rows_more}
 use Rattle.std.proofs.lemmas.List.Elements.{All-tail, All-nil}
-use Rattle.recorders.specs.Receiving.{Receipts, Task, IsResultOf, LacksBy, AreResults, TakenAgrees, ReceiptAgrees, IsMore, receipt_frame, receipt_right}
+use Rattle.recorders.specs.Receiving.{Receipts, Task, IsResultOf, LacksBy, EndsWith, AreResults, TakenAgrees, SentAgrees, ReceiptAgrees, IsMore, receipt_frame, receipt_right}
 
 -- ---- four ports
 
@@ -81,7 +81,7 @@ more_agrees s t m agrees =
 some_queue : (a b : TableId) → Some a ≡ Some b → a ≡ b
 some_queue a b h = ap (λ o. unwrap_or o a) h
 
-pub results_for : {A : Type 0} (ls : List Line) (queue : TableId) (s : Receipts A) (results : ByPort (RecorderResult A)) → receipt_frame s ≡ record { lines = ls; queue = Some queue } → AreResults s.lines s.queue results → AreResults ls queue results
+pub results_for : {A : Type 0} (ls : List Line) (queue : TableId) (s : Receipts A) (results : RecorderResults A) → receipt_frame s ≡ record { lines = ls; queue = Some queue } → AreResults s.lines s.queue results → AreResults ls queue results
 results_for ls queue s results e h =
     subst (λ q. AreResults ls q results) (some_queue s.queue queue (ap (λ (x : Asked). x.queue) e)) (subst (λ xs. AreResults xs s.queue results) (ap (λ (x : Asked). x.lines) e) h)
 
@@ -99,35 +99,16 @@ after_next X P Q None old new h =
     (ap (λ (d : DrainHistory _). d.queue) h.0, [], ap (λ (d : DrainHistory _). d.taken) h.0 ∙ sym (append-nil old.taken))
 after_next X P Q (Some s) old new h = (ap (λ (d : DrainHistory _). d.queue) h.2, s ∷ [], ap (λ (d : DrainHistory _). d.taken) h.2)
 
-module _ {A : Type 0} (queue : TableId) (results : ByPort (RecorderResult A)) where
-  abbrev pub passes_of : ByPort (RecorderResult A) → List (PortHistory (Recorded (List Command)))
-  passes_of r = r.zero.pass ∷ r.one.pass ∷ r.two.pass ∷ r.three.pass ∷ []
-
-  pub all_back : ((p : ℕ) → p < 4 → ((at_port results p).pass.queue ≡ queue) × ((at_port results p).pass.port ≡ p)) → AreAll queue (passes_of results)
-  all_back back =
-      let zero_is = back 0 (omega arith) in
-      let one_is = back 1 (omega arith) in
-      let two_is = back 2 (omega arith) in
-      let three_is = back 3 (omega arith) in
-      ((λ i. zero_is.1 i ∷ one_is.1 i ∷ two_is.1 i ∷ three_is.1 i ∷ []), each zero_is.0 one_is.0 two_is.0 three_is.0)
-    where
-      each : results.zero.pass.queue ≡ queue → results.one.pass.queue ≡ queue → results.two.pass.queue ≡ queue → results.three.pass.queue ≡ queue → All (λ (p : PortHistory (Recorded (List Command))). p.queue ≡ queue) (passes_of results)
-      each e0 e1 e2 e3 zero d low = e0
-      each e0 e1 e2 e3 (suc zero) d low = e1
-      each e0 e1 e2 e3 (suc (suc zero)) d low = e2
-      each e0 e1 e2 e3 (suc (suc (suc zero))) d low = e3
-      each e0 e1 e2 e3 (suc (suc (suc (suc k)))) d low = absurd (omega (arith, low))
-
-  -- all was taken that was sent, so what was taken earlier is what it is taken for
-  pub settled_agrees : (taken rest all : List (Submission (Recorded (List Command)))) → AllTaken (passes_of results) all → all ≡ taken ++ rest → (ls : List Line) → AreResults ls queue results → TakenAgrees ls taken
-  settled_agrees taken rest all settled more ls h =
-      agrees_before ls taken rest all more
-      (each_port (λ p. All (IsListed ls) (lists_sent (of_port p all))) (one 0 results.zero (h 0 (omega arith)) (settled 0 results.zero.pass (omega arith))) (one 1 results.one (h 1 (omega arith)) (settled 1 results.zero.pass (omega arith))) (one 2 results.two (h 2 (omega arith)) (settled 2 results.zero.pass (omega arith))) (one 3 results.three (h 3 (omega arith)) (settled 3 results.zero.pass (omega arith))))
-    where
-      one : (p : ℕ) (r : RecorderResult A) → IsResultOf ls queue p r → of_port r.pass.port all ≡ r.pass.sent → All (IsListed ls) (lists_sent (of_port p all))
-      one p r is same =
-          let sent : of_port p all ≡ r.pass.sent = ap (λ n. of_port n all) (sym is.port_is) ∙ same in
-          subst (λ xs. All (IsListed ls) (lists_sent xs)) (sym sent) is.sent
+-- all was taken that was sent, so what was taken is what it is taken for
+pub settled_agrees : (ls : List Line) (queue : TableId) (passes : List (PortHistory (Recorded (List Command)))) (all : List (Submission (Recorded (List Command)))) → AreAll queue passes → AllTaken passes all → SentAgrees ls passes → TakenAgrees ls all
+settled_agrees ls queue passes all back taken sent p low =
+    let none : PortHistory (Recorded (List Command)) = record { queue = queue; port = 0; sent = [] } in
+    let numbers : List ℕ = 0 ∷ 1 ∷ 2 ∷ 3 ∷ [] in
+    let four = sym (length-map passes (λ (h : PortHistory (Recorded (List Command))). h.port)) ∙ ap length back.0 in
+    let inside : p < length passes = omega (arith, low, four) in
+    let number : slice_index_or numbers p 0 ≡ p = each_port (λ n. slice_index_or numbers n 0 ≡ n) refl refl refl refl p low in
+    let port_is = sym (get_or-map (λ (h : PortHistory (Recorded (List Command))). h.port) passes p none 0 inside) ∙ ap (λ ns. slice_index_or ns p 0) back.0 ∙ number in
+    subst (λ xs. All (IsListed ls) (lists_sent xs)) (sym (ap (λ n. of_port n all) (sym port_is) ∙ taken p none inside)) (sent p none inside)
 
 -- ---- one recorder
 
@@ -138,13 +119,13 @@ back_all P (x ∷ xs) ys h = back_all P xs ys (All-tail P x (xs ++ ys) h)
 same_way : (a b : Way) → Some a ≡ Some b → a ≡ b
 same_way a b h = ap (λ o. unwrap_or o a) h
 
-pub sent_and_kept : {A : Type 0} (ls : List Line) (queue : TableId) (number : ℕ) (s0 s : Sender) (r : RecorderResult A) → sender_way s ≡ sender_way s0 → s0 ≡ record { queue = queue; port = number; sent = []; kept = [] } → IsRecording ls number (sender_lists s0) (sender_lists s) r.end → record { queue = r.pass.queue; port = r.pass.port; sent = lists_sent r.pass.sent; kept = r.kept.items } ≡ s → IsResultOf ls queue number r
-sent_and_kept ls queue number s0 s r way start h is =
+pub sent_and_kept : {A : Type 0} (ls : List Line) (number : ℕ) (s0 s : Sender) (r : RecorderResult A) → sender_way s ≡ sender_way s0 → s0 ≡ record { queue = s0.queue; port = number; sent = []; kept = [] } → IsRecording ls number (sender_lists s0) (sender_lists s) r.end → record { queue = r.pass.queue; port = r.pass.port; sent = lists_sent r.pass.sent; kept = r.kept.items } ≡ s → IsResultOf ls s0.queue number r
+sent_and_kept ls number s0 s r way start h is =
     let w = same_way _ _ way in
     let listed = h.listed (subst (λ x. All (IsListed ls) (sender_lists x)) (sym start) (All-nil (IsListed ls))) in
     let both = subst (λ x. All (IsListed ls) (sender_lists x)) (sym is) listed in
     record {
-      queue_is = ap (λ (x : Sender). x.queue) is ∙ ap (λ (x : Way). x.queue) w ∙ ap (λ (x : Sender). x.queue) start;
+      queue_is = ap (λ (x : Sender). x.queue) is ∙ ap (λ (x : Way). x.queue) w;
       port_is = ap (λ (x : Sender). x.port) is ∙ ap (λ (x : Way). x.port) w ∙ ap (λ (x : Sender). x.port) start;
       sent = front_all (IsListed ls) (lists_sent r.pass.sent) r.kept.items both;
       kept = back_all (IsListed ls) (lists_sent r.pass.sent) r.kept.items both;
@@ -157,6 +138,10 @@ result_at t d r is h = subst (λ (x : Task). IsResultOf x.lines x.queue x.number
 pub lacks_same : {A : Type 0} (o : Option (RecorderResult A)) (r : RecorderResult A) → MatchOption o (Unit {0}) (λ q. r ≡ q) → (k n : ℕ) → LacksBy o k n → (end_in r.end k).lists ≤ n
 lacks_same None r same k n l = absurd l
 lacks_same (Some q) r same k n l = subst (λ (x : RecorderResult _). (end_in x.end k).lists ≤ n) (sym same) l
+
+pub lacks_by : {A : Type 0} (o : Option (RecorderResult A)) (end : RecordingEnd) → EndsWith o end → (k n : ℕ) → (end_in end k).lists ≤ n → LacksBy o k n
+lacks_by None end is k n few = is
+lacks_by (Some r) end is k n few = subst (λ e. (end_in e k).lists ≤ n) (sym is) few
 
 -- ---- one list more
 

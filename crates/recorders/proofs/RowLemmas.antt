@@ -1,13 +1,13 @@
 -- One more list in a row.
-use Rattle.std.proofs.Common.{◌≡◌, ◌∙◌, ap, sym, subst, ℕ, zero, suc, ◌<◌, ⊎_elim, arith, List, [], ◌∷◌, ◌++◌, length}
-use Rattle.std.specs.Prelude.{slice_index_or, OnOk, OnErr, Result, Ok, Err}
+use Rattle.std.proofs.Common.{◌≡◌, ◌∙◌, ap, sym, subst, refl, ℕ, zero, suc, ◌<◌, ⊎_elim, arith, cond, List, [], ◌∷◌, ◌++◌, length}
+use Rattle.std.specs.Prelude.{slice_index_or, map, set, is_ok, OnOk, OnErr, Result, Ok, Err}
 use Rattle.std.proofs.lemmas.Bool.{cases_lt, cases_eq}
-use Rattle.std.proofs.lemmas.List.{length_push, get_or_push, get_or-set_same, get_or-set_other}
+use Rattle.std.proofs.lemmas.List.{length-map, length_push, map-append, map-set, get_or-map, get_or_push, get_or-set_same, get_or-set_other}
 use Rattle.gfxspec.specs.Commands.{Command}
 use Rattle.scenetext.specs.Scene.{Line}
 use Rattle.recorders.specs.declared.recorded.Recorded.{Recorded}
 use Rattle.recorders.specs.Apart.{listed, IsListed}
-use Rattle.recorders.specs.Rows.{row, with_list, IsNext, IsRow, AreRows, no_rows}
+use Rattle.recorders.specs.Rows.{row, with_list, IsNext, IsRow, AreRows}
 use Rattle.recorders.proofs.Growing.{nth_low}
 
 row_push : (ls : List Line) (k : ℕ) (xs : List (List Command)) (x : List Command) → IsRow ls k xs → x ≡ listed ls k (length xs) → IsRow ls k (xs ++ x ∷ [])
@@ -28,20 +28,38 @@ pub added : {E : Type 0} (ls : List Line) (rows new : List (List (List Command))
 added ls rows new x (Ok u) ok err is h = subst (AreRows ls) (sym ok.1) (rows_more ls rows x ok.0 is h)
 added ls rows new x (Err e) ok err is h = subst (AreRows ls) (sym err) h
 
-pub rows_none : (ls : List Line) → AreRows ls no_rows
-rows_none ls k n low = absurd (none k low)
-  where
-    none : (k : ℕ) → n < length (row no_rows k) → ⊥
-    none zero low = omega (arith, low)
-    none (suc zero) low = omega (arith, low)
-    none (suc (suc zero)) low = omega (arith, low)
-    none (suc (suc (suc zero))) low = omega (arith, low)
-    none (suc (suc (suc (suc zero)))) low = omega (arith, low)
-    none (suc (suc (suc (suc (suc zero))))) low = omega (arith, low)
-    none (suc (suc (suc (suc (suc (suc zero)))))) low = omega (arith, low)
-    none (suc (suc (suc (suc (suc (suc (suc zero))))))) low = omega (arith, low)
-    none (suc (suc (suc (suc (suc (suc (suc (suc k)))))))) low = omega (arith, low)
+-- rows without lists
+pub rows_none : (ls : List Line) (rows : List (List (List Command))) → ((k : ℕ) → row rows k ≡ []) → AreRows ls rows
+rows_none ls rows none k n low = let empty = ap length (none k) in absurd (omega (arith, low, empty))
 
-pub on_ok : {X Y : Type 0} {P : Type 0} (Q : Type 0) (r : Result X Y) → P → OnOk r Q → OnOk r (P × Q)
-on_ok Q (Ok x) p q = (p, q)
-on_ok Q (Err e) p q = tt
+pub none_push : (rows : List (List (List Command))) (k : ℕ) → row (rows ++ [] ∷ []) k ≡ row rows k
+none_push [] zero = refl
+none_push [] (suc k) = refl
+none_push (r ∷ rows) zero = refl
+none_push (r ∷ rows) (suc k) = none_push rows k
+
+pub still_none : {X Y E : Type 0} (view : X → List (List Command)) (xs ys : List X) (x : X) (r : Result Y E) → ys ≡ cond (is_ok r) (xs ++ x ∷ []) xs → view x ≡ [] → ((k : ℕ) → row (map view xs) k ≡ []) → (k : ℕ) → row (map view ys) k ≡ []
+still_none view xs ys x (Ok u) is empty none k =
+    ap (λ zs. row (map view zs) k) is ∙ ap (λ rows. row rows k) (map-append view xs (x ∷ [])) ∙ ap (λ l. row (map view xs ++ l ∷ []) k) empty ∙ none_push (map view xs) k ∙ none k
+still_none view xs ys x (Err e) is empty none k = ap (λ zs. row (map view zs) k) is ∙ none k
+
+-- a list that is here has a row
+pub has_row : (rows : List (List (List Command))) (k n : ℕ) → n < length (row rows k) → k < length rows
+has_row [] k n low = absurd (omega (arith, low))
+has_row (r ∷ rows) zero n low = omega arith
+has_row (r ∷ rows) (suc k) n low = let rest = has_row rows k n low in omega (arith, rest)
+
+-- ---- a row of a vector of rows
+
+-- the next list was pushed onto it
+pub put_next : {X : Type 0} (view : X → List (List Command)) (xs : List X) (now : List (List (List Command))) (x : Recorded (List Command)) (asked old new : X) → map view xs ≡ now → x.context < length xs → asked ≡ slice_index_or xs x.context asked → x.number ≡ length (view asked) → old ≡ slice_index_or xs x.context old → view new ≡ view old ++ x.list ∷ [] → IsNext now x × (map view (set xs x.context new) ≡ with_list now x.context x.list)
+put_next {X = X} view xs now x asked old new is low asked_at count at more =
+    let here = λ (o : X) (e : o ≡ slice_index_or xs x.context o). ap view e ∙ sym (get_or-map view xs x.context o [] low) in
+    subst (λ rows. IsNext rows x × (map view (set xs x.context new) ≡ with_list rows x.context x.list)) is (
+      (subst (λ m. x.context < m) (sym (length-map xs view)) low, count ∙ ap length (here asked asked_at)),
+      map-set view xs x.context new ∙ ap (set (map view xs) x.context) (more ∙ ap (λ ls. ls ++ x.list ∷ []) (here old at)),
+    )
+
+pub on_err : {X Y : Type 0} {P : Type 0} (r : Result X Y) → P → OnErr r P
+on_err (Ok x) p = tt
+on_err (Err e) p = p

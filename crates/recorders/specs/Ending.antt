@@ -6,7 +6,7 @@ use Rattle.recorders.specs.declared.refusal.RefusedLine.{RefusedLine}
 use Rattle.recorders.specs.declared.refusal.ContextEnd.{ContextEnd}
 use Rattle.recorders.specs.declared.refusal.RecordingEnd.{RecordingEnd}
 use Rattle.recorders.specs.Apart.{listed, lists_behind, AcceptsTo, IsStopOf, stop_or}
-use Rattle.recorders.specs.Recorders.{IsEnd}
+use Rattle.recorders.specs.Recorders.{AreEnded, end_in, port_of}
 use Rattle.recorders.specs.Rows.{row}
 use Rattle.recorders.specs.Asking.{Asked}
 
@@ -16,10 +16,10 @@ earlier_of None b = b
 earlier_of (Some a) None = Some a
 earlier_of (Some a) (Some b) = if nat_lt b.place a.place then Some b else Some a
 
--- the first of these contexts' and one that is known
-abbrev pub first_of : Option RefusedLine → List ContextEnd → Option RefusedLine
+-- the first of these recorders' and one that is known
+abbrev pub first_of : Option RefusedLine → List RecordingEnd → Option RefusedLine
 first_of known [] = known
-first_of known (e ∷ ends) = first_of (earlier_of known e.refused) ends
+first_of known (e ∷ ends) = first_of (earlier_of known (earlier_of e.first.refused e.second.refused)) ends
 
 -- one of the eight contexts refused a line, or memory was refused in it
 abbrev pub IsStopOfSome : List Line → Option RefusedLine → Type 0
@@ -36,19 +36,23 @@ pub record AreRecorded (ls : List Line) (refused : Option RefusedLine) (missing 
   pub stop_is : IsStopOfSome ls refused
   pub missing_is : MatchOption missing (Unit {0}) (λ name. name.0 < 8 → Lacks ls refused name.0 name.1)
 
-abbrev pub end_at : List ContextEnd → ℕ → ContextEnd
-end_at ends k = slice_index_or ends k (record { lists = 0; refused = None })
+abbrev pub no_end : ContextEnd
+no_end = record { lists = 0; refused = None }
 
--- those of contexts 0 to 7, by their four recorders
-abbrev pub ends_by : RecordingEnd → RecordingEnd → RecordingEnd → RecordingEnd → List ContextEnd
-ends_by a b c d = a.first ∷ b.first ∷ c.first ∷ d.first ∷ a.second ∷ b.second ∷ c.second ∷ d.second ∷ []
+-- how the contexts of recorder p end
+abbrev pub pair_at : List RecordingEnd → ℕ → RecordingEnd
+pair_at ends p = slice_index_or ends p (record { first = no_end; second = no_end })
 
--- how the eight contexts end
-abbrev pub AreEnds : List Line → List ContextEnd → Type 0
-AreEnds ls ends = (length ends ≡ 8) × ((k : ℕ) → k < 8 → IsEnd ls k (end_at ends k))
+-- how context k ends
+abbrev pub end_at : List RecordingEnd → ℕ → ContextEnd
+end_at ends k = end_in (pair_at ends (port_of k)) k
+
+-- how the eight contexts end, by their four recorders
+abbrev pub AreEnds : List Line → List RecordingEnd → Type 0
+AreEnds ls ends = (length ends ≡ 4) × ((p : ℕ) → p < 4 → AreEnded ls p (pair_at ends p))
 
 -- context k finished no list of this number
-abbrev pub EndsLack : List ContextEnd → ℕ → ℕ → Type 0
+abbrev pub EndsLack : List RecordingEnd → ℕ → ℕ → Type 0
 EndsLack ends k n = (end_at ends k).lists ≤ n
 
 -- ---- recorded alone
@@ -56,7 +60,7 @@ EndsLack ends k n = (end_at ends k).lists ≤ n
 pub record Alone : Type 0 where
   pub lines : List Line
   pub rows : List (List (List Command))
-  pub ends : List ContextEnd
+  pub ends : List RecordingEnd
 
 abbrev pub alone_frame : Alone → Asked
 alone_frame s = record { lines = s.lines; queue = None }

@@ -1,27 +1,32 @@
 -- The caller's side of the ports: which lists came from which recorder (this project's own).
-use Rattle.std.specs.Prelude.{ℕ, ◌≡◌, ◌<◌, ◌≤◌, List, [], ◌++◌, length, All, Option, Some, None}
+use Rattle.std.specs.Prelude.{ℕ, ◌≡◌, ◌<◌, ◌≤◌, List, [], ◌∷◌, ◌++◌, length, All, Option, Some, None}
 use Rattle.atomic_table.specs.Seated.{TableId}
 use Rattle.gfxspec.specs.Commands.{Command}
 use Rattle.scenetext.specs.Scene.{Line}
 use Rattle.port.specs.declared.submission.Submission.{Submission}
-use Rattle.port.specs.History.{of_port, port_history, drain_history}
-use Rattle.recorders.specs.declared.by_port.ByPort.{ByPort}
+use Rattle.port.specs.History.{PortHistory, of_port, port_history, drain_history, AreAll}
 use Rattle.recorders.specs.declared.ports.Passes.{Passes}
+use Rattle.recorders.specs.declared.ports.RecorderResults.{RecorderResults}
 use Rattle.recorders.specs.declared.ports.Returned.{Returned}
+use Rattle.recorders.specs.declared.ports.ByPort.{ByPort}
 use Rattle.recorders.specs.declared.recorded.Recorded.{Recorded}
 use Rattle.recorders.specs.declared.recorder.RecorderResult.{RecorderResult}
-use Rattle.recorders.specs.declared.refusal.ContextEnd.{ContextEnd}
-use Rattle.recorders.specs.Ports.{at_port, port_of}
+use Rattle.recorders.specs.declared.refusal.RecordingEnd.{RecordingEnd}
+use Rattle.recorders.specs.Ports.{at_port}
 use Rattle.recorders.specs.Sinks.{lists_sent}
 use Rattle.recorders.specs.Apart.{listed, IsListed}
-use Rattle.recorders.specs.Recorders.{AreEnded, end_in}
+use Rattle.recorders.specs.Recorders.{AreEnded, end_in, port_of}
 use Rattle.recorders.specs.Rows.{row}
 use Rattle.recorders.specs.Asking.{Asked}
-use Rattle.recorders.specs.Ending.{ends_by}
+use Rattle.recorders.specs.Ending.{AreEnds, EndsLack}
 
 -- what was taken of each port are the lists that their contexts and numbers name
 abbrev pub TakenAgrees : List Line → List (Submission (Recorded (List Command))) → Type 0
 TakenAgrees ls taken = (p : ℕ) → p < 4 → All (IsListed ls) (lists_sent (of_port p taken))
+
+-- what ports sent are the lists that their contexts and numbers name
+abbrev pub SentAgrees : List Line → List (PortHistory (Recorded (List Command))) → Type 0
+SentAgrees ls passes = All (λ h. All (IsListed ls) (lists_sent h.sent)) passes
 
 -- passes that have sent nothing, each at its number, and a drain that has taken nothing
 pub record AreNew {A : Type 0} (queue : TableId) (passes : Passes A) : Type 0 where
@@ -64,6 +69,11 @@ module _ {A : Type 0} where
   LacksBy None k n = ⊥
   LacksBy (Some r) k n = (end_in r.end k).lists ≤ n
 
+  -- joined, and its contexts ended so
+  abbrev pub EndsWith : Option (RecorderResult A) → RecordingEnd → Type 0
+  EndsWith None end = ⊥
+  EndsWith (Some r) end = r.end ≡ end
+
   -- the same recorders, but for what they handed over
   abbrev pub AreSameRecorders : ByPort (RecorderSeen A) → ByPort (RecorderSeen A) → Type 0
   AreSameRecorders old new = (p : ℕ) → (at_port new p).task ≡ (at_port old p).task
@@ -98,17 +108,15 @@ module _ {A : Type 0} where
   -- ---- at the end
 
   -- what the four recorders hand over
-  abbrev pub AreResults : List Line → TableId → ByPort (RecorderResult A) → Type 0
-  AreResults ls queue results = (p : ℕ) → p < 4 → IsResultOf ls queue p (at_port results p)
+  pub record AreResults (ls : List Line) (queue : TableId) (results : RecorderResults A) : Type 0 where
+    pub back : AreAll queue results.passes
+    pub sent : SentAgrees ls results.passes
+    pub ends : AreEnds ls results.ends
 
   -- there is no list of this number
-  abbrev pub ResultsLack : ByPort (RecorderResult A) → ℕ → ℕ → Type 0
-  ResultsLack results k n = (end_in (at_port results (port_of k)).end k).lists ≤ n
+  abbrev pub ResultsLack : RecorderResults A → ℕ → ℕ → Type 0
+  ResultsLack results k n = EndsLack results.ends k n
 
   -- each pass is back, at its number, and the drain
   abbrev pub AreBack : TableId → Returned A → Type 0
-  AreBack queue r =
-      (r.drain.queue ≡ queue) × ((p : ℕ) → p < 4 → ((at_port r.results p).pass.queue ≡ queue) × ((at_port r.results p).pass.port ≡ p))
-
-  abbrev pub ends_of : ByPort (RecorderResult A) → List ContextEnd
-  ends_of r = ends_by r.zero.end r.one.end r.two.end r.three.end
+  AreBack queue r = AreAll queue r.results.passes × (r.drain.queue ≡ queue)

@@ -1,5 +1,5 @@
 -- What the recorder of contexts k and k + 4 gives (this project's own).
-use Rattle.std.specs.Prelude.{ℕ, ◌≡◌, ◌+◌, nat_lt, List, length, All, Option, if◌then◌else◌}
+use Rattle.std.specs.Prelude.{ℕ, ◌≡◌, ◌+◌, ◌-◌, nat_lt, List, length, All, Option, if◌then◌else◌}
 use Rattle.gfxspec.specs.Commands.{Command}
 use Rattle.scenetext.specs.Scene.{Line}
 use Rattle.recorders.specs.declared.recorded.Recorded.{Recorded}
@@ -21,6 +21,10 @@ IsEnd ls k e = HasRecorded ls k (length ls) e.lists e.refused
 pub record AreEnded (ls : List Line) (k : ℕ) (e : RecordingEnd) : Type 0 where
   pub first_is : IsEnd ls k e.first
   pub second_is : IsEnd ls (k + 4) e.second
+
+-- the recorder of context k, and the port that its lists go by
+abbrev pub port_of : ℕ → ℕ
+port_of k = if nat_lt k 4 then k else k - 4
 
 abbrev pub end_in : RecordingEnd → ℕ → ContextEnd
 end_in e k = if nat_lt k 4 then e.first else e.second

@@ -1,12 +1,9 @@
--- The lists of the eight contexts that are here: a row for each, in the order of their numbers.
+-- The lists of the eight contexts that are here: a row for each that there is, in the order of their numbers.
 use Rattle.std.specs.Prelude.{ℕ, ◌≡◌, ◌<◌, List, [], ◌∷◌, ◌++◌, length, set, slice_index_or}
 use Rattle.gfxspec.specs.Commands.{Command}
 use Rattle.scenetext.specs.Scene.{Line}
 use Rattle.recorders.specs.declared.recorded.Recorded.{Recorded}
 use Rattle.recorders.specs.Apart.{listed}
-
-abbrev pub no_rows : List (List (List Command))
-no_rows = [] ∷ [] ∷ [] ∷ [] ∷ [] ∷ [] ∷ [] ∷ [] ∷ []
 
 abbrev pub row : List (List (List Command)) → ℕ → List (List Command)
 row rows k = slice_index_or rows k []

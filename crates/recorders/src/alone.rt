@@ -4,7 +4,7 @@ ghost use Rattle.std.specs.Prelude.{◌≡◌, ◌<◌, map};
 ghost use Rattle.scenetext.specs.Seen.{line_value};
 
 use crate::context::record_lines;
-use crate::refusal::{ContextEnd, RefusedLine, first_refused};
+use crate::refusal::{RecordingEnd, RefusedLine, first_refused};
 use crate::rows::ListRows;
 use crate::source::ListSource;
 use cmdlist::CommandList;
@@ -17,7 +17,7 @@ use std::marker::Model;
 pub struct RecordedLists<'a, A: Allocator> {
     lines: &'a [Line<A>],
     rows: ListRows<A>,
-    ends: [ContextEnd; 8],
+    ends: [RecordingEnd; 4],
 }
 
 impl<'a, A: Allocator> Model for RecordedLists<'a, A> {
@@ -64,7 +64,8 @@ impl<'a, A: Allocator> ListSource<CommandList<A>> for RecordedLists<'a, A> {
         if self.rows.has(context, number) {
             return Ok(true);
         }
-        if u64::from(number) < self.ends[context as usize].lists {
+        let end = self.ends[(context % 4) as usize].of_context(context);
+        if u64::from(number) < end.lists {
             return Err(AllocError);
         }
         Ok(false)
@@ -86,21 +87,13 @@ pub fn record_alone<A: Allocator + Copy>(alloc: A, lines: &[Line<A>]) -> Recorde
     ensures { result.lines ≡ map line_value lines.now }
 {
     let mut kept = Vec::new(alloc);
-    let zero = record_lines(alloc, lines, 0, &mut kept);
-    let one = record_lines(alloc, lines, 1, &mut kept);
-    let two = record_lines(alloc, lines, 2, &mut kept);
-    let three = record_lines(alloc, lines, 3, &mut kept);
+    let ends = [
+        record_lines(alloc, lines, 0, &mut kept),
+        record_lines(alloc, lines, 1, &mut kept),
+        record_lines(alloc, lines, 2, &mut kept),
+        record_lines(alloc, lines, 3, &mut kept),
+    ];
     let mut rows = ListRows::new(alloc);
     rows.add_all(kept);
-    let ends = [
-        zero.first,
-        one.first,
-        two.first,
-        three.first,
-        zero.second,
-        one.second,
-        two.second,
-        three.second,
-    ];
     RecordedLists { lines, rows, ends }
 }

@@ -17,7 +17,6 @@
 #![tactic(auto)]
 
 mod alone;
-mod by_port;
 mod calls;
 mod context;
 mod ports;

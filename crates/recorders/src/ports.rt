@@ -2,16 +2,24 @@
 
 ghost use Rattle.std.specs.Prelude.{◌≡◌, ◌<◌, ℕ, List, Option, IfOk, MatchOption};
 ghost use Rattle.scenetext.specs.Scene.{Line as PlainLine};
-ghost use Rattle.recorders.specs.Receiving.{AreNew, AreResults, TakenAgrees, ResultsLack, AreBack, ends_of};
+ghost use Rattle.port.specs.History.{AreAll};
+ghost use Rattle.recorders.specs.Receiving.{AreNew, AreResults, TakenAgrees, SentAgrees, ResultsLack, AreBack};
 ghost use Rattle.recorders.specs.Ending.{AreRecorded};
 
-use crate::by_port::ByPort;
 use crate::recorded::{ListPass, ListPorts, RecordedList};
-use crate::recorder::RecorderResult;
-use crate::refusal::{ContextEnd, RefusedLine, first_refused};
+use crate::refusal::{RecordingEnd, RefusedLine, first_refused};
 use port::{DrainPass, Ports};
 use std::alloc::{AllocError, Allocator};
 use std::sync::Wait;
+
+/// One value for each of the four ports.
+#[derive(Drop)]
+pub struct ByPort<T> {
+    pub(crate) zero: T,
+    pub(crate) one: T,
+    pub(crate) two: T,
+    pub(crate) three: T,
+}
 
 /// The rights to send, one for each recorder, and the caller's right to take.
 #[derive(Drop)]
@@ -20,10 +28,17 @@ pub struct Passes<A: Allocator> {
     pub(crate) drain: DrainPass<RecordedList<A>>,
 }
 
+/// What the four joined recorders hand over: their passes, and how their contexts ended.
+#[derive(Drop)]
+pub struct RecorderResults<A: Allocator> {
+    pub(crate) passes: [ListPass<A>; 4],
+    pub(crate) ends: [RecordingEnd; 4],
+}
+
 /// What joined recorders hand over, and the caller's right to take.
 #[derive(Drop)]
 pub struct Returned<A: Allocator> {
-    pub(crate) results: ByPort<RecorderResult<A>>,
+    pub(crate) results: RecorderResults<A>,
     pub(crate) drain: DrainPass<RecordedList<A>>,
 }
 
@@ -52,34 +67,16 @@ pub fn open_ports<A: Allocator + Copy>(alloc: A) -> Result<(ListPorts<A>, Passes
 fn settle_all<A: Allocator, R: Wait>(
     rt: &R,
     ports: ListPorts<A>,
-    returned: Returned<A>,
-) -> [ContextEnd; 8]
-    requires { AreBack ports.queue returned }
-    ensures ends { result ≡ ends_of returned.results }
-    ensures agrees { (ls : List PlainLine) → AreResults ls ports.queue returned.results → TakenAgrees ls returned.drain.taken }
+    passes: [ListPass<A>; 4],
+    drain: DrainPass<RecordedList<A>>,
+)
+    requires { AreAll ports.queue passes × (drain.queue ≡ ports.queue) }
+    ensures { (ls : List PlainLine) → SentAgrees ls passes → TakenAgrees ls drain.taken }
 {
-    let ByPort {
-        zero,
-        one,
-        two,
-        three,
-    } = returned.results;
-    let ends = [
-        zero.end.first,
-        one.end.first,
-        two.end.first,
-        three.end.first,
-        zero.end.second,
-        one.end.second,
-        two.end.second,
-        three.end.second,
-    ];
-    let mut ports = ports;
-    let mut passes = [zero.pass, one.pass, two.pass, three.pass];
-    let mut drain = returned.drain;
+    let (mut ports, mut passes, mut drain) = (ports, passes, drain);
     for _ in rt.forever() {
         match ports.settle(passes, drain) {
-            Ok(_) => return ends,
+            Ok(_) => return,
             Err(back) => {
                 ports = back.1;
                 passes = back.2;
@@ -103,6 +100,8 @@ pub fn settle<A: Allocator, R: Wait>(
     ensures refused { (ls : List PlainLine) (missing : Option (ℕ × ℕ)) → AreResults ls ports.queue returned.results
         → MatchOption missing (Unit {0}) (λ name. name.0 < 8 → ResultsLack returned.results name.0 name.1) → AreRecorded ls result missing }
 {
-    let ends = settle_all(rt, ports, returned);
+    let Returned { results, drain } = returned;
+    let RecorderResults { passes, ends } = results;
+    settle_all(rt, ports, passes, drain);
     first_refused(&ends)
 }

@@ -4,13 +4,14 @@ ghost use Rattle.std.specs.Prelude.{◌≡◌, ◌<◌, ℕ, All, map, Some, IfO
 ghost use Rattle.scenetext.specs.Seen.{line_value};
 ghost use Rattle.port.specs.History.{drain_history};
 ghost use Rattle.recorders.specs.Apart.{IsListed};
-ghost use Rattle.recorders.specs.Ports.{at_port, port_of};
-ghost use Rattle.recorders.specs.Receiving.{receipt_frame, receipt_right, ReceiptAgrees, ReceiptHolds, ReceiptLacks, AreNew, AreResults, ResultsLack, AreSameRecorders, IsMore};
+ghost use Rattle.recorders.specs.Ports.{at_port};
+ghost use Rattle.recorders.specs.Recorders.{port_of};
+ghost use Rattle.recorders.specs.Receiving.{receipt_frame, receipt_right, ReceiptAgrees, ReceiptHolds, ReceiptLacks, AreNew, AreResults, ResultsLack, AreSameRecorders, EndsWith, IsMore};
 
-use crate::by_port::ByPort;
-use crate::ports::{Passes, Returned};
+use crate::ports::{ByPort, Passes, RecorderResults, Returned};
 use crate::recorded::{ListPorts, RecordedList};
 use crate::recorder::{Recorder, RecorderSetup, start};
+use crate::refusal::RecordingEnd;
 use crate::rows::ListRows;
 use crate::source::ListSource;
 use cmdlist::CommandList;
@@ -47,16 +48,17 @@ impl<'a, A: Allocator, R: Threads + Wait> Model for ReceivedLists<'a, A, R> {
     ghost invariant = { λ s. (s.drain.queue ≡ s.ports.now.queue) × AreRecorders (map line_value s.lines.now) s.ports.now.queue s.recorders × (TakenAgrees (map line_value s.lines.now) s.drain.taken → AreRows (map line_value s.lines.now) s.rows) };
 }
 
-/// Joins the recorder of a context, and takes the lists that it did not send.
+/// Joins the recorder of a context, and takes the lists that it did not send, and how its contexts ended.
 fn join_of<'a, A: Allocator, R: Threads>(
     rt: &R,
     alloc: A,
     recorders: &mut ByPort<Recorder<'a, A>>,
     context: u32,
-) -> Vec<RecordedList<A>, A>
+) -> (Vec<RecordedList<A>, A>, RecordingEnd)
     requires { context < 8 }
     ensures same { AreSameRecorders recorders.old recorders.new }
-    ensures listed { All (IsListed (at_port recorders.old (port_of context)).task.lines) result.items }
+    ensures listed { All (IsListed (at_port recorders.old (port_of context)).task.lines) result.0.items }
+    ensures end { EndsWith (at_port recorders.new (port_of context)).result result.1 }
 {
     match context {
         0 | 4 => recorders.zero.join(rt, alloc),
@@ -70,6 +72,7 @@ impl<'a, A: Allocator + Copy, R: Threads + Wait> ReceivedLists<'a, A, R> {
     /// Takes a list out and puts it onto its row. False where the queue is empty.
     fn take_one(&mut self) -> Result<bool, AllocError>
         ensures more { IsMore self.old self.new }
+        ensures same { self.new.recorders ≡ self.old.recorders }
     {
         let Some(next) = self.ports.next(self.rt, &mut self.drain) else {
             return Ok(false);
@@ -81,6 +84,7 @@ impl<'a, A: Allocator + Copy, R: Threads + Wait> ReceivedLists<'a, A, R> {
     /// Takes all lists out that are there.
     fn take_all(&mut self) -> Result<(), AllocError>
         ensures more { IsMore self.old self.new }
+        ensures same { self.new.recorders ≡ self.old.recorders }
     {
         let rt = self.rt;
         for _ in rt.forever() {
@@ -91,15 +95,17 @@ impl<'a, A: Allocator + Copy, R: Threads + Wait> ReceivedLists<'a, A, R> {
         unreachable!()
     }
 
-    /// Joins the recorder of a context, and takes its lists: those that it sent, and then the others.
-    fn join(&mut self, context: u32) -> Result<(), AllocError>
+    /// Joins the recorder of a context, takes its lists, those that it sent and then the others, and says how its contexts
+    /// ended.
+    fn join(&mut self, context: u32) -> Result<RecordingEnd, AllocError>
         requires { context < 8 }
         ensures more { IsMore self.old self.new }
+        ensures end { IfOk result (EndsWith (at_port self.new.recorders (port_of context)).result) }
     {
-        let kept = join_of(self.rt, self.alloc, &mut self.recorders, context);
+        let (kept, end) = join_of(self.rt, self.alloc, &mut self.recorders, context);
         self.take_all()?;
         self.rows.add_all(kept);
-        Ok(())
+        Ok(end)
     }
 }
 
@@ -119,17 +125,13 @@ impl<'a, A: Allocator, R: Threads + Wait> ReceivedLists<'a, A, R> {
             recorders,
             rows: _,
         } = self;
-        let ByPort {
-            zero,
-            one,
-            two,
-            three,
-        } = recorders;
-        let results = ByPort {
-            zero: zero.close(rt),
-            one: one.close(rt),
-            two: two.close(rt),
-            three: three.close(rt),
+        let zero = recorders.zero.close(rt);
+        let one = recorders.one.close(rt);
+        let two = recorders.two.close(rt);
+        let three = recorders.three.close(rt);
+        let results = RecorderResults {
+            passes: [zero.pass, one.pass, two.pass, three.pass],
+            ends: [zero.end, one.end, two.end, three.end],
         };
         Returned { results, drain }
     }
@@ -157,11 +159,11 @@ impl<'a, A: Allocator + Copy, R: Threads + Wait> ListSource<CommandList<A>>
         if self.rows.has(context, number) {
             return Ok(true);
         }
-        self.join(context)?;
+        let end = self.join(context)?;
         if self.rows.has(context, number) {
             return Ok(true);
         }
-        if self.recorders.of_context(context).may_give(context, number) {
+        if u64::from(number) < end.of_context(context).lists {
             return Err(AllocError);
         }
         Ok(false)
@@ -193,17 +195,11 @@ pub fn receive<
     requires { AreNew setup.ports.now.queue passes }
     ensures frame { receipt_frame result ≡ record { lines = map line_value setup.entry.lines.now; queue = Some setup.entry.ports.now.queue } }
 {
-    let ByPort {
-        zero,
-        one,
-        two,
-        three,
-    } = passes.recorders;
     let recorders = ByPort {
-        zero: start(scope, &setup, zero, 0),
-        one: start(scope, &setup, one, 1),
-        two: start(scope, &setup, two, 2),
-        three: start(scope, &setup, three, 3),
+        zero: start(scope, &setup, passes.recorders.zero, 0),
+        one: start(scope, &setup, passes.recorders.one, 1),
+        two: start(scope, &setup, passes.recorders.two, 2),
+        three: start(scope, &setup, passes.recorders.three, 3),
     };
     ReceivedLists {
         rt: setup.rt,

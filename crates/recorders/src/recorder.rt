@@ -1,10 +1,10 @@
 //! A recorder's thread, as the caller holds it.
 
-ghost use Rattle.std.specs.Prelude.{◌≡◌, ◌<◌, [], All, map, MatchBool, MatchOption};
+ghost use Rattle.std.specs.Prelude.{◌≡◌, ◌<◌, [], All, map, MatchOption, IsSome};
 ghost use Rattle.port.specs.History.{port_history};
 ghost use Rattle.scenetext.specs.Seen.{line_value};
 ghost use Rattle.recorders.specs.Apart.{IsListed};
-ghost use Rattle.recorders.specs.Receiving.{IsResultOf, LacksBy};
+ghost use Rattle.recorders.specs.Receiving.{IsResultOf, EndsWith};
 
 use crate::context::record_lines;
 use crate::recorded::{ListPass, ListPorts, RecordedList};
@@ -74,22 +74,17 @@ impl<'a, A: Allocator> Model for Recorder<'a, A> {
 
 /// Takes the lines of contexts `number` and `number + 4`, and sends their lists.
 fn record_and_send<A: Allocator + Copy, R: Wait, G: Gate>(
-    setup: &RecorderSetup<'_, A, R, G>,
-    pass: ListPass<A>,
+    alloc: A,
+    lines: &[Line<A>],
+    sender: ListSender<'_, A, R, G>,
     number: u32,
 ) -> RecorderResult<A>
-    requires pass { pass ≡ port_history setup.now.ports.now.queue number [] }
+    requires sender { sender ≡ record { queue = sender.queue; port = number; sent = []; kept = [] } }
     requires number { number < 4 }
-    ensures { IsResultOf (map line_value setup.now.lines.now) setup.now.ports.now.queue number result }
+    ensures { IsResultOf (map line_value lines.now) sender.entry.queue number result }
 {
-    let mut sender = ListSender {
-        rt: setup.rt,
-        ports: setup.ports,
-        gate: setup.gate,
-        pass,
-        kept: Vec::new(setup.alloc),
-    };
-    let end = record_lines(setup.alloc, setup.lines, number, &mut sender);
+    let mut sender = sender;
+    let end = record_lines(alloc, lines, number, &mut sender);
     let ListSender {
         rt: _,
         ports: _,
@@ -129,8 +124,14 @@ pub(crate) fn start<
     requires number { number < 4 }
     ensures { result.task ≡ record { lines = map line_value setup.now.lines.now; queue = setup.now.ports.now.queue; number = number } }
 {
-    let (rt, alloc, gate) = (setup.rt, setup.alloc, setup.gate);
-    let (ports, lines) = (setup.ports, setup.lines);
+    let (alloc, ports, lines) = (setup.alloc, setup.ports, setup.lines);
+    let sender = ListSender {
+        rt: setup.rt,
+        ports,
+        gate: setup.gate,
+        pass,
+        kept: Vec::new(alloc),
+    };
     let task = RecorderTask {
         lines,
         ports,
@@ -145,19 +146,10 @@ pub(crate) fn start<
         return Recorder {
             task,
             thread: None,
-            result: Some(record_and_send(setup, pass, number)),
+            result: Some(record_and_send(alloc, lines, sender, number)),
         };
     }
-    match scope.spawn_with(promise, move || {
-        let setup = RecorderSetup {
-            rt,
-            alloc,
-            ports,
-            gate,
-            lines,
-        };
-        record_and_send(&setup, pass, number)
-    }) {
+    match scope.spawn_with(promise, move || record_and_send(alloc, lines, sender, number)) {
         Ok(thread) => Recorder {
             task,
             thread: Some(thread),
@@ -174,33 +166,27 @@ pub(crate) fn start<
 impl<'a, A: Allocator> Recorder<'a, A> {
     /// Joins the thread, if it was not joined.
     fn wait<R: Threads>(&mut self, rt: &R)
-        ensures { self.new.task ≡ self.old.task }
+        ensures { (self.new.task ≡ self.old.task) × IsSome self.new.result }
     {
         if let Some(thread) = self.thread.take() {
             self.result = Some(thread.join(rt));
         }
     }
 
-    /// Joins the thread, if it was not joined, and takes the lists that it did not send.
-    pub(crate) fn join<R: Threads>(&mut self, rt: &R, alloc: A) -> Vec<RecordedList<A>, A>
+    /// Joins the thread, if it was not joined, and takes the lists that it did not send, and how its contexts ended.
+    pub(crate) fn join<R: Threads>(
+        &mut self,
+        rt: &R,
+        alloc: A,
+    ) -> (Vec<RecordedList<A>, A>, RecordingEnd)
         ensures same { self.new.task ≡ self.old.task }
-        ensures listed { All (IsListed self.old.task.lines) result.items }
+        ensures listed { All (IsListed self.old.task.lines) result.0.items }
+        ensures end { EndsWith self.new.result result.1 }
     {
         self.wait(rt);
         match &mut self.result {
-            None => Vec::new(alloc),
-            Some(result) => mem::replace(&mut result.kept, Vec::new(alloc)),
-        }
-    }
-
-    /// Whether a list may still come: the recorder was not joined, or it finished that list.
-    pub(crate) fn may_give(&self, context: u32, number: u32) -> bool
-        ensures { MatchBool result (Unit {0}) (LacksBy self.now.result context number) }
-    {
-        let _ = &self.task;
-        match &self.result {
-            None => true,
-            Some(result) => u64::from(number) < result.end.of_context(context).lists,
+            None => unreachable!(),
+            Some(result) => (mem::replace(&mut result.kept, Vec::new(alloc)), result.end),
         }
     }
 

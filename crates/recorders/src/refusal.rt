@@ -48,12 +48,12 @@ pub fn earlier(first: Option<RefusedLine>, second: Option<RefusedLine>) -> Optio
 }
 
 /// The first line that one of the eight contexts refused.
-pub(crate) fn first_refused(ends: &[ContextEnd; 8]) -> Option<RefusedLine>
+pub(crate) fn first_refused(ends: &[RecordingEnd; 4]) -> Option<RefusedLine>
     ensures { result ≡ first_of None ends.now }
 {
     let mut first = None;
     for end in ends {
-        first = earlier(first, end.refused);
+        first = earlier(first, earlier(end.first.refused, end.second.refused));
     }
     first
 }

@@ -41,6 +41,7 @@ impl<A: Allocator> ListSink<CommandList<A>> for Vec<Recorded<CommandList<A>>, A>
 }
 
 /// Sends a recorder's lists through its port. Once one came back, it and all that follow are kept.
+#[derive(Drop)]
 pub(crate) struct ListSender<'a, A: Allocator, R: Wait, G: Gate> {
     pub(crate) rt: &'a R,
     pub(crate) ports: &'a ListPorts<A>,

@@ -1,4 +1,4 @@
-use Rattle.std.proofs.Common.{◌≡◌, ◌++◌, ◌∷◌, [], List}
+use Rattle.std.proofs.Common.{◌≡◌, ◌++◌, List}
 use Rattle.gfxspec.specs.Commands.{Command}
 use Rattle.port.specs.declared.submission.Submission.{Submission}
 use Rattle.recorders.specs.declared.recorded.Recorded.{Recorded}
@@ -7,7 +7,7 @@ use Rattle.recorders.proofs.ports.settle_all.Given as goal
 abbrev pub invariant-loop : goal.invariant-loop
 invariant-loop g l = record {
   ports : l.ports.queue ≡ l.fn.ports.queue;
-  passes : l.passes ≡ l.fn.returned.results.zero.pass ∷ l.fn.returned.results.one.pass ∷ l.fn.returned.results.two.pass ∷ l.fn.returned.results.three.pass ∷ [];
+  passes : l.passes ≡ l.fn.passes;
   drain : l.drain.queue ≡ l.fn.ports.queue;
-  more : (rest : List (Submission (Recorded (List Command)))) × (l.drain.taken ≡ l.fn.returned.drain.taken ++ rest);
+  more : (rest : List (Submission (Recorded (List Command)))) × (l.drain.taken ≡ l.fn.drain.taken ++ rest);
 }

@@ -1,7 +1,7 @@
 use Rattle.std.proofs.Common.{◌∙◌, ap, sym, subst, map}
 use Rattle.std.specs.Prelude.{All}
 use Rattle.scenetext.specs.Seen.{line_value}
-use Rattle.recorders.specs.Ports.{port_of}
+use Rattle.recorders.specs.Recorders.{port_of}
 use Rattle.recorders.specs.Apart.{IsListed}
 use Rattle.recorders.specs.Asking.{Asked}
 use Rattle.recorders.specs.Receiving.{Receipts, Task}
@@ -16,5 +16,5 @@ invariant_of-self-2 g c =
       c.self-2.invariant.0,
       c.self-2.invariant.1,
       λ agrees. c.add_all.ensures (map line_value c.self-2.inside.lines.now)
-          (subst (λ ls. All (IsListed ls) c.join_of-kept.result.items) (before ∙ sym same) c.join_of-kept.ensures.listed) (c.self-2.invariant.2 agrees),
+          (subst (λ ls. All (IsListed ls) c.join_of-kept.result.0.items) (before ∙ sym same) c.join_of-kept.ensures.listed) (c.self-2.invariant.2 agrees),
     )

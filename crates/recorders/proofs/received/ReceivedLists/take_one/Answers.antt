@@ -21,6 +21,7 @@ returns-in_err-add g c = record {
     rest = c.in-Some.next ∷ [];
     more = ap (λ (p : DrainHistory _). p.taken) c.in-Some.ensures.2 ∙ ap (λ (r : Receipts _). r.taken ++ c.in-Some.next ∷ []) c.self.view_is;
   };
+  same = ap (λ (r : Receipts _). r.recorders) c.self.view_is;
 }
 
 pub invariant_of-self-2 : goal.invariant_of-self-2
@@ -40,4 +41,5 @@ returns g c = record {
     rest = c.in-Some.next ∷ [];
     more = ap (λ (p : DrainHistory _). p.taken) c.in-Some.ensures.2 ∙ ap (λ (r : Receipts _). r.taken ++ c.in-Some.next ∷ []) c.self.view_is;
   };
+  same = ap (λ (r : Receipts _). r.recorders) c.self.view_is;
 }
