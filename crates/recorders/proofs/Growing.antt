@@ -1,7 +1,7 @@
 -- Lists that a context has finished stay.
 use Rattle.std.proofs.Common.{◌≡◌, ◌∙◌, ap, sym, refl, ℕ, zero, suc, ◌+◌, ◌<◌, ◌≤◌, arith, List, [], ◌∷◌, ◌++◌, length, take, drop, append_assoc}
 use Rattle.std.specs.Prelude.{slice_index_or, filter_map}
-use Rattle.std.proofs.lemmas.List.{append-nil, length-append, take-append-drop, take-take}
+use Rattle.std.proofs.lemmas.List.{append-nil, get_or_append_left, length-append, take-append-drop, take-take}
 use Rattle.std.proofs.lemmas.List.Elements.{filter_map-append}
 use Rattle.gfxspec.specs.Commands.{Command}
 use Rattle.scenetext.specs.Scene.{Verb, Call, Finish, Line}
@@ -20,16 +20,6 @@ grows r (Finish restore ∷ vs) =
 grows r (Call c ∷ vs) = grows (recording_with (Call c) r) vs
 grows r (v ∷ vs) = grows r vs
 
-pub nth_low : (xs ys : List (List Command)) (n : ℕ) → n < length xs → slice_index_or (xs ++ ys) n [] ≡ slice_index_or xs n []
-nth_low [] ys n h = absurd (omega (arith, h))
-nth_low (x ∷ xs) ys zero h = refl
-nth_low (x ∷ xs) ys (suc n) h = nth_low xs ys n (omega (arith, h))
-
-pub nth_high : (xs ys : List (List Command)) (n m : ℕ) → n ≡ length xs + m → slice_index_or (xs ++ ys) n [] ≡ slice_index_or ys m []
-nth_high [] ys n m h = let same : n ≡ m = omega (arith, h) in ap (λ k. slice_index_or ys k []) same
-nth_high (x ∷ xs) ys zero m h = absurd (omega (arith, h))
-nth_high (x ∷ xs) ys (suc n) m h = nth_high xs ys n m (omega (arith, h))
-
 pub lists_grow : (k i : ℕ) (ls : List Line) → (more : List (List Command)) × ((recording_of k ls).lists ≡ lists_behind ls k i ++ more)
 lists_grow k i ls =
     let before = filter_map (verb_of k) (take i ls) in
@@ -39,7 +29,7 @@ lists_grow k i ls =
     (g.0, ap (λ vs. (recording_after nothing_recorded vs).lists) all ∙ ap (λ (r : Recording). r.lists) (after-append nothing_recorded before behind) ∙ g.1)
 
 pub listed_early : (k i n : ℕ) (ls : List Line) → n < length (lists_behind ls k i) → listed ls k n ≡ slice_index_or (lists_behind ls k i) n []
-listed_early k i n ls h = let g = lists_grow k i ls in ap (λ xs. slice_index_or xs n []) g.1 ∙ nth_low (lists_behind ls k i) g.0 n h
+listed_early k i n ls h = let g = lists_grow k i ls in ap (λ xs. slice_index_or xs n []) g.1 ∙ get_or_append_left (lists_behind ls k i) g.0 [] n h
 
 -- no more lists behind fewer lines
 pub fewer_lists : (ls : List Line) (k i j : ℕ) → i ≤ j → length (lists_behind ls k i) ≤ length (lists_behind ls k j)

@@ -1,6 +1,6 @@
 -- What was taken of each port.
 use Rattle.std.proofs.Common.{◌≡◌, ◌∙◌, ap, sym, subst, refl, ℕ, zero, suc, ◌-◌, ◌<◌, ◌≤◌, arith, Bool, true, false, cond, eqb, nat_lt, List, [], ◌∷◌, ◌++◌, length, Some, None, Option}
-use Rattle.std.specs.Prelude.{unwrap_or, MatchOption, All, slice_index_or}
+use Rattle.std.specs.Prelude.{unwrap_or, MatchOption, All, Result, OnOk, OnErr, slice_index_or}
 use Rattle.std.proofs.lemmas.Bool.Decides.{nat_tests}
 use Rattle.std.proofs.lemmas.List.{append-nil, length-append, length-map, length_push, map-append, get_or-map, get_or_push, get_or_append_left}
 use Rattle.atomic_table.specs.Seated.{TableId}
@@ -17,7 +17,8 @@ use Rattle.recorders.specs.Apart.{listed, IsListed}
 use Rattle.recorders.specs.Asking.{Asked}
 use Rattle.recorders.specs.Recorders.{IsRecording, end_in, port_of}
 use Rattle.recorders.specs.Rows.{AreRows, IsNext, with_list}
-use Rattle.recorders.proofs.RowLemmas.{rows_more}
+use Rattle.port.proofs.Lists.{of-append}
+use Rattle.recorders.proofs.RowLemmas.{added}
 use Rattle.std.proofs.lemmas.List.Elements.{All-tail, All-nil}
 use Rattle.recorders.specs.Receiving.{Receipts, Task, IsResultOf, LacksBy, EndsWith, AreResults, TakenAgrees, SentAgrees, ReceiptAgrees, IsMore, receipt_frame, receipt_right}
 
@@ -39,16 +40,8 @@ port_low k low = by (nat_lt k 4) refl
 
 -- ---- of each port
 
-with_if-append : {L : Type 0} (b : Bool) (x : Submission L) (xs ys : List (Submission L)) → with_if b x (xs ++ ys) ≡ with_if b x xs ++ ys
-with_if-append true x xs ys = refl
-with_if-append false x xs ys = refl
-
-of_port-append : {L : Type 0} (p : ℕ) (xs ys : List (Submission L)) → of_port p (xs ++ ys) ≡ of_port p xs ++ of_port p ys
-of_port-append p [] ys = refl
-of_port-append p (x ∷ xs) ys = ap (with_if (eqb x.port p) x) (of_port-append p xs ys) ∙ with_if-append (eqb x.port p) x (of_port p xs) (of_port p ys)
-
 lists-append : (p : ℕ) (xs ys : List (Submission (Recorded (List Command)))) → lists_sent (of_port p (xs ++ ys)) ≡ lists_sent (of_port p xs) ++ lists_sent (of_port p ys)
-lists-append p xs ys = ap lists_sent (of_port-append p xs ys) ∙ map-append (λ (y : Submission (Recorded (List Command))). y.list) (of_port p xs) (of_port p ys)
+lists-append p xs ys = ap lists_sent (of-append p xs ys) ∙ map-append (λ (y : Submission (Recorded (List Command))). y.list) (of_port p xs) (of_port p ys)
 
 front_all : (P : Recorded (List Command) → Type 0) (xs ys : List (Recorded (List Command))) → All P (xs ++ ys) → All P xs
 front_all P xs ys h k d low =
@@ -71,10 +64,8 @@ last_agrees ls taken x low agrees =
     subst (IsListed ls) (ap (λ xs. slice_index_or xs (length (lists_sent (of_port x.port taken))) x.list) all ∙ get_or_push (lists_sent (of_port x.port taken)) x.list x.list _ refl)
     (agrees x.port low (length (lists_sent (of_port x.port taken))) x.list (omega (arith, long, count)))
 
--- of receipts for the same lines
-pub more_agrees : {A : Type 0} (s t : Receipts A) → IsMore s t → ReceiptAgrees t → ReceiptAgrees s
-more_agrees s t m agrees =
-    agrees_before s.lines s.taken m.rest t.taken m.more (subst (λ ls. TakenAgrees ls t.taken) (ap (λ (a : Asked). a.lines) m.frame) agrees)
+pub more_more : {A : Type 0} {r s t : Receipts A} → IsMore r s → IsMore s t → IsMore r t
+more_more a b = record { frame = b.frame ∙ a.frame; agrees = λ h. a.agrees (b.agrees h) }
 
 -- ---- at the end
 
@@ -139,15 +130,8 @@ pub lacks_same : {A : Type 0} (o : Option (RecorderResult A)) (r : RecorderResul
 lacks_same None r same k n l = absurd l
 lacks_same (Some q) r same k n l = subst (λ (x : RecorderResult _). (end_in x.end k).lists ≤ n) (sym same) l
 
-pub lacks_by : {A : Type 0} (o : Option (RecorderResult A)) (end : RecordingEnd) → EndsWith o end → (k n : ℕ) → (end_in end k).lists ≤ n → LacksBy o k n
-lacks_by None end is k n few = is
-lacks_by (Some r) end is k n few = subst (λ e. (end_in e k).lists ≤ n) (sym is) few
+-- ---- one list more, or no room for it
 
--- ---- one list more
-
-pub took : (ls : List Line) (taken : List (Submission (Recorded (List Command)))) (rows new : List (List (List Command))) (x : Submission (Recorded (List Command))) → (TakenAgrees ls taken → AreRows ls rows) → x.port < 4 → IsNext rows x.list → new ≡ with_list rows x.list.context x.list.list → TakenAgrees ls (taken ++ x ∷ []) → AreRows ls new
-took ls taken rows new x h low next is agrees =
-    subst (AreRows ls) (sym is) (rows_more ls rows x.list next (last_agrees ls taken x low agrees) (h (agrees_before ls taken (x ∷ []) (taken ++ x ∷ []) refl agrees)))
-
-pub lost : (ls : List Line) (taken : List (Submission (Recorded (List Command)))) (rows new : List (List (List Command))) (x : Submission (Recorded (List Command))) → (TakenAgrees ls taken → AreRows ls rows) → new ≡ rows → TakenAgrees ls (taken ++ x ∷ []) → AreRows ls new
-lost ls taken rows new x h same agrees = subst (AreRows ls) (sym same) (h (agrees_before ls taken (x ∷ []) (taken ++ x ∷ []) refl agrees))
+pub took : {E : Type 0} (ls : List Line) (taken : List (Submission (Recorded (List Command)))) (rows new : List (List (List Command))) (x : Submission (Recorded (List Command))) (r : Result (Unit {0}) E) → (TakenAgrees ls taken → AreRows ls rows) → x.port < 4 → OnOk r (IsNext rows x.list × (new ≡ with_list rows x.list.context x.list.list)) → OnErr r (new ≡ rows) → TakenAgrees ls (taken ++ x ∷ []) → AreRows ls new
+took ls taken rows new x r h low ok err agrees =
+    added ls rows new x.list r ok err (last_agrees ls taken x low agrees) (h (agrees_before ls taken (x ∷ []) (taken ++ x ∷ []) refl agrees))

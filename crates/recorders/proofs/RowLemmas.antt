@@ -2,18 +2,17 @@
 use Rattle.std.proofs.Common.{◌≡◌, ◌∙◌, ap, sym, subst, refl, ℕ, zero, suc, ◌<◌, ⊎_elim, arith, cond, List, [], ◌∷◌, ◌++◌, length}
 use Rattle.std.specs.Prelude.{slice_index_or, map, set, is_ok, OnOk, OnErr, Result, Ok, Err}
 use Rattle.std.proofs.lemmas.Bool.{cases_lt, cases_eq}
-use Rattle.std.proofs.lemmas.List.{length-map, length_push, map-append, map-set, get_or-map, get_or_push, get_or-set_same, get_or-set_other}
+use Rattle.std.proofs.lemmas.List.{length-map, length_push, map-append, map-set, get_or-map, get_or_append_left, get_or_push, get_or-set_same, get_or-set_other}
 use Rattle.gfxspec.specs.Commands.{Command}
 use Rattle.scenetext.specs.Scene.{Line}
 use Rattle.recorders.specs.declared.recorded.Recorded.{Recorded}
 use Rattle.recorders.specs.Apart.{listed, IsListed}
 use Rattle.recorders.specs.Rows.{row, with_list, IsNext, IsRow, AreRows}
-use Rattle.recorders.proofs.Growing.{nth_low}
 
 row_push : (ls : List Line) (k : ℕ) (xs : List (List Command)) (x : List Command) → IsRow ls k xs → x ≡ listed ls k (length xs) → IsRow ls k (xs ++ x ∷ [])
 row_push ls k xs x h is n low =
     let one = length_push xs x in
-    ⊎_elim (λ less. nth_low xs (x ∷ []) n less ∙ h n less)
+    ⊎_elim (λ less. get_or_append_left xs (x ∷ []) [] n less ∙ h n less)
     (λ more. let same : length xs ≡ n = omega (arith, more, low, one) in get_or_push xs x [] n same ∙ is ∙ ap (listed ls k) same) (cases_lt n (length xs))
 
 pub rows_more : (ls : List Line) (rows : List (List (List Command))) (x : Recorded (List Command)) → IsNext rows x → IsListed ls x → AreRows ls rows → AreRows ls (with_list rows x.context x.list)
@@ -42,12 +41,6 @@ pub still_none : {X Y E : Type 0} (view : X → List (List Command)) (xs ys : Li
 still_none view xs ys x (Ok u) is empty none k =
     ap (λ zs. row (map view zs) k) is ∙ ap (λ rows. row rows k) (map-append view xs (x ∷ [])) ∙ ap (λ l. row (map view xs ++ l ∷ []) k) empty ∙ none_push (map view xs) k ∙ none k
 still_none view xs ys x (Err e) is empty none k = ap (λ zs. row (map view zs) k) is ∙ none k
-
--- a list that is here has a row
-pub has_row : (rows : List (List (List Command))) (k n : ℕ) → n < length (row rows k) → k < length rows
-has_row [] k n low = absurd (omega (arith, low))
-has_row (r ∷ rows) zero n low = omega arith
-has_row (r ∷ rows) (suc k) n low = let rest = has_row rows k n low in omega (arith, rest)
 
 -- ---- a row of a vector of rows
 

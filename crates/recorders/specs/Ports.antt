@@ -4,7 +4,7 @@ use Rattle.recorders.specs.declared.ports.ByPort.{ByPort}
 
 module _ {T : Type 0} where
   abbrev pub at_port : ByPort T → ℕ → T
-  at_port f zero = f.zero
-  at_port f (suc zero) = f.one
-  at_port f (suc (suc zero)) = f.two
-  at_port f (suc (suc (suc p))) = f.three
+  at_port f zero = f.0
+  at_port f (suc zero) = f.1
+  at_port f (suc (suc zero)) = f.2
+  at_port f (suc (suc (suc p))) = f.3

@@ -30,10 +30,10 @@ SentAgrees ls passes = All (λ h. All (IsListed ls) (lists_sent h.sent)) passes
 
 -- passes that have sent nothing, each at its number, and a drain that has taken nothing
 pub record AreNew {A : Type 0} (queue : TableId) (passes : Passes A) : Type 0 where
-  pub zero_is : passes.recorders.zero ≡ port_history queue 0 []
-  pub one_is : passes.recorders.one ≡ port_history queue 1 []
-  pub two_is : passes.recorders.two ≡ port_history queue 2 []
-  pub three_is : passes.recorders.three ≡ port_history queue 3 []
+  pub zero_is : passes.recorders.0 ≡ port_history queue 0 []
+  pub one_is : passes.recorders.1 ≡ port_history queue 1 []
+  pub two_is : passes.recorders.2 ≡ port_history queue 2 []
+  pub three_is : passes.recorders.3 ≡ port_history queue 3 []
   pub drain_is : passes.drain ≡ drain_history queue []
 
 module _ {A : Type 0} where
@@ -99,11 +99,10 @@ module _ {A : Type 0} where
   abbrev pub ReceiptLacks : Receipts A → ℕ → ℕ → Type 0
   ReceiptLacks s k n = LacksBy (at_port s.recorders (port_of k)).result k n
 
-  -- for the same lines, with more lists taken
+  -- for the same lines, with more lists taken: where those are what they are taken for, so were the earlier ones
   pub record IsMore (old new : Receipts A) : Type 0 where
     pub frame : receipt_frame new ≡ receipt_frame old
-    pub rest : List (Submission (Recorded (List Command)))
-    pub more : new.taken ≡ old.taken ++ rest
+    pub agrees : ReceiptAgrees new → ReceiptAgrees old
 
   -- ---- at the end
 

@@ -1,7 +1,8 @@
 //! All contexts recorded first, by the caller.
 
-ghost use Rattle.std.specs.Prelude.{◌≡◌, ◌<◌, map};
+ghost use Rattle.std.specs.Prelude.{◌≡◌, ◌<◌, ℕ, Option, MatchOption, map};
 ghost use Rattle.scenetext.specs.Seen.{line_value};
+ghost use Rattle.recorders.specs.Ending.{AloneLacks, AreRecorded};
 
 use crate::context::record_lines;
 use crate::refusal::{RecordingEnd, RefusedLine, first_refused};
@@ -34,14 +35,10 @@ impl<'a, A: Allocator> Model for RecordedLists<'a, A> {
 }
 
 impl<'a, A: Allocator> RecordedLists<'a, A> {
-    ghost use Rattle.std.specs.Prelude.{ℕ, Option, MatchOption};
-    ghost use Rattle.recorders.specs.Ending.{AloneLacks, AreRecorded};
-
     /// The first line that a deferred context refused. A list that was missing is not finished before it.
     pub fn first_refused(&self) -> Option<RefusedLine>
         ensures { (missing : Option (ℕ × ℕ)) → MatchOption missing (Unit {0}) (λ name. AloneLacks self.now name.0 name.1) → AreRecorded self.now.lines result missing }
     {
-        let _ = &self.lines;
         first_refused(&self.ends)
     }
 }
@@ -60,7 +57,6 @@ impl<'a, A: Allocator> ListSource<CommandList<A>> for RecordedLists<'a, A> {
     ghost lacks = { AloneLacks };
 
     fn seek(&mut self, context: u32, number: u32) -> Result<bool, AllocError> {
-        let _ = &self.lines;
         if self.rows.has(context, number) {
             return Ok(true);
         }
@@ -72,12 +68,10 @@ impl<'a, A: Allocator> ListSource<CommandList<A>> for RecordedLists<'a, A> {
     }
 
     fn is_here(&self, context: u32, number: u32) -> bool {
-        let _ = &self.lines;
         self.rows.has(context, number)
     }
 
     fn list(&self, context: u32, number: u32) -> &CommandList<A> {
-        let _ = &self.lines;
         self.rows.list(context, number)
     }
 }

@@ -30,11 +30,7 @@ fn call_of<A: Allocator>(verb: &Verb<A>) -> Option<Call<'_>>
         Verb::ClearDepthStencil(depth, stencil) => Call::ClearDepthStencil(*depth, *stencil),
         Verb::Begin(query) => Call::Begin(*query),
         Verb::End(query) => Call::End(*query),
-        Verb::Finish(_)
-        | Verb::Flush
-        | Verb::Execute(_, _, _)
-        | Verb::Query(_)
-        | Verb::Pixel(_, _) => return None,
+        _ => return None,
     })
 }
 

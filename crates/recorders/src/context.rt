@@ -36,10 +36,7 @@ impl<A: Allocator> Model for ContextRecorder<A> {
 fn is_line_of<A: Allocator>(line: &Line<A>, context: u32) -> bool
     ensures { result ≡ is_of context (actor_value line.now.actor) }
 {
-    match line.actor {
-        Actor::Immediate => false,
-        Actor::Deferred(actor) => actor == context,
-    }
+    matches!(line.actor, Actor::Deferred(actor) if actor == context)
 }
 
 impl<A: Allocator + Copy> ContextRecorder<A> {
@@ -54,13 +51,6 @@ impl<A: Allocator + Copy> ContextRecorder<A> {
                 refused: None,
             },
         }
-    }
-
-    fn end(&self) -> ContextEnd
-        ensures { result ≡ self.now.end }
-    {
-        let _ = &self.deferred;
-        self.end
     }
 
     /// Takes a verb of its own, and puts the list that it finishes.
@@ -125,7 +115,7 @@ pub(crate) fn record_lines<A: Allocator + Copy, S: ListSink<CommandList<A>>>(
         second.take(place, line, sink);
     }
     RecordingEnd {
-        first: first.end(),
-        second: second.end(),
+        first: first.end,
+        second: second.end,
     }
 }

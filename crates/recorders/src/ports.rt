@@ -14,12 +14,7 @@ use std::sync::Wait;
 
 /// One value for each of the four ports.
 #[derive(Drop)]
-pub struct ByPort<T> {
-    pub(crate) zero: T,
-    pub(crate) one: T,
-    pub(crate) two: T,
-    pub(crate) three: T,
-}
+pub struct ByPort<T>(pub(crate) T, pub(crate) T, pub(crate) T, pub(crate) T);
 
 /// The rights to send, one for each recorder, and the caller's right to take.
 #[derive(Drop)]
@@ -50,12 +45,7 @@ pub fn open_ports<A: Allocator + Copy>(alloc: A) -> Result<(ListPorts<A>, Passes
         return Err(AllocError);
     };
     let [zero, one, two, three] = made.1;
-    let recorders = ByPort {
-        zero,
-        one,
-        two,
-        three,
-    };
+    let recorders = ByPort(zero, one, two, three);
     let passes = Passes {
         recorders,
         drain: made.2,

@@ -61,35 +61,35 @@ fn join_of<'a, A: Allocator, R: Threads>(
     ensures end { EndsWith (at_port recorders.new (port_of context)).result result.1 }
 {
     match context {
-        0 | 4 => recorders.zero.join(rt, alloc),
-        1 | 5 => recorders.one.join(rt, alloc),
-        2 | 6 => recorders.two.join(rt, alloc),
-        _ => recorders.three.join(rt, alloc),
+        0 | 4 => recorders.0.join(rt, alloc),
+        1 | 5 => recorders.1.join(rt, alloc),
+        2 | 6 => recorders.2.join(rt, alloc),
+        _ => recorders.3.join(rt, alloc),
     }
 }
 
 impl<'a, A: Allocator + Copy, R: Threads + Wait> ReceivedLists<'a, A, R> {
-    /// Takes a list out and puts it onto its row. False where the queue is empty.
-    fn take_one(&mut self) -> Result<bool, AllocError>
+    /// Takes a list out and puts it onto its row, if memory is there for it. False where the queue is empty.
+    fn take_one(&mut self) -> bool
         ensures more { IsMore self.old self.new }
         ensures same { self.new.recorders ≡ self.old.recorders }
     {
         let Some(next) = self.ports.next(self.rt, &mut self.drain) else {
-            return Ok(false);
+            return false;
         };
-        self.rows.add(next.list)?;
-        Ok(true)
+        let _ = self.rows.add(next.list);
+        true
     }
 
     /// Takes all lists out that are there.
-    fn take_all(&mut self) -> Result<(), AllocError>
+    fn take_all(&mut self)
         ensures more { IsMore self.old self.new }
         ensures same { self.new.recorders ≡ self.old.recorders }
     {
         let rt = self.rt;
         for _ in rt.forever() {
-            if !self.take_one()? {
-                return Ok(());
+            if !self.take_one() {
+                return;
             }
         }
         unreachable!()
@@ -97,15 +97,15 @@ impl<'a, A: Allocator + Copy, R: Threads + Wait> ReceivedLists<'a, A, R> {
 
     /// Joins the recorder of a context, takes its lists, those that it sent and then the others, and says how its contexts
     /// ended.
-    fn join(&mut self, context: u32) -> Result<RecordingEnd, AllocError>
+    fn join(&mut self, context: u32) -> RecordingEnd
         requires { context < 8 }
         ensures more { IsMore self.old self.new }
-        ensures end { IfOk result (EndsWith (at_port self.new.recorders (port_of context)).result) }
+        ensures end { EndsWith (at_port self.new.recorders (port_of context)).result result }
     {
         let (kept, end) = join_of(self.rt, self.alloc, &mut self.recorders, context);
-        self.take_all()?;
+        self.take_all();
         self.rows.add_all(kept);
-        Ok(end)
+        end
     }
 }
 
@@ -116,24 +116,19 @@ impl<'a, A: Allocator, R: Threads + Wait> ReceivedLists<'a, A, R> {
         ensures lacks { (k n : ℕ) → k < 8 → ReceiptLacks self.entry k n → ResultsLack result.results k n }
         ensures drain { result.drain ≡ drain_history self.entry.queue self.entry.taken }
     {
-        let ReceivedLists {
-            rt,
-            alloc: _,
-            lines: _,
-            ports: _,
-            drain,
-            recorders,
-            rows: _,
-        } = self;
-        let zero = recorders.zero.close(rt);
-        let one = recorders.one.close(rt);
-        let two = recorders.two.close(rt);
-        let three = recorders.three.close(rt);
+        let ByPort(zero, one, two, three) = self.recorders;
+        let zero = zero.close(self.rt);
+        let one = one.close(self.rt);
+        let two = two.close(self.rt);
+        let three = three.close(self.rt);
         let results = RecorderResults {
             passes: [zero.pass, one.pass, two.pass, three.pass],
             ends: [zero.end, one.end, two.end, three.end],
         };
-        Returned { results, drain }
+        Returned {
+            results,
+            drain: self.drain,
+        }
     }
 }
 
@@ -155,11 +150,11 @@ impl<'a, A: Allocator + Copy, R: Threads + Wait> ListSource<CommandList<A>>
         if self.rows.has(context, number) {
             return Ok(true);
         }
-        self.take_all()?;
+        self.take_all();
         if self.rows.has(context, number) {
             return Ok(true);
         }
-        let end = self.join(context)?;
+        let end = self.join(context);
         if self.rows.has(context, number) {
             return Ok(true);
         }
@@ -170,12 +165,10 @@ impl<'a, A: Allocator + Copy, R: Threads + Wait> ListSource<CommandList<A>>
     }
 
     fn is_here(&self, context: u32, number: u32) -> bool {
-        let _ = &self.lines;
         self.rows.has(context, number)
     }
 
     fn list(&self, context: u32, number: u32) -> &CommandList<A> {
-        let _ = &self.lines;
         self.rows.list(context, number)
     }
 }
@@ -195,12 +188,12 @@ pub fn receive<
     requires { AreNew setup.ports.now.queue passes }
     ensures frame { receipt_frame result ≡ record { lines = map line_value setup.entry.lines.now; queue = Some setup.entry.ports.now.queue } }
 {
-    let recorders = ByPort {
-        zero: start(scope, &setup, passes.recorders.zero, 0),
-        one: start(scope, &setup, passes.recorders.one, 1),
-        two: start(scope, &setup, passes.recorders.two, 2),
-        three: start(scope, &setup, passes.recorders.three, 3),
-    };
+    let recorders = ByPort(
+        start(scope, &setup, passes.recorders.0, 0),
+        start(scope, &setup, passes.recorders.1, 1),
+        start(scope, &setup, passes.recorders.2, 2),
+        start(scope, &setup, passes.recorders.3, 3),
+    );
     ReceivedLists {
         rt: setup.rt,
         alloc: setup.alloc,

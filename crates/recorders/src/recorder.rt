@@ -85,23 +85,18 @@ fn record_and_send<A: Allocator + Copy, R: Wait, G: Gate>(
 {
     let mut sender = sender;
     let end = record_lines(alloc, lines, number, &mut sender);
-    let ListSender {
-        rt: _,
-        ports: _,
-        gate: _,
-        pass,
-        kept,
-    } = sender;
-    RecorderResult { pass, kept, end }
+    RecorderResult {
+        pass: sender.pass,
+        kept: sender.kept,
+        end,
+    }
 }
 
 /// Whether a line is of one of the contexts of a recorder.
 fn has_lines<A: Allocator>(lines: &[Line<A>], number: u32) -> bool {
     for line in lines {
-        if let Actor::Deferred(context) = line.actor {
-            if context % 4 == number {
-                return true;
-            }
+        if matches!(line.actor, Actor::Deferred(context) if context % 4 == number) {
+            return true;
         }
     }
     false
@@ -137,11 +132,7 @@ pub(crate) fn start<
         ports,
         number,
     };
-    let promise = RecorderTask {
-        lines,
-        ports,
-        number,
-    };
+    let promise = RecorderTask { ..task };
     if !has_lines(lines, number) {
         return Recorder {
             task,
@@ -149,7 +140,10 @@ pub(crate) fn start<
             result: Some(record_and_send(alloc, lines, sender, number)),
         };
     }
-    match scope.spawn_with(promise, move || record_and_send(alloc, lines, sender, number)) {
+    match scope.spawn_with(
+        promise,
+        move || record_and_send(alloc, lines, sender, number),
+    ) {
         Ok(thread) => Recorder {
             task,
             thread: Some(thread),
@@ -195,11 +189,7 @@ impl<'a, A: Allocator> Recorder<'a, A> {
         ensures result { IsResultOf self.entry.task.lines self.entry.task.queue self.entry.task.number result }
         ensures same { MatchOption self.entry.result (Unit {0}) (λ r. result ≡ r) }
     {
-        let Recorder {
-            task: _,
-            thread,
-            result,
-        } = self;
+        let Recorder { thread, result, .. } = self;
         if let Some(result) = result {
             return result;
         }

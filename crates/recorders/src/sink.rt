@@ -79,12 +79,9 @@ impl<'a, A: Allocator, R: Wait, G: Gate> ListSink<CommandList<A>> for ListSender
             return Ok(());
         }
         self.gate.before_submit(self.pass.port(), self.pass.sent());
-        match self.ports.submit(self.rt, &mut self.pass, recorded) {
-            Ok(()) => Ok(()),
-            Err((_, back)) => {
-                self.kept.push(back)?;
-                Ok(())
-            }
+        if let Err((_, back)) = self.ports.submit(self.rt, &mut self.pass, recorded) {
+            self.kept.push(back)?;
         }
+        Ok(())
     }
 }

@@ -55,14 +55,14 @@ returns-clause-recorded g c =
     let last : c.loop-place.place ≡ length c.args.lines.now = search rules in
     let end = last ∙ sym (length-map c.args.lines.now line_value) in
     let held = c.loop-place.invariant in
-    let one = ap (λ (e : ContextEnd). e.lists) c.end.ensures in
-    let two = ap (λ (e : ContextEnd). e.lists) c.end-2.ensures in
+    let one = ap (λ (r : AtWork). r.end.lists) c.first.view_is in
+    let two = ap (λ (r : AtWork). r.end.lists) c.second.view_is in
     let whole = held.whole in
     record {
       listed = held.listed;
       whole = omega (arith, whole, one, two);
       ends = record {
-        first_is = subst (IsEnd ls c.args.number) (sym c.end.ensures) (subst (λ n. HasRecorded ls c.args.number n c.loop-place.first.end.lists c.loop-place.first.end.refused) end held.first.recorded);
-        second_is = subst (IsEnd ls (c.args.number + 4)) (sym c.end-2.ensures) (subst (λ n. HasRecorded ls (c.args.number + 4) n c.loop-place.second.end.lists c.loop-place.second.end.refused) end held.second.recorded);
+        first_is = subst (λ (r : AtWork). IsEnd ls c.args.number r.end) (sym c.first.view_is) (subst (λ n. HasRecorded ls c.args.number n c.loop-place.first.end.lists c.loop-place.first.end.refused) end held.first.recorded);
+        second_is = subst (λ (r : AtWork). IsEnd ls (c.args.number + 4) r.end) (sym c.second.view_is) (subst (λ n. HasRecorded ls (c.args.number + 4) n c.loop-place.second.end.lists c.loop-place.second.end.refused) end held.second.recorded);
       };
     }

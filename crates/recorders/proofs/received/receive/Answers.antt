@@ -10,6 +10,6 @@ use Rattle.recorders.proofs.received.receive.Goals as goal
 pub invariant_of-result : goal.invariant_of-result
 invariant_of-result g c = (
   ap (λ (d : DrainHistory _). d.queue) c.requires.drain_is,
-  each_port (λ p. (at_port (record { zero = c.start.result; one = c.start-2.result; two = c.start-3.result; three = c.start-4.result }) p).task ≡ record { lines = map line_value c.args.setup.lines.now; queue = c.args.setup.ports.now.queue; number = p }) c.start.ensures c.start-2.ensures c.start-3.ensures c.start-4.ensures,
+  each_port (λ p. (at_port (record { 0 = c.start.result; 1 = c.start-2.result; 2 = c.start-3.result; 3 = c.start-4.result }) p).task ≡ record { lines = map line_value c.args.setup.lines.now; queue = c.args.setup.ports.now.queue; number = p }) c.start.ensures c.start-2.ensures c.start-3.ensures c.start-4.ensures,
   λ agrees. rows_none (map line_value c.args.setup.lines.now) c.new.result c.new.ensures,
 )

@@ -4,7 +4,7 @@ use Rattle.scenetext.specs.Seen.{line_value}
 use Rattle.recorders.specs.Recorders.{port_of}
 use Rattle.recorders.specs.Apart.{IsListed}
 use Rattle.recorders.specs.Asking.{Asked}
-use Rattle.recorders.specs.Receiving.{Receipts, Task}
+use Rattle.recorders.specs.Receiving.{Receipts, ReceiptAgrees, Task, receipt_frame}
 use Rattle.recorders.proofs.PortLemmas.{port_low}
 use Rattle.recorders.proofs.received.ReceivedLists.join.Goals as goal
 
@@ -18,3 +18,9 @@ invariant_of-self-2 g c =
       λ agrees. c.add_all.ensures (map line_value c.self-2.inside.lines.now)
           (subst (λ ls. All (IsListed ls) c.join_of-kept.result.0.items) (before ∙ sym same) c.join_of-kept.ensures.listed) (c.self-2.invariant.2 agrees),
     )
+
+pub returns-clause-more : goal.returns-clause-more
+returns-clause-more g c = record {
+  frame = ap receipt_frame c.self-2.view_is ∙ c.take_all.ensures.more.frame ∙ ap receipt_frame c.self.view_is;
+  agrees = λ agrees. subst ReceiptAgrees c.self.view_is (c.take_all.ensures.more.agrees (subst ReceiptAgrees c.self-2.view_is agrees));
+}
