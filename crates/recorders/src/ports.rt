@@ -46,11 +46,8 @@ pub fn open_ports<A: Allocator + Copy>(alloc: A) -> Result<(ListPorts<A>, Passes
     };
     let [zero, one, two, three] = made.1;
     let recorders = ByPort(zero, one, two, three);
-    let passes = Passes {
-        recorders,
-        drain: made.2,
-    };
-    Ok((made.0, passes))
+    let drain = made.2;
+    Ok((made.0, Passes { recorders, drain }))
 }
 
 /// Takes out what nobody asked for, until all that was sent is taken, and settles the ports.

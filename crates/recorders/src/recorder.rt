@@ -94,12 +94,7 @@ fn record_and_send<A: Allocator + Copy, R: Wait, G: Gate>(
 
 /// Whether a line is of one of the contexts of a recorder.
 fn has_lines<A: Allocator>(lines: &[Line<A>], number: u32) -> bool {
-    for line in lines {
-        if matches!(line.actor, Actor::Deferred(context) if context % 4 == number) {
-            return true;
-        }
-    }
-    false
+    lines.iter().any(|line| matches!(line.actor, Actor::Deferred(context) if context % 4 == number))
 }
 
 /// Starts a recorder. Where it has no lines, or no thread starts, the caller records.
@@ -140,20 +135,15 @@ pub(crate) fn start<
             result: Some(record_and_send(alloc, lines, sender, number)),
         };
     }
-    match scope.spawn_with(
-        promise,
-        move || record_and_send(alloc, lines, sender, number),
-    ) {
-        Ok(thread) => Recorder {
-            task,
-            thread: Some(thread),
-            result: None,
-        },
-        Err(refused) => Recorder {
-            task,
-            thread: None,
-            result: Some((refused.value)()),
-        },
+    let record = move || record_and_send(alloc, lines, sender, number);
+    let (thread, result) = match scope.spawn_with(promise, record) {
+        Ok(thread) => (Some(thread), None),
+        Err(refused) => (None, Some((refused.value)())),
+    };
+    Recorder {
+        task,
+        thread,
+        result,
     }
 }
 

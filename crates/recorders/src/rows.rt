@@ -5,7 +5,7 @@ ghost use Rattle.scenetext.specs.Scene.{Line as PlainLine};
 ghost use Rattle.recorders.specs.Apart.{IsListed};
 ghost use Rattle.recorders.specs.Rows.{AreRows, IsNext, row, with_list};
 
-use crate::recorded::{Recorded, RecordedList};
+use crate::recorded::RecordedList;
 use cmdlist::CommandList;
 use std::alloc::{AllocError, Allocator};
 use std::marker::Model;
@@ -50,19 +50,14 @@ impl<A: Allocator> ListRows<A> {
         ensures ok { OnOk result (IsNext self.old recorded × (self.new ≡ with_list self.old recorded.context recorded.list)) }
         ensures err { OnErr result (self.new ≡ self.old) }
     {
-        let Recorded {
-            context,
-            number,
-            list,
-        } = recorded;
-        let context = context as usize;
+        let context = recorded.context as usize;
         if context >= self.rows.len() {
             return Err(AllocError);
         }
-        if self.rows[context].len() as u64 != number {
+        if self.rows[context].len() as u64 != recorded.number {
             return Err(AllocError);
         }
-        self.rows[context].push(list)?;
+        self.rows[context].push(recorded.list)?;
         Ok(())
     }
 
