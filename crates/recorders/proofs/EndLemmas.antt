@@ -7,7 +7,7 @@ use Rattle.atomic_table.specs.Seated.{TableId}
 use Rattle.gfxspec.specs.Commands.{Command}
 use Rattle.scenetext.specs.Scene.{Line}
 use Rattle.port.specs.History.{PortHistory}
-use Rattle.recorders.specs.declared.recorded.Recorded.{Recorded}
+use Rattle.recorders.specs.declared.ports.Recorded.{Recorded}
 use Rattle.recorders.specs.declared.refusal.RefusedLine.{RefusedLine}
 use Rattle.recorders.specs.declared.refusal.ContextEnd.{ContextEnd}
 use Rattle.recorders.specs.declared.refusal.RecordingEnd.{RecordingEnd}

@@ -9,7 +9,7 @@ use Rattle.scenetext.specs.Scene.{Line}
 use Rattle.port.specs.declared.submission.Submission.{Submission}
 use Rattle.port.specs.History.{of_port, with_if, PortHistory, DrainHistory, drain_history, AreAll, AllTaken}
 use Rattle.recorders.specs.declared.ports.RecorderResults.{RecorderResults}
-use Rattle.recorders.specs.declared.recorded.Recorded.{Recorded}
+use Rattle.recorders.specs.declared.ports.Recorded.{Recorded}
 use Rattle.recorders.specs.declared.recorder.RecorderResult.{RecorderResult}
 use Rattle.recorders.specs.declared.refusal.RecordingEnd.{RecordingEnd}
 use Rattle.recorders.specs.Sinks.{Way, Sender, lists_sent, sender_lists, sender_way}

@@ -5,7 +5,7 @@ use Rattle.std.proofs.lemmas.Bool.{cases_lt, cases_eq}
 use Rattle.std.proofs.lemmas.List.{length-map, length_push, map-append, map-set, get_or-map, get_or_append_left, get_or_push, get_or-set_same, get_or-set_other}
 use Rattle.gfxspec.specs.Commands.{Command}
 use Rattle.scenetext.specs.Scene.{Line}
-use Rattle.recorders.specs.declared.recorded.Recorded.{Recorded}
+use Rattle.recorders.specs.declared.ports.Recorded.{Recorded}
 use Rattle.recorders.specs.Apart.{listed, IsListed}
 use Rattle.recorders.specs.Rows.{row, with_list, IsNext, IsRow, AreRows}
 

@@ -6,7 +6,7 @@ use Rattle.std.proofs.lemmas.List.Elements.{All-push}
 use Rattle.gfxspec.specs.Commands.{Command}
 use Rattle.gfxspec.specs.Refusals.{first_row}
 use Rattle.scenetext.specs.Scene.{Verb, Call, Finish, Line}
-use Rattle.recorders.specs.declared.recorded.Recorded.{Recorded}
+use Rattle.recorders.specs.declared.ports.Recorded.{Recorded}
 use Rattle.recorders.specs.declared.refusal.RefusedLine.{RefusedLine}
 use Rattle.recorders.specs.Lists.{is_of}
 use Rattle.recorders.specs.Recording.{Recording, recording_with, recording_of}

@@ -9,7 +9,7 @@ use Rattle.recorders.specs.declared.ports.Passes.{Passes}
 use Rattle.recorders.specs.declared.ports.RecorderResults.{RecorderResults}
 use Rattle.recorders.specs.declared.ports.Returned.{Returned}
 use Rattle.recorders.specs.declared.ports.ByPort.{ByPort}
-use Rattle.recorders.specs.declared.recorded.Recorded.{Recorded}
+use Rattle.recorders.specs.declared.ports.Recorded.{Recorded}
 use Rattle.recorders.specs.declared.recorder.RecorderResult.{RecorderResult}
 use Rattle.recorders.specs.declared.refusal.RecordingEnd.{RecordingEnd}
 use Rattle.recorders.specs.Ports.{at_port}

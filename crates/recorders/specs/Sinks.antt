@@ -3,7 +3,7 @@ use Rattle.std.specs.Prelude.{ℕ, List, map, ◌++◌, Option, Some}
 use Rattle.atomic_table.specs.Seated.{TableId}
 use Rattle.gfxspec.specs.Commands.{Command}
 use Rattle.port.specs.declared.submission.Submission.{Submission}
-use Rattle.recorders.specs.declared.recorded.Recorded.{Recorded}
+use Rattle.recorders.specs.declared.ports.Recorded.{Recorded}
 
 pub record Way : Type 0 where
   pub queue : TableId

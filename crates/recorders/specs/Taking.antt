@@ -5,7 +5,7 @@ use Rattle.gfxspec.specs.Commands.{Command}
 use Rattle.gfxspec.specs.Recorded.{after_finish}
 use Rattle.gfxspec.specs.Refusals.{first_row}
 use Rattle.scenetext.specs.Scene.{Verb, Call, Finish, Line}
-use Rattle.recorders.specs.declared.recorded.Recorded.{Recorded}
+use Rattle.recorders.specs.declared.ports.Recorded.{Recorded}
 use Rattle.recorders.specs.declared.refusal.ContextEnd.{ContextEnd}
 use Rattle.recorders.specs.declared.refusal.RefusedLine.{RefusedLine}
 use Rattle.recorders.specs.Lists.{is_of}

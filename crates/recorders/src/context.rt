@@ -7,7 +7,7 @@ ghost use Rattle.recorders.specs.Taking.{starting, VerbTaken, VerbRefused, HasTa
 ghost use Rattle.recorders.specs.Recorders.{IsRecording};
 
 use crate::calls::take_call;
-use crate::recorded::Recorded;
+use crate::ports::Recorded;
 use crate::refusal::{ContextEnd, RecordingEnd, RefusedLine};
 use crate::sink::ListSink;
 use cmdlist::{CommandList, DeferredContext};

@@ -21,7 +21,6 @@ mod calls;
 mod context;
 mod ports;
 mod received;
-mod recorded;
 mod recorder;
 mod refusal;
 mod rows;
@@ -30,9 +29,8 @@ mod source;
 
 pub use alone::{RecordedLists, record_alone};
 pub use calls::take_call;
-pub use ports::{Passes, Returned, open_ports, settle};
+pub use ports::{ListPorts, Passes, Returned, open_ports, settle};
 pub use received::{ReceivedLists, receive};
-pub use recorded::ListPorts;
 pub use recorder::RecorderSetup;
 pub use refusal::{RefusedLine, earlier};
 pub use source::ListSource;

@@ -6,11 +6,27 @@ ghost use Rattle.port.specs.History.{AreAll};
 ghost use Rattle.recorders.specs.Receiving.{AreNew, AreResults, TakenAgrees, SentAgrees, ResultsLack, AreBack};
 ghost use Rattle.recorders.specs.Ending.{AreRecorded};
 
-use crate::recorded::{ListPass, ListPorts, RecordedList};
 use crate::refusal::{RecordingEnd, RefusedLine, first_refused};
-use port::{DrainPass, Ports};
+use cmdlist::CommandList;
+use port::{DrainPass, PortPass, Ports};
 use std::alloc::{AllocError, Allocator};
 use std::sync::Wait;
+
+/// A finished list with the context that recorded it, 0 to 7, and how many lists that context had finished before.
+#[derive(Drop)]
+pub struct Recorded<L> {
+    pub context: u32,
+    pub number: u64,
+    pub list: L,
+}
+
+pub type RecordedList<A> = Recorded<CommandList<A>>;
+
+/// The ports by which recorders send lists.
+pub type ListPorts<A> = Ports<Recorded<CommandList<A>>, A>;
+
+/// The right of one recorder to send.
+pub type ListPass<A> = PortPass<Recorded<CommandList<A>>>;
 
 /// One value for each of the four ports.
 #[derive(Drop)]

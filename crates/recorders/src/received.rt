@@ -8,8 +8,7 @@ ghost use Rattle.recorders.specs.Ports.{at_port};
 ghost use Rattle.recorders.specs.Recorders.{port_of};
 ghost use Rattle.recorders.specs.Receiving.{receipt_frame, receipt_right, ReceiptAgrees, ReceiptHolds, ReceiptLacks, AreNew, AreResults, ResultsLack, AreSameRecorders, EndsWith, IsMore};
 
-use crate::ports::{ByPort, Passes, RecorderResults, Returned};
-use crate::recorded::{ListPorts, RecordedList};
+use crate::ports::{ByPort, ListPorts, Passes, RecordedList, RecorderResults, Returned};
 use crate::recorder::{Recorder, RecorderSetup, start};
 use crate::refusal::RecordingEnd;
 use crate::rows::ListRows;

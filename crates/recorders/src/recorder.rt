@@ -7,7 +7,7 @@ ghost use Rattle.recorders.specs.Apart.{IsListed};
 ghost use Rattle.recorders.specs.Receiving.{IsResultOf, EndsWith};
 
 use crate::context::record_lines;
-use crate::recorded::{ListPass, ListPorts, RecordedList};
+use crate::ports::{ListPass, ListPorts, RecordedList};
 use crate::refusal::RecordingEnd;
 use crate::sink::ListSender;
 use scenetext::{Actor, Line};

@@ -5,7 +5,7 @@ ghost use Rattle.scenetext.specs.Scene.{Line as PlainLine};
 ghost use Rattle.recorders.specs.Apart.{IsListed};
 ghost use Rattle.recorders.specs.Rows.{AreRows, IsNext, row, with_list};
 
-use crate::recorded::RecordedList;
+use crate::ports::RecordedList;
 use cmdlist::CommandList;
 use std::alloc::{AllocError, Allocator};
 use std::marker::Model;

@@ -1,6 +1,6 @@
 //! Where finished lists go.
 
-use crate::recorded::{ListPass, ListPorts, Recorded, RecordedList};
+use crate::ports::{ListPass, ListPorts, Recorded, RecordedList};
 use cmdlist::CommandList;
 use std::alloc::{AllocError, Allocator};
 use std::marker::Model;
@@ -10,7 +10,7 @@ use workers::Gate;
 pub(crate) trait ListSink<L> {
     ghost use Rattle.std.specs.Prelude.{◌≡◌, ◌++◌, ◌∷◌, [], List, Option, OnOk, OnErr};
     ghost use Rattle.recorders.specs.Sinks.{Way};
-    ghost use Rattle.recorders.specs.declared.recorded.Recorded.{Recorded};
+    ghost use Rattle.recorders.specs.declared.ports.Recorded.{Recorded};
 
     /// The lists that were put, those that were sent first.
     ghost put_lists: { Self → List (Recorded L) };

@@ -1,7 +1,7 @@
 use Rattle.std.proofs.Common.{◌≡◌, ◌++◌, List}
 use Rattle.gfxspec.specs.Commands.{Command}
 use Rattle.port.specs.declared.submission.Submission.{Submission}
-use Rattle.recorders.specs.declared.recorded.Recorded.{Recorded}
+use Rattle.recorders.specs.declared.ports.Recorded.{Recorded}
 use Rattle.recorders.proofs.ports.settle_all.Given as goal
 
 abbrev pub invariant-loop : goal.invariant-loop
