@@ -11,7 +11,6 @@ use Rattle.port.specs.History.{of_port, with_if, PortHistory, DrainHistory, drai
 use Rattle.recorders.specs.declared.ports.RecorderResults.{RecorderResults}
 use Rattle.recorders.specs.declared.ports.Recorded.{Recorded}
 use Rattle.recorders.specs.declared.recorder.RecorderResult.{RecorderResult}
-use Rattle.recorders.specs.declared.refusal.RecordingEnd.{RecordingEnd}
 use Rattle.recorders.specs.Sinks.{Way, Sender, lists_sent, sender_lists, sender_way}
 use Rattle.recorders.specs.Apart.{listed, IsListed}
 use Rattle.recorders.specs.Asking.{Asked}
@@ -20,7 +19,7 @@ use Rattle.recorders.specs.Rows.{AreRows, IsNext, with_list}
 use Rattle.port.proofs.Lists.{of-append}
 use Rattle.recorders.proofs.RowLemmas.{added}
 use Rattle.std.proofs.lemmas.List.Elements.{All-tail, All-nil}
-use Rattle.recorders.specs.Receiving.{Receipts, Task, IsResultOf, LacksBy, EndsWith, AreResults, TakenAgrees, SentAgrees, ReceiptAgrees, IsMore, receipt_frame, receipt_right}
+use Rattle.recorders.specs.Receiving.{Receipts, Task, IsResultOf, LacksBy, AreResults, TakenAgrees, SentAgrees, ReceiptAgrees, IsMore, receipt_frame, receipt_right}
 
 -- ---- four ports
 

@@ -1,5 +1,5 @@
 -- The caller's side of the ports: which lists came from which recorder (this project's own).
-use Rattle.std.specs.Prelude.{ℕ, ◌≡◌, ◌<◌, ◌≤◌, List, [], ◌∷◌, ◌++◌, length, All, Option, Some, None}
+use Rattle.std.specs.Prelude.{ℕ, ◌≡◌, ◌<◌, ◌≤◌, List, [], length, All, Option, Some, None}
 use Rattle.atomic_table.specs.Seated.{TableId}
 use Rattle.gfxspec.specs.Commands.{Command}
 use Rattle.scenetext.specs.Scene.{Line}

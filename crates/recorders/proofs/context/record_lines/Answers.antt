@@ -3,7 +3,6 @@ use Rattle.std.proofs.lemmas.List.{get_or-map, length-map}
 use Rattle.scenetext.specs.Seen.{line_value}
 use Rattle.recorders.specs.Apart.{line_at, a_line}
 use Rattle.recorders.specs.Recorders.{IsEnd, HasRecorded}
-use Rattle.recorders.specs.declared.refusal.ContextEnd.{ContextEnd}
 use Rattle.recorders.specs.Taking.{AtWork}
 use Rattle.recorders.proofs.Steps.{starts_at, step}
 use Rattle.recorders.proofs.context.record_lines.Goals as goal

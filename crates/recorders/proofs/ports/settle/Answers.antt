@@ -1,5 +1,4 @@
 use Rattle.std.proofs.Common.{sym, subst}
-use Rattle.recorders.specs.Receiving.{AreResults}
 use Rattle.recorders.specs.Ending.{AreRecorded}
 use Rattle.recorders.proofs.EndLemmas.{all_recorded}
 use Rattle.recorders.proofs.ports.settle.Goals as goal

@@ -1,8 +1,7 @@
-use Rattle.std.proofs.Common.{◌≡◌, ap, sym, subst, map}
+use Rattle.std.proofs.Common.{◌≡◌, ap, map}
 use Rattle.port.specs.History.{DrainHistory}
 use Rattle.scenetext.specs.Seen.{line_value}
 use Rattle.recorders.specs.Ports.{at_port}
-use Rattle.recorders.specs.Rows.{AreRows}
 use Rattle.recorders.proofs.PortLemmas.{each_port}
 use Rattle.recorders.proofs.RowLemmas.{rows_none}
 use Rattle.recorders.proofs.received.receive.Goals as goal

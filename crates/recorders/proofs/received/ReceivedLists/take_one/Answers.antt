@@ -1,4 +1,4 @@
-use Rattle.std.proofs.Common.{◌∙◌, ap, subst, refl, map, [], ◌∷◌}
+use Rattle.std.proofs.Common.{◌∙◌, ap, subst, map, [], ◌∷◌}
 use Rattle.port.specs.History.{DrainHistory}
 use Rattle.scenetext.specs.Seen.{line_value}
 use Rattle.recorders.specs.Receiving.{Receipts, TakenAgrees, ReceiptAgrees, receipt_frame}

@@ -1,4 +1,3 @@
-use Rattle.std.proofs.Common.{refl}
 use Rattle.recorders.proofs.RowLemmas.{still_none}
 use Rattle.recorders.proofs.rows.ListRows.new.Goals as goal
 
