@@ -11,8 +11,8 @@ use Rattle.meaning.specs.Contexts.{Context, shown, answered, result_at}
 use Rattle.meaning.specs.Standing.{Stands}
 use Rattle.meaning.proofs.Contexts.{shows, stands_executed}
 use Rattle.tileblock.specs.Surface.{pixel_of}
-use Rattle.scenetext.specs.Scene.{Immediate, Execute, Line}
-use Rattle.scenetext.specs.Spelling.{is_immediate_actor, IsVerb}
+use Rattle.scenetext.specs.Scene.{Immediate, Execute, Verb, Line}
+use Rattle.scenetext.specs.Spelling.{is_immediate_actor, IsVerb, AreLines}
 use Rattle.recorders.specs.Lists.{list_of}
 use Rattle.recorders.specs.Apart.{a_line, line_at}
 use Rattle.immediate.specs.Held.{Held, context_of, outputs_of}
@@ -26,44 +26,42 @@ use Rattle.sessions.specs.Telling.{IsTold}
 use Rattle.sessions.specs.Playing.{ListsOf, ImmediateAccepts, HasReached}
 use Rattle.binner.specs.declared.compiling.Compiling.{Compiling}
 use Rattle.binner.specs.Compiling.{HasCompiled}
-use Rattle.sessions.specs.Gathering.{with_items, Follows, AreGathered, HasGoneOn}
+use Rattle.sessions.specs.Gathering.{IsKept, with_items, Follows, AreGathered, HasGoneOn}
 use Rattle.sessions.proofs.Played.{steps_of-push}
+use Rattle.sessions.proofs.Reaching.{is_line}
 use Rattle.sessions.proofs.Steps.{IsNext, executed_list}
 use Rattle.sessions.proofs.Tellings.{told_none}
-
--- ---- one more line
-
-module _ (size : Size) (ls : List Line) (i : ℕ) (l : Line) (h : Held) (text : List ℕ) (marks : List Mark) (next : IsNext ls i l) (accepted : ImmediateAccepts size ls i) (told : IsTold size ls i text marks) where
-  more : take i ls ++ l ∷ [] ≡ take (i + 1) ls
-  more = ap (λ m. take i ls ++ m ∷ []) next.here ∙ sym (take_more ls i a_line next.below)
-
-  -- of a context that shows these items, drawn on what is held
-  pub one_follows : (c : Context) (js : List Item) (k n : ℕ) (w : ℕ → ℕ → List Command) (list : List Command) → Stands size (steps_of (take i ls)) c → queries_open c.pending ≡ [] → after_finish true c.pending ≡ after_finish true h.pending → ((x y : ℕ) → shown c x y ≡ after_items js x y (pixel_of h.surface x y)) → ((q : ℕ) → answered size c q ≡ result_at h.results q) → l.actor ≡ Immediate → l.verb ≡ Execute k n true → ListsOf ls w → list ≡ w k n → AreAccepted list → queries_open list ≡ [] → issues list ≡ [] → Follows size ls (i + 1) h (js ++ items (performed_over (outputs_of h) list)) text marks
-  one_follows c js k n w list stands closed kept shows_items answers own at right named sound shut none =
-      let steps : List Step = steps_of (take i ls) in
-      let line : l ≡ record { actor = Immediate; verb = Execute k n true } = turned l own at in
-      let execution : list ≡ list_of k n (take i ls) = named ∙ executed_list ls i l next w right k n true at in
-      let all : List Item = js ++ items (performed_over (outputs_of h) list) in
-      record {
-        stands =
-            subst (λ ss. Stands size ss (with_items h all))
-            (ap (λ x. steps ++ Executes x true ∷ []) execution ∙ ap (λ (m : Line). steps ++ actor_steps (take i ls) m.actor m.verb) (sym line) ∙ sym (steps_of-push (take i ls) l) ∙ ap steps_of more)
-            (subst (λ (p : List Command). Stands size (steps ++ Executes list true ∷ []) record { stored = λ x y. after_items all x y (pixel_of h.surface x y); results = h.results; pending = p }) kept
-            (stands_executed size steps c stands list true _ closed shut sound (run_behind size h c js shows_items answers list true sound none)));
-        accepted =
-            below_more (λ j. is_immediate_actor (line_at ls j).actor ≡ true → refusal size (take j ls) (line_at ls j) ≡ None) i accepted
-            (λ o.
-            ap (refusal size (take i ls)) (sym next.here ∙ line)
-            ∙ ap (λ q. first_row (flush_rows q)) (sym (shows size steps c stands).queries ∙ closed));
-        told = told_none size ls i text marks next.below told (ap (λ (m : Line). answer_of size (take i ls) m.verb) (sym next.here ∙ line));
-      }
-    where
-      turned : (l : Line) → l.actor ≡ Immediate → l.verb ≡ Execute k n true → l ≡ record { actor = Immediate; verb = Execute k n true }
-      turned l a v = rw (a, v) refl
 
 -- its list is one of the eight contexts'
 pub names_one : (ls : List Line) (i : ℕ) (l : Line) (k n : ℕ) → IsNext ls i l → l.verb ≡ Execute k n true → k < 8
 names_one ls i l k n next at = (subst IsVerb at next.is.verb).0
+
+pub turned : (l : Line) (v : Verb) → l.actor ≡ Immediate → l.verb ≡ v → l ≡ record { actor = Immediate; verb = v }
+turned l v a e = rw (a, e) refl
+
+-- ---- one more line
+
+module _ {agrees : Type 0} (size : Size) (ls : List Line) (i : ℕ) (h : Held) (text : List ℕ) (marks : List Mark) (w : ℕ → ℕ → List Command) (list : List Command) (sound : AreLines [] ls) (right : ListsOf ls w) (kept : IsKept agrees w ls i list) (ok : agrees) (accepted : ImmediateAccepts size ls i) (told : IsTold size ls i text marks) where
+  -- of a context that shows these items, drawn on what is held
+  pub one_follows : (c : Context) (js : List Item) → Stands size (steps_of (take i ls)) c → queries_open c.pending ≡ [] → after_finish true c.pending ≡ after_finish true h.pending → ((x y : ℕ) → shown c x y ≡ after_items js x y (pixel_of h.surface x y)) → ((q : ℕ) → answered size c q ≡ result_at h.results q) → issues list ≡ [] → Follows size ls (i + 1) h (js ++ items (performed_over (outputs_of h) list)) text marks
+  one_follows c js stands closed same shows_items answers none =
+      let steps : List Step = steps_of (take i ls) in
+      let next : IsNext ls i (line_at ls i) = record { here = refl; below = kept.inside; is = is_line ls i kept.inside sound } in
+      let execution : list ≡ list_of kept.context kept.number (take i ls) =
+      kept.named ok ∙ executed_list ls i (line_at ls i) next w right kept.context kept.number true (ap (λ (m : Line). m.verb) kept.line) in
+      let all : List Item = js ++ items (performed_over (outputs_of h) list) in
+      record {
+        stands =
+            subst (λ ss. Stands size ss (with_items h all))
+            (ap (λ x. steps ++ Executes x true ∷ []) execution ∙ ap (λ (m : Line). steps ++ actor_steps (take i ls) m.actor m.verb) (sym kept.line)
+            ∙ sym (steps_of-push (take i ls) (line_at ls i)) ∙ ap steps_of (sym (take_more ls i a_line kept.inside)))
+            (subst (λ (p : List Command). Stands size (steps ++ Executes list true ∷ []) record { stored = λ x y. after_items all x y (pixel_of h.surface x y); results = h.results; pending = p }) same
+            (stands_executed size steps c stands list true _ closed kept.none_open kept.accepted (run_behind size h c js shows_items answers list true kept.accepted none)));
+        accepted =
+            below_more (λ j. is_immediate_actor (line_at ls j).actor ≡ true → refusal size (take j ls) (line_at ls j) ≡ None) i accepted
+            (λ o. ap (refusal size (take i ls)) kept.line ∙ ap (λ q. first_row (flush_rows q)) (sym (shows size steps c stands).queries ∙ closed));
+        told = told_none size ls i text marks kept.inside told (ap (λ (m : Line). answer_of size (take i ls) m.verb) kept.line);
+      }
 
 -- ---- the run
 
@@ -87,49 +85,48 @@ all_follow size ls i h d text marks is same ran f = record {
 
 -- ---- all of them
 
-module _ {A : Type 0} (agrees : Type 0) (ls : List Line) (from : ℕ) (h : Held) where
-  pub first_gathered : (l : Line) (e : Compiling A) (k n : ℕ) (w : ℕ → ℕ → List Command) (list : List Command) → IsNext ls from l → l.actor ≡ Immediate → l.verb ≡ Execute k n true → ListsOf ls w → (agrees → list ≡ w k n) → AreAccepted list → queries_open list ≡ [] → issues list ≡ [] → issues h.pending ≡ [] → e.lists.size ≡ h.surface.size → HasCompiled e (executed_items h list) → AreGathered agrees ls from (from + 1) h e
-  first_gathered l e k n w list next own at right named sound shut none unissued size means = record {
+later : (m n : ℕ) → m ≤ n → m ≤ n + 1
+later m n p = omega (arith, p)
+
+pub more_inside : (i n : ℕ) → i < n → i + 1 ≤ n
+more_inside i n p = omega (arith, p)
+
+module _ {A : Type 0} (agrees : Type 0) (ls : List Line) (from : ℕ) (h : Held) (w : ℕ → ℕ → List Command) (sound : AreLines [] ls) (right : ListsOf ls w) where
+  pub first_gathered : (list : List Command) (e : Compiling A) → IsKept agrees w ls from list → issues list ≡ [] → issues h.pending ≡ [] → e.lists.size ≡ h.surface.size → HasCompiled e (executed_items h list) → AreGathered agrees ls from (from + 1) h e
+  first_gathered list e kept none unissued size means = record {
     start = omega arith;
-    end = inside next.below;
+    end = more_inside from (length ls) kept.inside;
     size = size;
     items = executed_items h list;
     compiled = means;
     follows = λ ok size text marks r.
-        one_follows size ls from l h text marks next r.accepted r.told (context_of h) (items (performed_over (outputs_of h) h.pending)) k n w list r.played.stands (none_open h.pending unissued) refl (λ x y. refl) (answers_stay size h unissued) own at right (named ok) sound shut none;
+        one_follows size ls from h text marks w list sound right kept ok r.accepted r.told (context_of h) (items (performed_over (outputs_of h) h.pending)) r.played.stands (none_open h.pending unissued) refl (λ x y. refl) (answers_stay size h unissued) none;
   }
-    where
-      inside : from < length ls → from + 1 ≤ length ls
-      inside p = omega (arith, p)
 
-  pub one_gathered : (i : ℕ) (l : Line) (e f : Compiling A) (k n : ℕ) (w : ℕ → ℕ → List Command) (list : List Command) → IsNext ls i l → l.actor ≡ Immediate → l.verb ≡ Execute k n true → ListsOf ls w → (agrees → list ≡ w k n) → AreAccepted list → queries_open list ≡ [] → issues list ≡ [] → AreGathered agrees ls from i h e → f.lists.size ≡ h.surface.size → ((is : List Item) → HasCompiled e is → HasCompiled f (is ++ items (performed_over (outputs_of h) list))) → AreGathered agrees ls from (i + 1) h f
-  one_gathered i l e f k n w list next own at right named sound shut none g size means = record {
-    start = later (g.start);
-    end = inside next.below;
+  pub one_gathered : (i : ℕ) (list : List Command) (e f : Compiling A) → IsKept agrees w ls i list → issues list ≡ [] → AreGathered agrees ls from i h e → f.lists.size ≡ h.surface.size → ((is : List Item) → HasCompiled e is → HasCompiled f (is ++ items (performed_over (outputs_of h) list))) → AreGathered agrees ls from (i + 1) h f
+  one_gathered i list e f kept none g size means = record {
+    start = later from i g.start;
+    end = more_inside i (length ls) kept.inside;
     size = size;
     items = g.items ++ items (performed_over (outputs_of h) list);
     compiled = means g.items g.compiled;
     follows = λ ok size text marks r.
         let f = g.follows ok size text marks r in
-        one_follows size ls i l h text marks next f.accepted f.told (with_items h g.items) g.items k n w list f.stands refl refl (λ x y. refl) (λ q. refl) own at right (named ok) sound shut none;
-  }
-    where
-      later : from ≤ i → from ≤ i + 1
-      later p = omega (arith, p)
-
-      inside : i < length ls → i + 1 ≤ length ls
-      inside p = omega (arith, p)
-
-  pub gone_on : (to : ℕ) (d : Held) (e : Compiling A) → AreGathered agrees ls from to h e → ((is : List Item) → HasCompiled e is → HasExecuted is h d) → HasGoneOn agrees ls from to h d
-  gone_on to d e g ran = record {
-    start = g.start;
-    end = g.end;
-    reached = λ ok size text marks r. all_follow size ls to h d text marks g.items r.played.size_is (ran g.items g.compiled) (g.follows ok size text marks r);
+        one_follows size ls i h text marks w list sound right kept ok f.accepted f.told (with_items h g.items) g.items f.stands refl refl (λ x y. refl) (λ q. refl) none;
   }
 
-pub stays : (agrees : Type 0) (ls : List Line) (from : ℕ) (h d : Held) → from ≤ length ls → d ≡ h → HasGoneOn agrees ls from from h d
-stays agrees ls from h d inside same = record {
+-- they ran on what was held
+pub gone_on : {A : Type 0} (agrees : Type 0) (ls : List Line) (from to : ℕ) (h d : Held) (e : Compiling A) → AreGathered agrees ls from to h e → (c : Held) → c ≡ h → ((is : List Item) → HasCompiled e is → HasExecuted is c d) → HasGoneOn agrees ls from to h d
+gone_on agrees ls from to h d e g c same ran = record {
+  start = g.start;
+  end = λ p. g.end;
+  reached = λ ok size text marks r.
+      all_follow size ls to h d text marks g.items r.played.size_is (subst (λ (x : Held). HasExecuted g.items x d) same (ran g.items g.compiled)) (g.follows ok size text marks r);
+}
+
+pub stays : (agrees : Type 0) (ls : List Line) (from : ℕ) (h d : Held) → d ≡ h → HasGoneOn agrees ls from from h d
+stays agrees ls from h d same = record {
   start = omega arith;
-  end = inside;
+  end = λ p. p;
   reached = λ ok size text marks r. subst (λ x. HasReached size ls from x text marks) (sym same) r;
 }

@@ -1,14 +1,17 @@
 -- Executions that are taken together, behind the pending commands: lines of the immediate context that execute lists and keep the state.
-use Rattle.std.specs.Prelude.{ℕ, ◌≡◌, ◌≤◌, true, List, length, take}
+use Rattle.std.specs.Prelude.{ℕ, ◌≡◌, ◌<◌, ◌≤◌, true, List, [], length, take}
 use Rattle.gfxspec.specs.declared.geometry.Size.{Size}
 use Rattle.gfxspec.specs.Items.{Item, after_items}
-use Rattle.gfxspec.specs.Recorded.{after_finish}
+use Rattle.gfxspec.specs.Commands.{Command}
+use Rattle.gfxspec.specs.Recorded.{after_finish, queries_open}
+use Rattle.gfxspec.specs.Refusals.{AreAccepted}
 use Rattle.meaning.specs.Contexts.{Context}
 use Rattle.meaning.specs.Standing.{Stands}
 use Rattle.tileblock.specs.Surface.{pixel_of}
 use Rattle.binner.specs.declared.compiling.Compiling.{Compiling}
 use Rattle.binner.specs.Compiling.{HasCompiled}
 use Rattle.scenetext.specs.Scene.{Immediate, Execute, Line}
+use Rattle.recorders.specs.Apart.{line_at}
 use Rattle.immediate.specs.Held.{Held}
 use Rattle.sessions.specs.declared.answers.Mark.{Mark}
 use Rattle.sessions.specs.Lists.{steps_of}
@@ -18,6 +21,16 @@ use Rattle.sessions.specs.Playing.{ImmediateAccepts, HasReached}
 -- the line is one of the immediate context that executes list n of context k and keeps the state
 abbrev pub ExecutesAndKeeps : Line → ℕ → ℕ → Type 0
 ExecutesAndKeeps l k n = (l.actor ≡ Immediate) × (l.verb ≡ Execute k n true)
+
+-- line i does so with this list
+pub record IsKept (agrees : Type 0) (w : ℕ → ℕ → List Command) (ls : List Line) (i : ℕ) (list : List Command) : Type 0 where
+  pub inside : i < length ls
+  pub context : ℕ
+  pub number : ℕ
+  pub line : line_at ls i ≡ record { actor = Immediate; verb = Execute context number true }
+  pub named : agrees → list ≡ w context number
+  pub accepted : AreAccepted list
+  pub none_open : queries_open list ≡ []
 
 -- what is held, with these items drawn, and of the pending commands the state
 abbrev pub with_items : Held → List Item → Context
@@ -42,5 +55,5 @@ pub record AreGathered {A : Type 0} (agrees : Type 0) (ls : List Line) (from to 
 -- the lines from one place to another are taken, and answer nothing
 pub record HasGoneOn (agrees : Type 0) (ls : List Line) (from to : ℕ) (old new : Held) : Type 0 where
   pub start : from ≤ to
-  pub end : to ≤ length ls
+  pub end : from ≤ length ls → to ≤ length ls
   pub reached : agrees → (size : Size) (text : List ℕ) (marks : List Mark) → HasReached size ls from old text marks → HasReached size ls to new text marks

@@ -1,12 +1,11 @@
 //! Sessions, from the bytes of a script to the bytes of the answers and the image.
 
 ghost use Rattle.std.specs.Prelude.{◌<◌, ◌≤◌, ◌^◌};
-ghost use Rattle.tileblock.specs.Surface.{IsWhole};
-ghost use Rattle.sessions.specs.Writing.{Progress, course, stopped_output, Answered, HasCause, Wrote};
-ghost use Rattle.sessions.specs.Performing.{done_output, output_by};
+ghost use Rattle.sessions.specs.Writing.{course, Answered, HasCause, Wrote};
+ghost use Rattle.sessions.specs.Performing.{output_by};
 
 use crate::answer_text::refused_line;
-use crate::ending::Performance;
+use crate::ending::{Performance, stopped};
 use crate::outcome::{Ended, SessionFault};
 use crate::perform::perform_alone;
 use crate::threads::perform_in_threads;
@@ -15,60 +14,9 @@ use std::alloc::Allocator;
 use std::sync::Wait;
 use std::thread::Threads;
 use tga::write_tga;
-use tileblock::Target;
 use workers::Gate;
 
-/// Writes the answer lines and the image.
-fn write_done<A: Allocator, I: Sink, L: Sink>(
-    answers: &[u8],
-    target: &Target<A>,
-    image: &mut I,
-    lines: &mut L,
-) -> Result<Ended, SessionFault>
-    requires whole { IsWhole target.now }
-    requires image { I.failures image.old < 2 ^ 63 }
-    requires lines { L.failures lines.old < 2 ^ 63 }
-    ensures wrote { I.tells image.old → L.tells lines.old → Wrote (done_output answers.now target.now) result
-        (course L.written L.failures lines.old lines.new) (course I.written I.failures image.old image.new) }
-    ensures cause { HasCause result 0 0 (course L.written L.failures lines.old lines.new) (course I.written I.failures image.old image.new) }
-{
-    if let Err(taken) = put_all(lines, answers) {
-        return Err(SessionFault::Lines {
-            taken: taken as u64,
-        });
-    }
-    match write_tga(image, target) {
-        Ok(()) => Ok(Ended::Done),
-        Err(fault) => Err(SessionFault::Image { taken: fault.taken }),
-    }
-}
-
-/// Writes the answer lines and the line of a refusal.
-fn write_refused<L: Sink>(
-    answers: &[u8],
-    line: u64,
-    number: u32,
-    lines: &mut L,
-) -> Result<Ended, SessionFault>
-    requires lines { L.failures lines.old < 2 ^ 63 }
-    ensures wrote { (image : Progress) → L.tells lines.old → Wrote (stopped_output answers.now line number) result
-        (course L.written L.failures lines.old lines.new) (record { before = image; after = image }) }
-    ensures cause { (image : Progress) → HasCause result 0 0 (course L.written L.failures lines.old lines.new) (record { before = image; after = image }) }
-{
-    if let Err(taken) = put_all(lines, answers) {
-        return Err(SessionFault::Lines {
-            taken: taken as u64,
-        });
-    }
-    match put_all(lines, refused_line(line, number).as_bytes()) {
-        Ok(()) => Ok(Ended::Refused { line, number }),
-        Err(taken) => Err(SessionFault::Lines {
-            taken: answers.len() as u64 + taken as u64,
-        }),
-    }
-}
-
-/// Writes what a session has to write.
+/// Writes what a session has to write: the answer lines, and then the image or the line of a refusal.
 fn write_performance<A: Allocator + Copy + Send, I: Sink, L: Sink>(
     performance: Performance<A>,
     image: &mut I,
@@ -81,9 +29,22 @@ fn write_performance<A: Allocator + Copy + Send, I: Sink, L: Sink>(
     ensures cause { HasCause result 0 0 (course L.written L.failures lines.old lines.new) (course I.written I.failures image.old image.new) }
 {
     let Performance { answers, end } = performance;
+    if let Err(taken) = put_all(lines, answers.as_slice()) {
+        return Err(SessionFault::Lines {
+            taken: taken as u64,
+        });
+    }
     match end {
-        Ok(context) => write_done(answers.as_slice(), context.target(), image, lines),
-        Err((line, number)) => write_refused(answers.as_slice(), line, number, lines),
+        Ok(context) => match write_tga(image, context.target()) {
+            Ok(()) => Ok(Ended::Done),
+            Err(fault) => Err(SessionFault::Image { taken: fault.taken }),
+        },
+        Err((line, number)) => match put_all(lines, refused_line(line, number).as_bytes()) {
+            Ok(()) => Ok(Ended::Refused { line, number }),
+            Err(taken) => Err(SessionFault::Lines {
+                taken: answers.len() as u64 + taken as u64,
+            }),
+        },
     }
 }
 
@@ -108,7 +69,7 @@ pub fn session_alone<A: Allocator + Copy + Send, R: Source, I: Sink, L: Sink>(
     let text = match gather(alloc, script) {
         Ok(text) => text,
         Err(GatherError::Read) => return Err(SessionFault::Read), // what came is no script
-        Err(GatherError::Memory) => return write_refused(&[], 0, 1, lines),
+        Err(GatherError::Memory) => return write_performance(stopped(alloc, 0, 1), image, lines),
     };
     write_performance(perform_alone(alloc, text), image, lines)
 }
@@ -144,7 +105,7 @@ pub fn session<
     let text = match gather(alloc, script) {
         Ok(text) => text,
         Err(GatherError::Read) => return Err(SessionFault::Read),
-        Err(GatherError::Memory) => return write_refused(&[], 0, 1, lines),
+        Err(GatherError::Memory) => return write_performance(stopped(alloc, 0, 1), image, lines),
     };
     let performance = perform_in_threads(rt, alloc, workers, gate, text);
     write_performance(performance, image, lines)

@@ -1,11 +1,11 @@
 //! Executions that stand behind one another, taken together: they run as one behind the pending commands, so each tile is gone over
 //! once for all of them.
 
-ghost use Rattle.std.specs.Prelude.{◌≡◌, ◌<◌, ◌≤◌, ◌+◌, length, map, IfSome, []};
+ghost use Rattle.std.specs.Prelude.{◌≡◌, map, IfSome, []};
 ghost use Rattle.scenetext.specs.Seen.{line_value};
 ghost use Rattle.scenetext.specs.Spelling.{AreLines};
 ghost use Rattle.sessions.specs.Playing.{ListsOf};
-ghost use Rattle.sessions.specs.Gathering.{ExecutesAndKeeps, AreGathered, HasGoneOn};
+ghost use Rattle.sessions.specs.Gathering.{ExecutesAndKeeps, IsKept, AreGathered, HasGoneOn};
 
 use crate::run::{Workers, finished_list};
 use cmdlist::CommandList;
@@ -27,37 +27,30 @@ fn kept_execution<A: Allocator>(line: &Line<A>) -> Option<(u32, u32)>
     }
 }
 
-/// The execution of the line at a place, behind the pending commands, where that keeps the state, its list is here, and both run
-/// as one.
-fn begin_gathering<A: Allocator + Copy + Send, S: ListSource<CommandList<A>>>(
-    context: &mut ImmediateContext<A>,
-    lists: &S,
+/// The list that the line at a place executes, where that keeps the state and the list is here.
+fn kept_list<'l, A: Allocator, S: ListSource<CommandList<A>>>(
+    lists: &'l S,
     lines: &[Line<A>],
-    from: usize,
-    with_threads: bool,
-) -> Option<Executions<A>>
-    requires lines { AreLines [] (map line_value lines.now) }
-    requires right { ListsOf (map line_value lines.now) (S.right lists.now) }
-    ensures same { context.new ≡ context.old }
-    ensures inside { IfSome result (λ e. from < length lines.now) }
-    ensures gathered { IfSome result (AreGathered (S.agrees lists.now) (map line_value lines.now) from (from + 1) context.old) }
+    place: usize,
+) -> Option<&'l CommandList<A>>
+    requires { AreLines [] (map line_value lines.now) }
+    ensures { IfSome result (λ list. IsKept (S.agrees lists.now) (S.right lists.now) (map line_value lines.now) place list.now) }
 {
-    if from >= lines.len() {
+    if place >= lines.len() {
         return None;
     }
-    let Some((of, number)) = kept_execution(&lines[from]) else {
+    let Some((of, number)) = kept_execution(&lines[place]) else {
         return None;
     };
     if !lists.is_here(of, number) {
         return None;
     }
     let list = finished_list(lists, of, number);
-    let executions = context.begin_executions(list, with_threads)?;
-    Some(executions)
+    Some(list)
 }
 
-/// The executions of the lines from a place on, up to the first line that isn't one, whose list hasn't come yet or has no room.
-/// With them comes its place.
+/// The executions of the lines from a place on that keep the state, up to the first line that isn't one, whose list hasn't come
+/// yet or has no room. With them comes its place.
 fn gather_executions<A: Allocator + Copy + Send, S: ListSource<CommandList<A>>>(
     context: &mut ImmediateContext<A>,
     lists: &S,
@@ -70,15 +63,12 @@ fn gather_executions<A: Allocator + Copy + Send, S: ListSource<CommandList<A>>>(
     ensures same { context.new ≡ context.old }
     ensures gathered { IfSome result (λ found. AreGathered (S.agrees lists.now) (map line_value lines.now) from found.1 context.old found.0) }
 {
-    let mut executions = begin_gathering(context, lists, lines, from, with_threads)?;
+    let first = kept_list(lists, lines, from)?;
+    let mut executions = context.begin_executions(first, with_threads)?;
     for place in from + 1..lines.len() {
-        let Some((of, number)) = kept_execution(&lines[place]) else {
+        let Some(list) = kept_list(lists, lines, place) else {
             return Some((executions, place));
         };
-        if !lists.is_here(of, number) {
-            return Some((executions, place));
-        }
-        let list = finished_list(lists, of, number);
         if !executions.takes(list) {
             return Some((executions, place));
         }
@@ -97,7 +87,6 @@ pub(crate) fn take_executions_alone<A: Allocator + Copy + Send, S: ListSource<Co
 ) -> usize
     requires lines { AreLines [] (map line_value lines.now) }
     requires right { ListsOf (map line_value lines.now) (S.right lists.now) }
-    requires from { from ≤ length lines.now }
     ensures gone { HasGoneOn (S.agrees lists.now) (map line_value lines.now) from result context.old context.new }
 {
     let Some((executions, behind)) = gather_executions(context, lists, lines, from, false) else {
@@ -124,7 +113,6 @@ pub(crate) fn take_executions_by_crew<
 ) -> usize
     requires lines { AreLines [] (map line_value lines.now) }
     requires right { ListsOf (map line_value lines.now) (S.right lists.now) }
-    requires from { from ≤ length lines.now }
     ensures gone { HasGoneOn (S.agrees lists.now) (map line_value lines.now) from result context.old context.new }
 {
     let with_threads = workers.crew.workers() > 0;

@@ -4,6 +4,7 @@ use Rattle.scenetext.specs.Seen.{line_value, actor_value}
 use Rattle.sessions.specs.declared.answers.AnswerText.{AnswerText}
 use Rattle.sessions.specs.Playing.{HasReached, IsInterrupted}
 use Rattle.sessions.proofs.Steps.{next_line, reached_next, reached_other, interrupted, untold, last_interrupted, some_deferred}
+use Rattle.sessions.proofs.Gathering.{more_inside}
 use Rattle.sessions.proofs.play.play.Goals as goal
 use Rattle.sessions.proofs.play.play.Goals.{in-Immediate+in-Ok+in_default-add, in_default}
 
@@ -60,7 +61,7 @@ loop-place-preserved g c =
     ] in
     let gone = c.requires.goes_on _ _ _ _ _ c.go_on-place.ensures in
     record {
-      below = subst (λ n. c.go_on-place.result ≤ n) (length-map c.args.lines.now line_value) gone.end;
+      below = subst (λ n. c.go_on-place.result ≤ n) (length-map c.args.lines.now line_value) (gone.end (more_inside c.loop-place.place (length ls) next.below));
       frame = behind.0;
       right = behind.1;
       agrees = behind.2;
