@@ -15,7 +15,7 @@ play_in_scope-round-requires-clause-may g c κs within = record { sound = search
 pub settle-deferred-requires : goal.settle-deferred-requires
 settle-deferred-requires g c =
     let round = c.play_in_scope-round.ensures in
-    (round.queue_is, λ p low. let h = round.results p low in (h.queue_is, h.port_is))
+    (round.results.back, round.queue_is)
 
 pub end-requires-clause-sized : goal.end-requires-clause-sized
 end-requires-clause-sized g c = c.in-Ok.ensures.begun.sized
