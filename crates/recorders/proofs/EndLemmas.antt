@@ -149,7 +149,7 @@ all_ended ls a b c d p q r s = (refl, each_port (λ n. AreEnded ls n (pair_at (a
 all_four : {X : Type 0} (P : X → Type 0) (a b c d : X) → P a → P b → P c → P d → All P (a ∷ b ∷ c ∷ d ∷ [])
 all_four P a b c d p q r s = All-cons P a (b ∷ c ∷ d ∷ []) p (All-cons P b (c ∷ d ∷ []) q (All-cons P c (d ∷ []) r (All-cons P d [] s (All-nil P))))
 
-pub all_results : {A : Type 0} (ls : List Line) (queue : TableId) (a b c d : RecorderResult A) → IsResultOf ls queue 0 a → IsResultOf ls queue 1 b → IsResultOf ls queue 2 c → IsResultOf ls queue 3 d → AreResults {A = A} ls queue (record { passes = a.pass ∷ b.pass ∷ c.pass ∷ d.pass ∷ []; ends = a.end ∷ b.end ∷ c.end ∷ d.end ∷ [] })
+pub all_results : {A : Type 0} (ls : List Line) (queue : TableId) (a b c d : RecorderResult A) → IsResultOf ls queue 0 a → IsResultOf ls queue 1 b → IsResultOf ls queue 2 c → IsResultOf ls queue 3 d → AreResults {A = A} ls queue (record { passes = record { 0 = a.pass; 1 = b.pass; 2 = c.pass; 3 = d.pass }; ends = a.end ∷ b.end ∷ c.end ∷ d.end ∷ [] })
 all_results ls queue a b c d p q r s = record {
   back = (
     (λ i. p.port_is i ∷ q.port_is i ∷ r.port_is i ∷ s.port_is i ∷ []),

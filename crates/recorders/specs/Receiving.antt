@@ -12,7 +12,7 @@ use Rattle.recorders.specs.declared.ports.ByPort.{ByPort}
 use Rattle.recorders.specs.declared.ports.Recorded.{Recorded}
 use Rattle.recorders.specs.declared.recorder.RecorderResult.{RecorderResult}
 use Rattle.recorders.specs.declared.refusal.RecordingEnd.{RecordingEnd}
-use Rattle.recorders.specs.Ports.{at_port}
+use Rattle.recorders.specs.Ports.{at_port, in_order}
 use Rattle.recorders.specs.Sinks.{lists_sent}
 use Rattle.recorders.specs.Apart.{listed, IsListed}
 use Rattle.recorders.specs.Recorders.{AreEnded, end_in, port_of}
@@ -108,8 +108,8 @@ module _ {A : Type 0} where
 
   -- what the four recorders hand over
   pub record AreResults (ls : List Line) (queue : TableId) (results : RecorderResults A) : Type 0 where
-    pub back : AreAll queue results.passes
-    pub sent : SentAgrees ls results.passes
+    pub back : AreAll queue (in_order results.passes)
+    pub sent : SentAgrees ls (in_order results.passes)
     pub ends : AreEnds ls results.ends
 
   -- there is no list of this number
@@ -118,4 +118,4 @@ module _ {A : Type 0} where
 
   -- each pass is back, at its number, and the drain
   abbrev pub AreBack : TableId → Returned A → Type 0
-  AreBack queue r = AreAll queue r.results.passes × (r.drain.queue ≡ queue)
+  AreBack queue r = AreAll queue (in_order r.results.passes) × (r.drain.queue ≡ queue)

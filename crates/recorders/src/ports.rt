@@ -42,7 +42,7 @@ pub struct Passes<A: Allocator> {
 /// What the four joined recorders hand over: their passes, and how their contexts ended.
 #[derive(Drop)]
 pub struct RecorderResults<A: Allocator> {
-    pub(crate) passes: [ListPass<A>; 4],
+    pub(crate) passes: ByPort<ListPass<A>>,
     pub(crate) ends: [RecordingEnd; 4],
 }
 
@@ -105,6 +105,7 @@ pub fn settle<A: Allocator, R: Wait>(
 {
     let Returned { results, drain } = returned;
     let RecorderResults { passes, ends } = results;
-    settle_all(rt, ports, passes, drain);
+    let ByPort(zero, one, two, three) = passes;
+    settle_all(rt, ports, [zero, one, two, three], drain);
     first_refused(&ends)
 }

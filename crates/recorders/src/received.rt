@@ -121,7 +121,7 @@ impl<'a, A: Allocator, R: Threads + Wait> ReceivedLists<'a, A, R> {
         let two = two.close(self.rt);
         let three = three.close(self.rt);
         let results = RecorderResults {
-            passes: [zero.pass, one.pass, two.pass, three.pass],
+            passes: ByPort(zero.pass, one.pass, two.pass, three.pass),
             ends: [zero.end, one.end, two.end, three.end],
         };
         Returned {
