@@ -237,7 +237,9 @@ impl<A: Allocator> TileBlock<A> {
     {
         let at = (4 * row + span) as usize;
         self.spans.depths[at] = depths;
-        self.spans.cells = None;
+        if self.spans.cells.is_some() {
+            self.spans.cells = None;
+        }
         self.bounds = None;
     }
 
