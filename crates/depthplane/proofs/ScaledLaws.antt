@@ -16,19 +16,19 @@ use Rattle.depthplane.proofs.DivisionLaws.{splits, only_split}
 
 -- what v is more than the scaled number, in parts of the divisor, and how many multiples of 2^64 it left out
 pub record Lies (n divisor : ℤ) (excess v : ℕ) (over turns : ℤ) : Type 0 where
-  pub exact : pos v *ℤ divisor ≡ pos 1099511627776 *ℤ n +ℤ over +ℤ turns *ℤ (pos 18446744073709551616 *ℤ divisor)
+  pub exact : pos v *ℤ divisor ≡ pos 4294967296 *ℤ n +ℤ over +ℤ turns *ℤ (pos 18446744073709551616 *ℤ divisor)
   pub low : pos 0 ≤ℤ over
   pub high : over ≤ℤ (divisor *ℤ pos excess)
 
 whole_positive : (d : ℤ) → pos 0 <ℤ d → pos 0 <ℤ (pos 18446744073709551616 *ℤ d)
 whole_positive d p = omega (arith, ints)
 
-pub lies : (n d : ℤ) (e v : ℕ) → pos 0 <ℤ d → IsScaled n d e v → Lies n d e v (int_rem_euclid (pos v *ℤ d -ℤ pos 1099511627776 *ℤ n) (pos 18446744073709551616 *ℤ d)) (int_div_euclid (pos v *ℤ d -ℤ pos 1099511627776 *ℤ n) (pos 18446744073709551616 *ℤ d))
+pub lies : (n d : ℤ) (e v : ℕ) → pos 0 <ℤ d → IsScaled n d e v → Lies n d e v (int_rem_euclid (pos v *ℤ d -ℤ pos 4294967296 *ℤ n) (pos 18446744073709551616 *ℤ d)) (int_div_euclid (pos v *ℤ d -ℤ pos 4294967296 *ℤ n) (pos 18446744073709551616 *ℤ d))
 lies n d e v p h =
     let whole = pos 18446744073709551616 *ℤ d in
-    let m = pos v *ℤ d -ℤ pos 1099511627776 *ℤ n in
+    let m = pos v *ℤ d -ℤ pos 4294967296 *ℤ n in
     let s = splits m whole (whole_positive d p) in
-    record { exact = by (pos v *ℤ d) (pos 1099511627776 *ℤ n) (int_div_euclid m whole *ℤ whole) (int_rem_euclid m whole) s.exact; low = s.rest.low; high = h.close }
+    record { exact = by (pos v *ℤ d) (pos 4294967296 *ℤ n) (int_div_euclid m whole *ℤ whole) (int_rem_euclid m whole) s.exact; low = s.rest.low; high = h.close }
   where
     by : (a b t r : ℤ) → a -ℤ b ≡ t +ℤ r → a ≡ b +ℤ r +ℤ t
     by a b t r f = omega (arith, ints)
@@ -36,8 +36,8 @@ lies n d e v p h =
 pub is_scaled : (n d : ℤ) (e v : ℕ) (over turns : ℤ) → pos 0 <ℤ d → e < 18446744073709551616 → Lies n d e v over turns → IsScaled n d e v
 is_scaled n d e v over turns p few h =
     let whole = pos 18446744073709551616 *ℤ d in
-    let m = pos v *ℤ d -ℤ pos 1099511627776 *ℤ n in
-    let exact : m ≡ turns *ℤ whole +ℤ over = by (pos v *ℤ d) (pos 1099511627776 *ℤ n) (turns *ℤ whole) over h.exact in
+    let m = pos v *ℤ d -ℤ pos 4294967296 *ℤ n in
+    let exact : m ≡ turns *ℤ whole +ℤ over = by (pos v *ℤ d) (pos 4294967296 *ℤ n) (turns *ℤ whole) over h.exact in
     let rest : IsRest whole over = record { low = h.low; high = within d e over p few h.high } in
     let only = only_split m whole turns over (whole_positive d p) (record { exact = exact; rest = rest }) in
     let P : ℤ → Type 0 = λ r. r ≤ℤ (d *ℤ pos e) in
@@ -55,18 +55,18 @@ wraps : (n : ℕ) → pos (n % 18446744073709551616) ≡ pos n -ℤ pos (n / 184
 wraps n = let z = div-add-mod' n 18446744073709551616 in omega (arith, ints, z)
 
 -- the sum of two scaled numbers
-total : (n m d v w o p s t c : ℤ) → v *ℤ d ≡ pos 1099511627776 *ℤ n +ℤ o +ℤ s *ℤ (pos 18446744073709551616 *ℤ d) → w *ℤ d ≡ pos 1099511627776 *ℤ m +ℤ p +ℤ t *ℤ (pos 18446744073709551616 *ℤ d)
-    → ((v +ℤ w) -ℤ c *ℤ pos 18446744073709551616) *ℤ d ≡ pos 1099511627776 *ℤ (n +ℤ m) +ℤ (o +ℤ p) +ℤ (s +ℤ t -ℤ c) *ℤ (pos 18446744073709551616 *ℤ d)
+total : (n m d v w o p s t c : ℤ) → v *ℤ d ≡ pos 4294967296 *ℤ n +ℤ o +ℤ s *ℤ (pos 18446744073709551616 *ℤ d) → w *ℤ d ≡ pos 4294967296 *ℤ m +ℤ p +ℤ t *ℤ (pos 18446744073709551616 *ℤ d)
+    → ((v +ℤ w) -ℤ c *ℤ pos 18446744073709551616) *ℤ d ≡ pos 4294967296 *ℤ (n +ℤ m) +ℤ (o +ℤ p) +ℤ (s +ℤ t -ℤ c) *ℤ (pos 18446744073709551616 *ℤ d)
 total n m d v w o p s t c e f = let x = mul_assoc c (pos 18446744073709551616) d in simp spread (omega (arith, ints, e, f, x))
 
 pub sum_scaled : (n m d : ℤ) (e f v w : ℕ) → pos 0 <ℤ d → e + f < 18446744073709551616 → IsScaled n d e v → IsScaled m d f w → IsScaled (n +ℤ m) d (e + f) ((v + w) % 18446744073709551616)
 sum_scaled n m d e f v w p few h k =
     let a = lies n d e v p h in
     let b = lies m d f w p k in
-    let o = int_rem_euclid (pos v *ℤ d -ℤ pos 1099511627776 *ℤ n) (pos 18446744073709551616 *ℤ d) in
-    let q = int_rem_euclid (pos w *ℤ d -ℤ pos 1099511627776 *ℤ m) (pos 18446744073709551616 *ℤ d) in
-    let s = int_div_euclid (pos v *ℤ d -ℤ pos 1099511627776 *ℤ n) (pos 18446744073709551616 *ℤ d) in
-    let t = int_div_euclid (pos w *ℤ d -ℤ pos 1099511627776 *ℤ m) (pos 18446744073709551616 *ℤ d) in
+    let o = int_rem_euclid (pos v *ℤ d -ℤ pos 4294967296 *ℤ n) (pos 18446744073709551616 *ℤ d) in
+    let q = int_rem_euclid (pos w *ℤ d -ℤ pos 4294967296 *ℤ m) (pos 18446744073709551616 *ℤ d) in
+    let s = int_div_euclid (pos v *ℤ d -ℤ pos 4294967296 *ℤ n) (pos 18446744073709551616 *ℤ d) in
+    let t = int_div_euclid (pos w *ℤ d -ℤ pos 4294967296 *ℤ m) (pos 18446744073709551616 *ℤ d) in
     let c = pos ((v + w) / 18446744073709551616) in
     let a_low = a.low in let a_high = a.high in let b_low = b.low in let b_high = b.high in
     let kept : pos ((v + w) % 18446744073709551616) ≡ (pos v +ℤ pos w) -ℤ c *ℤ pos 18446744073709551616 = wraps (v + w) in
@@ -103,29 +103,29 @@ times_scaled n d e v (suc k) p few h =
     product v k = omega arith
 
 -- a division, scaled
-split_scaled : (n d q r t f c o : ℤ) → n ≡ (t *ℤ pos 4294967296 +ℤ q) *ℤ d +ℤ r → f *ℤ d ≡ pos 1099511627776 *ℤ r +ℤ o
-    → ((q *ℤ pos 1099511627776 +ℤ f) -ℤ c *ℤ pos 18446744073709551616) *ℤ d ≡ pos 1099511627776 *ℤ n +ℤ o +ℤ (pos 0 -ℤ c -ℤ t *ℤ pos 256) *ℤ (pos 18446744073709551616 *ℤ d)
+split_scaled : (n d q r t f c o : ℤ) → n ≡ (t *ℤ pos 4294967296 +ℤ q) *ℤ d +ℤ r → f *ℤ d ≡ pos 4294967296 *ℤ r +ℤ o
+    → ((q *ℤ pos 4294967296 +ℤ f) -ℤ c *ℤ pos 18446744073709551616) *ℤ d ≡ pos 4294967296 *ℤ n +ℤ o +ℤ (pos 0 -ℤ c -ℤ t *ℤ pos 1) *ℤ (pos 18446744073709551616 *ℤ d)
 split_scaled n d q r t f c o e g =
     let whole = mul_assoc c (pos 18446744073709551616) d in
-    let unit = mul_assoc q (pos 1099511627776) d ∙ mul_left_comm q (pos 1099511627776) d in
+    let unit = mul_assoc q (pos 4294967296) d ∙ mul_left_comm q (pos 4294967296) d in
     let high = mul_assoc t (pos 4294967296) d ∙ mul_left_comm t (pos 4294967296) d in
-    let turns = mul_assoc t (pos 256) (pos 18446744073709551616 *ℤ d) ∙ mul_left_comm t (pos 256) (pos 18446744073709551616 *ℤ d) in
+    let turns = mul_assoc t (pos 1) (pos 18446744073709551616 *ℤ d) ∙ mul_left_comm t (pos 1) (pos 18446744073709551616 *ℤ d) in
     let turn = mul_left_comm t (pos 18446744073709551616) d in
     rw e (simp spread (omega (arith, ints, g, whole, unit, high, turns, turn)))
 
-pub scaled_division : (n d : ℤ) (a : Divided) (e f : ℕ) (o : ℤ) → pos 0 <ℤ d → e < 18446744073709551616 → IsDivision n d a → pos f *ℤ d ≡ pos 1099511627776 *ℤ a.remainder +ℤ o → pos 0 ≤ℤ o → o ≤ℤ (d *ℤ pos e)
-    → IsScaled n d e ((a.quotient * 1099511627776 % 18446744073709551616 + f) % 18446744073709551616)
+pub scaled_division : (n d : ℤ) (a : Divided) (e f : ℕ) (o : ℤ) → pos 0 <ℤ d → e < 18446744073709551616 → IsDivision n d a → pos f *ℤ d ≡ pos 4294967296 *ℤ a.remainder +ℤ o → pos 0 ≤ℤ o → o ≤ℤ (d *ℤ pos e)
+    → IsScaled n d e ((a.quotient * 4294967296 % 18446744073709551616 + f) % 18446744073709551616)
 scaled_division n d a e f o p few h g low high =
     let q = int_div_euclid n d in
     let s = splits n d p in
     let u = splits q (pos 4294967296) (omega (arith, ints)) in
     let t = int_div_euclid q (pos 4294967296) in
-    let v = (a.quotient * 1099511627776 % 18446744073709551616 + f) % 18446744073709551616 in
-    let c = pos ((a.quotient * 1099511627776 + f) / 18446744073709551616) in
+    let v = (a.quotient * 4294967296 % 18446744073709551616 + f) % 18446744073709551616 in
+    let c = pos ((a.quotient * 4294967296 + f) / 18446744073709551616) in
     let whole : q ≡ t *ℤ pos 4294967296 +ℤ pos a.quotient = u.exact ∙ ap (λ r. t *ℤ pos 4294967296 +ℤ r) (sym h.quotient) in
     let number : n ≡ (t *ℤ pos 4294967296 +ℤ pos a.quotient) *ℤ d +ℤ a.remainder = s.exact ∙ (λ i. whole i *ℤ d +ℤ sym h.remainder i) in
-    let kept : pos v ≡ (pos a.quotient *ℤ pos 1099511627776 +ℤ pos f) -ℤ c *ℤ pos 18446744073709551616 = ap pos (wrapped (a.quotient * 1099511627776) f) ∙ wraps (a.quotient * 1099511627776 + f) in
-    is_scaled n d e v o (pos 0 -ℤ c -ℤ t *ℤ pos 256) p few
+    let kept : pos v ≡ (pos a.quotient *ℤ pos 4294967296 +ℤ pos f) -ℤ c *ℤ pos 18446744073709551616 = ap pos (wrapped (a.quotient * 4294967296) f) ∙ wraps (a.quotient * 4294967296 + f) in
+    is_scaled n d e v o (pos 0 -ℤ c -ℤ t *ℤ pos 1) p few
     (record { exact = ap (λ z. z *ℤ d) kept ∙ split_scaled n d (pos a.quotient) a.remainder t (pos f) c o number g; low = low; high = high })
   where
     wrapped : (a b : ℕ) → (a % 18446744073709551616 + b) % 18446744073709551616 ≡ (a + b) % 18446744073709551616
@@ -133,17 +133,17 @@ scaled_division n d a e f o p few h g low high =
 
 -- a division whose rest was rounded up
 module _ (f : ℕ) where
-  over_low : (d r : ℤ) → pos 0 <ℤ d → pos 0 ≤ℤ r → 1099511627776 * unsigned_abs r ≤ f * unsigned_abs d → pos 0 ≤ℤ (pos f *ℤ d -ℤ pos 1099511627776 *ℤ r)
+  over_low : (d r : ℤ) → pos 0 <ℤ d → pos 0 ≤ℤ r → 4294967296 * unsigned_abs r ≤ f * unsigned_abs d → pos 0 ≤ℤ (pos f *ℤ d -ℤ pos 4294967296 *ℤ r)
   over_low (pos x) (pos y) p q l = omega (arith, ints, l)
   over_low (pos x) (negsuc y) p q l = absurd (omega (arith, ints, q))
   over_low (negsuc x) r p q l = absurd (omega (arith, ints, p))
 
-  over_high : (d r : ℤ) → pos 0 <ℤ d → pos 0 ≤ℤ r → f * unsigned_abs d < 1099511627776 * unsigned_abs r + unsigned_abs d → (pos f *ℤ d -ℤ pos 1099511627776 *ℤ r) ≤ℤ (d *ℤ pos 1)
+  over_high : (d r : ℤ) → pos 0 <ℤ d → pos 0 ≤ℤ r → f * unsigned_abs d < 4294967296 * unsigned_abs r + unsigned_abs d → (pos f *ℤ d -ℤ pos 4294967296 *ℤ r) ≤ℤ (d *ℤ pos 1)
   over_high (pos x) (pos y) p q l = omega (arith, ints, l)
   over_high (pos x) (negsuc y) p q l = absurd (omega (arith, ints, q))
   over_high (negsuc x) r p q l = absurd (omega (arith, ints, p))
 
-parts_none : (f : ℕ) (d : ℤ) → pos 0 <ℤ d → f * unsigned_abs d < 1099511627776 * 0 + unsigned_abs d → f ≡ 0
+parts_none : (f : ℕ) (d : ℤ) → pos 0 <ℤ d → f * unsigned_abs d < 4294967296 * 0 + unsigned_abs d → f ≡ 0
 parts_none zero d p l = refl
 parts_none (suc f) (pos x) p l = absurd (omega (arith, l))
 parts_none (suc f) (negsuc x) p l = absurd (omega (arith, ints, p))
@@ -151,18 +151,18 @@ parts_none (suc f) (negsuc x) p l = absurd (omega (arith, ints, p))
 again : (a b : ℤ) → a ≡ b +ℤ (a -ℤ b)
 again a b = omega (arith, ints)
 
-pub parts_near : (n d : ℤ) (a : Divided) (f : ℕ) → IsDivisor d → IsRest d a.remainder → 1099511627776 * unsigned_abs a.remainder ≤ f * unsigned_abs d → f * unsigned_abs d < 1099511627776 * unsigned_abs a.remainder + unsigned_abs d → IsDivision n d a
-    → IsScaled n d 1 ((a.quotient * 1099511627776 % 18446744073709551616 + f) % 18446744073709551616)
+pub parts_near : (n d : ℤ) (a : Divided) (f : ℕ) → IsDivisor d → IsRest d a.remainder → 4294967296 * unsigned_abs a.remainder ≤ f * unsigned_abs d → f * unsigned_abs d < 4294967296 * unsigned_abs a.remainder + unsigned_abs d → IsDivision n d a
+    → IsScaled n d 1 ((a.quotient * 4294967296 % 18446744073709551616 + f) % 18446744073709551616)
 parts_near n d a f p r low high h =
-    scaled_division n d a 1 f (pos f *ℤ d -ℤ pos 1099511627776 *ℤ a.remainder) p.positive (omega arith) h (again (pos f *ℤ d) (pos 1099511627776 *ℤ a.remainder))
+    scaled_division n d a 1 f (pos f *ℤ d -ℤ pos 4294967296 *ℤ a.remainder) p.positive (omega arith) h (again (pos f *ℤ d) (pos 4294967296 *ℤ a.remainder))
     (over_low f d a.remainder p.positive r.low low) (over_high f d a.remainder p.positive r.low high)
 
-pub parts_exact : (n d : ℤ) (a : Divided) (f : ℕ) → IsDivisor d → a.remainder ≡ pos 0 → f * unsigned_abs d < 1099511627776 * unsigned_abs a.remainder + unsigned_abs d → IsDivision n d a
-    → IsScaled n d 0 ((a.quotient * 1099511627776 % 18446744073709551616 + f) % 18446744073709551616)
+pub parts_exact : (n d : ℤ) (a : Divided) (f : ℕ) → IsDivisor d → a.remainder ≡ pos 0 → f * unsigned_abs d < 4294967296 * unsigned_abs a.remainder + unsigned_abs d → IsDivision n d a
+    → IsScaled n d 0 ((a.quotient * 4294967296 % 18446744073709551616 + f) % 18446744073709551616)
 parts_exact n d a f p none high h =
     let positive = p.positive in
     let no_parts = parts_none f d positive (rw none at high) in
-    let exact : pos f *ℤ d ≡ pos 1099511627776 *ℤ a.remainder +ℤ pos 0 = (λ i. pos (no_parts i) *ℤ d) ∙ omega (arith, ints, none) in
+    let exact : pos f *ℤ d ≡ pos 4294967296 *ℤ a.remainder +ℤ pos 0 = (λ i. pos (no_parts i) *ℤ d) ∙ omega (arith, ints, none) in
     scaled_division n d a 0 f (pos 0) positive (omega arith) h exact (omega (arith, ints)) (omega (arith, ints))
 
 -- by the error of 0 or 1
@@ -206,7 +206,7 @@ excess_down zero x y l = omega arith
 excess_down (suc zero) x y l = omega arith
 excess_down (suc (suc e)) x y l = absurd (omega (arith, l))
 
-pub excess_bound : (a e x y : ℕ) → e ≤ 1 → x ≤ 8191 → y ≤ 8191 → a * (e * 16384) < 1099511627776 → a * excess_at e x y < 1099511627776
+pub excess_bound : (a e x y : ℕ) → e ≤ 1 → x ≤ 8191 → y ≤ 8191 → a * (e * 16384) < 4294967296 → a * excess_at e x y < 4294967296
 excess_bound a zero x y l p q s = omega (arith, s)
 excess_bound a (suc zero) x y l p q s = let few : excess_at 1 x y ≤ 16384 = omega (arith, p, q) in let w = mul-le-mul_left a few in omega (arith, s, w)
 excess_bound a (suc (suc e)) x y l p q s = absurd (omega (arith, l))
@@ -228,24 +228,24 @@ step_scaled n m d e f g v w r p sum few is h k =
     there n m = omega (arith, ints)
 
 -- a natural number that is scaled and small left nothing out
-turned_none : (h a v : ℕ) (o t : ℤ) (e : ℕ) → v < 18446744073709551616 → h ≤ a * 16777215 → e ≤ 16384 → 0 < a → pos v *ℤ pos a ≡ pos 1099511627776 *ℤ pos h +ℤ o +ℤ t *ℤ (pos 18446744073709551616 *ℤ pos a) → pos 0 ≤ℤ o → o ≤ℤ (pos a *ℤ pos e) → t ≡ pos 0
+turned_none : (h a v : ℕ) (o t : ℤ) (e : ℕ) → v < 18446744073709551616 → h ≤ a * 16777215 → e ≤ 16384 → 0 < a → pos v *ℤ pos a ≡ pos 4294967296 *ℤ pos h +ℤ o +ℤ t *ℤ (pos 18446744073709551616 *ℤ pos a) → pos 0 ≤ℤ o → o ≤ℤ (pos a *ℤ pos e) → t ≡ pos 0
 turned_none h a v o (pos zero) e l m few some x low high = refl
 turned_none h a v o (pos (suc k)) e l m few some x low high = absurd (let y = mul-le-mul_left a l in omega (arith, ints, x, y))
 turned_none h a v o (negsuc k) e l m few some x low high = absurd (let y = mul-le-mul_left a few in omega (arith, ints, x, y))
 
 -- what a scaled depth tells of the height above it: times the area it is the height, and a little more
 pub record IsAbove (h a e v : ℕ) : Type 0 where
-  pub least : 1099511627776 * h ≤ v * a
-  pub most : v * a ≤ 1099511627776 * h + a * e
+  pub least : 4294967296 * h ≤ v * a
+  pub most : v * a ≤ 4294967296 * h + a * e
 
 pub above : (h a e v : ℕ) → v < 18446744073709551616 → h ≤ a * 16777215 → e ≤ 16384 → 0 < a → IsScaled (pos h) (pos a) e v → IsAbove h a e v
 above h a e v l m few some s =
     let p : pos 0 <ℤ pos a = omega (arith, ints) in
     let b = lies (pos h) (pos a) e v p s in
-    let o = int_rem_euclid (pos v *ℤ pos a -ℤ pos 1099511627776 *ℤ pos h) (pos 18446744073709551616 *ℤ pos a) in
-    let t = int_div_euclid (pos v *ℤ pos a -ℤ pos 1099511627776 *ℤ pos h) (pos 18446744073709551616 *ℤ pos a) in
+    let o = int_rem_euclid (pos v *ℤ pos a -ℤ pos 4294967296 *ℤ pos h) (pos 18446744073709551616 *ℤ pos a) in
+    let t = int_div_euclid (pos v *ℤ pos a -ℤ pos 4294967296 *ℤ pos h) (pos 18446744073709551616 *ℤ pos a) in
     let none = turned_none h a v o t e l m few some b.exact b.low b.high in
-    let exact : pos v *ℤ pos a ≡ pos 1099511627776 *ℤ pos h +ℤ o +ℤ pos 0 *ℤ (pos 18446744073709551616 *ℤ pos a) = b.exact ∙ ap (λ z. pos 1099511627776 *ℤ pos h +ℤ o +ℤ z *ℤ (pos 18446744073709551616 *ℤ pos a)) none in
+    let exact : pos v *ℤ pos a ≡ pos 4294967296 *ℤ pos h +ℤ o +ℤ pos 0 *ℤ (pos 18446744073709551616 *ℤ pos a) = b.exact ∙ ap (λ z. pos 4294967296 *ℤ pos h +ℤ o +ℤ z *ℤ (pos 18446744073709551616 *ℤ pos a)) none in
     let low = b.low in
     let high = b.high in
     record { least = omega (arith, ints, exact, low); most = omega (arith, ints, exact, high) }
@@ -259,47 +259,47 @@ quotient h a q low high =
 
 -- the depth is the whole part of the scaled height, or the number below it
 module _ (h a e v : ℕ) (some : 0 < a) (n : IsAbove h a e v) where
-  parts : v * a ≡ 1099511627776 * (v / 1099511627776 * a) + v % 1099511627776 * a
+  parts : v * a ≡ 4294967296 * (v / 4294967296 * a) + v % 4294967296 * a
   parts =
-      let z = div-add-mod' v 1099511627776 in
-      let s = add-mul (v / 1099511627776 * 1099511627776) (v % 1099511627776) a in
-      let t = mul_right_comm (v / 1099511627776) 1099511627776 a in
+      let z = div-add-mod' v 4294967296 in
+      let s = add-mul (v / 4294967296 * 4294967296) (v % 4294967296) a in
+      let t = mul_right_comm (v / 4294967296) 4294967296 a in
       ap (λ m. m * a) (sym z) ∙ omega (arith, s, t)
 
-  below_next : h < v / 1099511627776 * a + a
+  below_next : h < v / 4294967296 * a + a
   below_next =
       let p = parts in
-      let y = mod_below v 1099511627776 (omega arith) in
-      let x = add-mul (v % 1099511627776) 1 a in
+      let y = mod_below v 4294967296 (omega arith) in
+      let x = add-mul (v % 4294967296) 1 a in
       let w = one_less y in
       let l = n.least in
       omega (arith, p, w, l, x)
     where
-      one_less : v % 1099511627776 < 1099511627776 → (v % 1099511627776 + 1) * a ≤ 1099511627776 * a
+      one_less : v % 4294967296 < 4294967296 → (v % 4294967296 + 1) * a ≤ 4294967296 * a
       one_less y = mul-le-mul_right a (omega (arith, y))
 
-  pub whole_exact : a * e < 1099511627776 → h / a ≡ v / 1099511627776
+  pub whole_exact : a * e < 4294967296 → h / a ≡ v / 4294967296
   whole_exact small =
       let p = parts in
       let m = n.most in
-      quotient h a (v / 1099511627776) (omega (arith, p, m, small)) below_next
+      quotient h a (v / 4294967296) (omega (arith, p, m, small)) below_next
 
-  pub whole_far : e ≤ v % 1099511627776 → h / a ≡ v / 1099511627776
+  pub whole_far : e ≤ v % 4294967296 → h / a ≡ v / 4294967296
   whole_far far =
       let p = parts in
       let m = n.most in
       let w = mul-le-mul_left a far in
-      quotient h a (v / 1099511627776) (omega (arith, p, m, w)) below_next
+      quotient h a (v / 4294967296) (omega (arith, p, m, w)) below_next
 
-  pub whole_low : v / 1099511627776 * a ≤ h → h / a ≡ v / 1099511627776
-  whole_low low = quotient h a (v / 1099511627776) low below_next
+  pub whole_low : v / 4294967296 * a ≤ h → h / a ≡ v / 4294967296
+  whole_low low = quotient h a (v / 4294967296) low below_next
 
-  pub whole_high : e ≤ 16384 → h < v / 1099511627776 * a → h / a + 1 ≡ v / 1099511627776
+  pub whole_high : e ≤ 16384 → h < v / 4294967296 * a → h / a + 1 ≡ v / 4294967296
   whole_high few high =
       let p = parts in
       let m = n.most in
       let w = mul-le-mul_left a few in
-      by (v / 1099511627776) (omega (arith, p, m, w)) high
+      by (v / 4294967296) (omega (arith, p, m, w)) high
     where
       by : (q : ℕ) → q * a ≤ h + a → h < q * a → h / a + 1 ≡ q
       by zero low high = absurd (omega (arith, high))

@@ -1,13 +1,13 @@
--- Numbers times 2^40, divided by another, of which multiples of 2^64 are left out. Each may be too great, by so many times 2^-40.
+-- Numbers times 2^32, divided by another, of which multiples of 2^64 are left out. Each may be too great, by so many times 2^-32.
 use Rattle.std.specs.Prelude.{◌≡◌, ℕ, ℤ, pos, ◌+◌, ◌*◌, ◌≤◌, ◌-ℤ◌, ◌*ℤ◌, ◌≤ℤ◌}
 use Rattle.std.specs.Int.{int_rem_euclid}
 use Rattle.depthplane.specs.declared.height.Linear.{Linear}
 use Rattle.depthplane.specs.declared.scaled.Scaled.{Scaled}
 use Rattle.depthplane.specs.Linear.{rises}
 
--- v is n divided by the divisor, and at most `excess` 2^40ths more
+-- v is n divided by the divisor, and at most `excess` 2^32nds more
 pub record IsScaled (n divisor : ℤ) (excess v : ℕ) : Type 0 where
-  pub close : int_rem_euclid (pos v *ℤ divisor -ℤ pos 1099511627776 *ℤ n) (pos 18446744073709551616 *ℤ divisor) ≤ℤ (divisor *ℤ pos excess)
+  pub close : int_rem_euclid (pos v *ℤ divisor -ℤ pos 4294967296 *ℤ n) (pos 18446744073709551616 *ℤ divisor) ≤ℤ (divisor *ℤ pos excess)
 
 -- a linear number, scaled, with what its steps do
 pub record IsScaledLinear (f : Linear) (divisor : ℤ) (s : Scaled) : Type 0 where

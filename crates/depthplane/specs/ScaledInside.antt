@@ -1,4 +1,4 @@
--- What eight walks without a bias keep: the heights there, divided by the area, in 2^40ths.
+-- What eight walks without a bias keep: the heights there, divided by the area, in 2^32nds.
 use Rattle.std.specs.Prelude.{◌≡◌, ℕ, ◌<◌, ◌≤◌, ◌+◌, ◌*◌, ◌-ℤ◌, IsTrue, slice_index, unsigned_abs}
 use Rattle.gfxspec.specs.Limits.{side_bound}
 use Rattle.gfxspec.specs.Raster.{centre}
@@ -23,4 +23,4 @@ pub record AreWalks (w : Inside) : Type 0 where
   pub depths : AreDepths w.plane.now
   pub area_is : w.area ≡ size_of w.plane.now
   pub divisor : IsDivisor w.area
-  pub sure : IsTrue w.sure → unsigned_abs w.area * (w.error * 16384) < 1099511627776
+  pub sure : IsTrue w.sure → unsigned_abs w.area * (w.error * 16384) < 4294967296

@@ -1,4 +1,4 @@
-//! Heights divided by the area, in 2^40ths: a step is one addition of 64 bits, and the depth is the high 24 bits.
+//! Heights divided by the area, in 2^32nds: a step is one addition of 64 bits, and the depth is the high half.
 
 ghost use Rattle.std.specs.Prelude.{◌≡◌, ℤ, ◌≤◌, ◌<◌, ◌+◌, ◌*◌, pos, unsigned_abs, ℕ, slice_index};
 ghost use Rattle.gfxspec.specs.Limits.{side_bound};
@@ -9,32 +9,32 @@ ghost use Rattle.depthplane.specs.Scaled.{IsScaled, IsScaledLinear, excess_at};
 use crate::division::{Divided, divide, divide_wide};
 use crate::height::Linear;
 
-/// One unit of depth, in 2^40ths.
-pub(crate) const UNIT: u64 = 1_099_511_627_776;
+/// One unit of depth, in 2^32nds.
+pub(crate) const UNIT: u64 = 4_294_967_296;
 
 /// A unit is this times itself: a rest is scaled in two steps, so that each division is one of 64 bits.
-const HALF: u64 = 1_048_576;
+const HALF: u64 = 65_536;
 
-/// A number that is linear over the target, times 2^40 and divided by the area: its value at the centre of pixel (0, 0),
+/// A number that is linear over the target, times 2^32 and divided by the area: its value at the centre of pixel (0, 0),
 /// and what a pixel to the right or down adds to it. Each is rounded up, and multiples of 2^64 are left out.
 #[derive(Clone, Copy, Debug)]
 pub(crate) struct Scaled {
     pub(crate) origin: u64,
     pub(crate) right: u64,
     pub(crate) down: u64,
-    /// By how many 2^40ths each may be too great: 0 where no rest was rounded up, and else 1.
+    /// By how many 2^32nds each may be too great: 0 where no rest was rounded up, and else 1.
     pub(crate) error: u8,
     /// Whether a pixel to the right adds nothing below 0, and a pixel down.
     pub(crate) rises_right: bool,
     pub(crate) rises_down: bool,
 }
 
-/// A rest in 2^40ths of its divisor, rounded up.
+/// A rest in 2^32nds of its divisor, rounded up.
 fn fraction(rest: i64, divisor: i64) -> u64
     requires divisor { IsDivisor divisor }
     requires rest { IsRest divisor rest }
-    ensures least { 1099511627776 * unsigned_abs rest ≤ result * unsigned_abs divisor }
-    ensures most { result * unsigned_abs divisor < 1099511627776 * unsigned_abs rest + unsigned_abs divisor }
+    ensures least { 4294967296 * unsigned_abs rest ≤ result * unsigned_abs divisor }
+    ensures most { result * unsigned_abs divisor < 4294967296 * unsigned_abs rest + unsigned_abs divisor }
 {
     let divisor = divisor.unsigned_abs();
     let high = rest.unsigned_abs() * HALF;
@@ -42,7 +42,7 @@ fn fraction(rest: i64, divisor: i64) -> u64
     high / divisor * HALF + low.div_ceil(divisor)
 }
 
-/// A division in 2^40ths, rounded up.
+/// A division in 2^32nds, rounded up.
 fn parts_of(division: Divided, divisor: i64) -> u64
     requires divisor { IsDivisor divisor }
     requires rest { IsRest divisor division.remainder }
@@ -54,7 +54,7 @@ fn parts_of(division: Divided, divisor: i64) -> u64
         .wrapping_add(fraction(division.remainder, divisor))
 }
 
-/// By how much a rounded division may be too great, in 2^40ths: not at all where none of them has a rest.
+/// By how much a rounded division may be too great, in 2^32nds: not at all where none of them has a rest.
 fn error_of(origin: Divided, right: Divided, down: Divided) -> u8
     ensures small { result ≤ 1 }
     ensures origin { result ≡ 0 → origin.remainder ≡ pos 0 }
@@ -69,7 +69,7 @@ fn error_of(origin: Divided, right: Divided, down: Divided) -> u8
 }
 
 impl Scaled {
-    /// A linear number's value at pixel (0, 0) and its steps, divided, in 2^40ths.
+    /// A linear number's value at pixel (0, 0) and its steps, divided, in 2^32nds.
     #[inline(always)]
     pub(crate) fn of(number: Linear, divisor: i64) -> Scaled
         requires divisor { IsDivisor divisor }

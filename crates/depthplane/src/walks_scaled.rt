@@ -1,4 +1,4 @@
-//! Eight walks by additions: each keeps its height, divided by the area, in 2^40ths.
+//! Eight walks by additions: each keeps its height, divided by the area, in 2^32nds.
 
 ghost use Rattle.std.specs.Prelude.{◌≡◌, ◌≢◌, ℕ, ◌<◌, ◌≤◌, ◌+◌, ◌*◌, ◌/◌, ◌%◌, ℤ, pos, ◌*ℤ◌, int_lt, IsTrue, slice_index, unsigned_abs, if◌then◌else◌};
 ghost use Rattle.gfxspec.specs.Limits.{side_bound};
@@ -13,11 +13,11 @@ use crate::walks::Walks;
 use std::marker::Model;
 use std::simd::prelude::*;
 
-/// So near above a whole number, in 2^40ths, a value may belong to the depth below it: no more steps than these lead to any
+/// So near above a whole number, in 2^32nds, a value may belong to the depth below it: no more steps than these lead to any
 /// pixel.
 pub(crate) const NEAR: u64 = 16_384;
 
-/// Eight walks by multiples of 2^-40, over the depths before any bias. The steps stand in the walks themselves, so that a loop over rows needn't read them from
+/// Eight walks by multiples of 2^-32, over the depths before any bias. The steps stand in the walks themselves, so that a loop over rows needn't read them from
 /// the plane again. A value that lies too near above a whole number to be sure of its depth is looked at exactly.
 #[derive(Drop)]
 pub struct ScaledWalks<'a> {
@@ -50,12 +50,12 @@ impl<'a> Model for ScaledWalks<'a> {
 /// The whole parts of eight values.
 #[inline]
 fn whole_parts(lanes: &[u64; 8]) -> [u32; 8]
-    ensures { (j : ℕ) → j < 8 → slice_index result j ≡ slice_index lanes.now j / 1099511627776 % 16777216 }
+    ensures { (j : ℕ) → j < 8 → slice_index result j ≡ slice_index lanes.now j / 4294967296 % 4294967296 }
 {
-    let whole = (u64x8::from_array(*lanes) >> u64x8::splat(40)).to_array();
+    let whole = (u64x8::from_array(*lanes) >> u64x8::splat(32)).to_array();
     let mut parts = [0; 8];
     for j in 0..8usize {
-        parts[j] = (whole[j] % 16_777_216) as u32;
+        parts[j] = (whole[j] % 4_294_967_296) as u32;
     }
     parts
 }
@@ -63,7 +63,7 @@ fn whole_parts(lanes: &[u64; 8]) -> [u32; 8]
 /// Whether none of eight values is near above a whole number.
 #[inline]
 fn all_far(lanes: &[u64; 8]) -> bool
-    ensures { IsTrue result → (j : ℕ) → j < 8 → 16384 ≤ slice_index lanes.now j % 1099511627776 }
+    ensures { IsTrue result → (j : ℕ) → j < 8 → 16384 ≤ slice_index lanes.now j % 4294967296 }
 {
     let mut far = true;
     for j in 0..8usize {
@@ -118,9 +118,9 @@ fn mend(plane: &Plane, x: u32, y: u32, depths: [u32; 8]) -> [u32; 8]
 pub(crate) fn is_sure(area: i64, error: u8) -> bool
     requires divisor { IsDivisor area }
     requires error { error ≤ 1 }
-    ensures { IsTrue result → unsigned_abs area * (error * 16384) < 1099511627776 }
+    ensures { IsTrue result → unsigned_abs area * (error * 16384) < 4294967296 }
 {
-    error == 0 || area < 67_108_864
+    error == 0 || area < 262_144
 }
 
 impl Plane {

@@ -10,7 +10,7 @@ returns c = λ j h.
     let xs = c.args.lanes.now in
     let long : length xs ≡ 8 = c.told-lanes in
     let shift : ℕ → ℕ → ℕ = act2 (shr unsigned) (s_int w64) (s_int w64) (s_int w64) in
-    let wide : List ℕ = 40 ∷ 40 ∷ 40 ∷ 40 ∷ 40 ∷ 40 ∷ 40 ∷ 40 ∷ [] in
+    let wide : List ℕ = 32 ∷ 32 ∷ 32 ∷ 32 ∷ 32 ∷ 32 ∷ 32 ∷ 32 ∷ [] in
     c.loop-j.invariant.stored j (omega arith)
-    ∙ ap (λ n. n % 16777216) (get_or-zip2 shift xs wide j 0 0 0 (omega (arith, long)) h
-    ∙ ap (λ n. slice_index xs j / 2 ^ n) (get_or-replicate 8 j 40 0 h))
+    ∙ ap (λ n. n % 4294967296) (get_or-zip2 shift xs wide j 0 0 0 (omega (arith, long)) h
+    ∙ ap (λ n. slice_index xs j / 2 ^ n) (get_or-replicate 8 j 32 0 h))

@@ -25,8 +25,8 @@ returns-then-value-ge-NEAR c =
     let far = c.if-value-ge-NEAR.true in
     let N : ℤ → Type 0 = λ n. IsScaled n (size_of d) e v in
     let scaled = subst N (i.value x y) (rw i.area_is at (c.at-value.ensures i.linear p.area i.divisor i.scaled)) in
-    let whole : v / 1099511627776 ≡ v / 1099511627776 % 16777216 = omega (arith, small) in
-    let P : DeepTriangle → Type 0 = λ t. IsTrue (covers t.triangle (centre x y)) → v / 1099511627776 ≡ depth_of (without_bias t) x y in
+    let whole : v / 4294967296 ≡ v / 4294967296 % 4294967296 = omega (arith, small) in
+    let P : DeepTriangle → Type 0 = λ t. IsTrue (covers t.triangle (centre x y)) → v / 4294967296 ≡ depth_of (without_bias t) x y in
     let here : P d = λ t.
     whole ∙ depth_far d (centre x y) e v i.depths t (subst IsDivisor i.area_is i.divisor) few (omega (arith, small)) scaled (omega (arith, few, far)) ∙ plain_depth (without_bias d) x y (deep_without d i.depths) refl in
     subst P c.self.view_is here

@@ -27,12 +27,12 @@ returns-then-is_sure c =
     let small : v ≤ 18446744073709551615 = search rules in
     let few = excess_few p.scaled.error x y i.scaled.error (omega (arith, c.requires.x)) (omega (arith, c.requires.y)) in
     let sure = (simp to_z-of_z at c.is_sure.ensures) c.if-is_sure.true in
-    let Q : ℕ → Type 0 = λ a. a * (p.scaled.error * 16384) < 1099511627776 in
+    let Q : ℕ → Type 0 = λ a. a * (p.scaled.error * 16384) < 4294967296 in
     let bound = excess_bound (unsigned_abs (area d.triangle)) p.scaled.error x y i.scaled.error (omega (arith, c.requires.x)) (omega (arith, c.requires.y)) (subst Q (ap unsigned_abs i.area_is) sure) in
     let N : ℤ → Type 0 = λ n. IsScaled n (size_of d) e v in
     let scaled = subst N (i.value x y) (rw i.area_is at (c.at.ensures i.linear p.area i.divisor i.scaled)) in
-    let whole : v / 1099511627776 ≡ v / 1099511627776 % 16777216 = omega (arith, small) in
-    let P : DeepTriangle → Type 0 = λ t. IsTrue (covers t.triangle (centre x y)) → v / 1099511627776 ≡ depth_of (without_bias t) x y in
+    let whole : v / 4294967296 ≡ v / 4294967296 % 4294967296 = omega (arith, small) in
+    let P : DeepTriangle → Type 0 = λ t. IsTrue (covers t.triangle (centre x y)) → v / 4294967296 ≡ depth_of (without_bias t) x y in
     let here : P d = λ t.
     whole ∙ depth_sure d (centre x y) e v i.depths t (subst IsDivisor i.area_is i.divisor) few (omega (arith, small)) scaled bound ∙ plain_depth (without_bias d) x y (deep_without d i.depths) refl in
     subst P c.self.view_is here
@@ -54,7 +54,7 @@ returns c =
     let N : ℤ → Type 0 = λ n. IsScaled n (size_of d) e v in
     let scaled = subst N (i.value x y) (rw i.area_is at (c.at.ensures i.linear p.area i.divisor i.scaled)) in
     let there : c.at-height.result ≡ height d (centre x y) = c.at-height.ensures.value ∙ c.height.ensures.value x y ∙ ap (λ (t : DeepTriangle). height t (centre x y)) (sym c.self.view_is) in
-    let whole : v / 1099511627776 ≡ v / 1099511627776 % 16777216 = omega (arith, small) in
+    let whole : v / 4294967296 ≡ v / 4294967296 % 4294967296 = omega (arith, small) in
     let P : DeepTriangle → Type 0 = λ t. IsTrue (covers t.triangle (centre x y)) → c.mended.result ≡ depth_of (without_bias t) x y in
     let here : P d = λ t.
     mended ∙ (λ k. mended_by (there k) (i.area_is k) (whole k)) ∙ depth_mended d (centre x y) e v i.depths t (subst IsDivisor i.area_is i.divisor) few (omega (arith, small)) scaled

@@ -25,7 +25,7 @@ returns-then-self c =
     let P : Places → Type 0 = λ p. (j : ℕ) → j < 8 → IsNearStart p j → IsTrue (covers p.plane.triangle (centre (p.x + j) p.y)) → slice_index c.whole_parts-depths.result j ≡ depth_of p.plane (p.x + j) p.y in
     let here : P (place_of w) = λ j h n t.
     let few = excess_few w.error (w.x + j) w.y i.error (omega (arith, column, h)) (omega (arith, row)) in
-    let Q : ℕ → Type 0 = λ a. a * (w.error * 16384) < 1099511627776 in
+    let Q : ℕ → Type 0 = λ a. a * (w.error * 16384) < 4294967296 in
     let bound = excess_bound (unsigned_abs (area w.plane.now.triangle)) w.error (w.x + j) w.y i.error (omega (arith, column, h)) (omega (arith, row)) (subst Q (ap unsigned_abs i.area_is) sure) in
     whole j h ∙ depth_sure w.plane.now (centre (w.x + j) w.y) (excess_at w.error (w.x + j) w.y) (slice_index w.lanes j) i.depths t divisor few (i.fits j h) (i.heights j h) bound ∙ plain_depth (without_bias w.plane.now) (w.x + j) w.y (deep_without w.plane.now i.depths) refl in
     subst P c.self.view_is here
