@@ -1,6 +1,6 @@
 //! Eight walks by additions: each keeps its height, divided by the area, in 2^32nds.
 
-ghost use Rattle.std.specs.Prelude.{◌≡◌, ◌≢◌, ℕ, ◌<◌, ◌≤◌, ◌+◌, ◌*◌, ◌/◌, ◌%◌, ℤ, pos, ◌*ℤ◌, int_lt, IsTrue, slice_index, unsigned_abs, if◌then◌else◌};
+ghost use Rattle.std.specs.Prelude.{◌≡◌, ◌≢◌, ℕ, ◌<◌, ◌≤◌, ◌+◌, ◌*◌, ◌/◌, ◌%◌, ℤ, pos, ◌*ℤ◌, int_lt, IsTrue, slice_index, unsigned_abs, min, if◌then◌else◌};
 ghost use Rattle.gfxspec.specs.Limits.{side_bound};
 ghost use Rattle.depthplane.specs.Division.{IsDivisor};
 ghost use Rattle.gfxspec.specs.Raster.{centre};
@@ -60,14 +60,23 @@ fn whole_parts(lanes: &[u64; 8]) -> [u32; 8]
     parts
 }
 
-/// Whether none of eight values is near above a whole number.
+/// The lesser of what two values have above whole numbers.
+#[inline]
+fn lesser_rest(a: u64, b: u64) -> u32
+    ensures { result ≡ min (a % 4294967296) (b % 4294967296) }
+{
+    ((a % UNIT) as u32).min((b % UNIT) as u32)
+}
+
+/// Whether none of eight values is near above a whole number. The two halves are looked at together, in 32 bits a value.
 #[inline]
 fn all_far(lanes: &[u64; 8]) -> bool
     ensures { IsTrue result → (j : ℕ) → j < 8 → 16384 ≤ slice_index lanes.now j % 4294967296 }
 {
     let mut far = true;
-    for j in 0..8usize {
-        far &= lanes[j] % UNIT >= NEAR;
+    for j in 0..4usize {
+        let rest = lesser_rest(lanes[j], lanes[j + 4]);
+        far &= u64::from(rest) >= NEAR;
     }
     far
 }
