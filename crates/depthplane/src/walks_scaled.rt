@@ -159,6 +159,7 @@ impl Plane {
 impl<'a> Walks for ScaledWalks<'a> {
     ghost place = { λ w. w };
 
+    /// What is mended is computed once more, so that `depths` need not be put into memory where nothing is.
     #[inline]
     fn depths(&self) -> [u32; 8] {
         let depths = whole_parts(&self.lanes);
@@ -168,7 +169,8 @@ impl<'a> Walks for ScaledWalks<'a> {
         if all_far(&self.lanes) {
             return depths;
         }
-        mend(self.plane, self.x, self.y, depths)
+        let near = whole_parts(&self.lanes);
+        mend(self.plane, self.x, self.y, near)
     }
 
     #[inline]
