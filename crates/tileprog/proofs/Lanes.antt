@@ -205,6 +205,27 @@ no_write t c w z old e = unwritten z old t c w e
 pub none_passed : (t c w : Bool) (z : ℕ) (old : DepthStencil) → (t && c) ≡ false → old ≡ record { depth = if (t && c) && w then z else old.depth; stencil = old.stencil }
 none_passed t c w z old e = unpassed z old t c w e
 
+-- depths that are stored where they pass, if they are to be, are what the tests leave
+kept_tested : (b : Brush) (func : Compare) (write : Bool) → tests_of b.state ≡ Depth func write → (z : ℕ) (t u : Bool) (p : Pixel) → u ≡ (t && (tested_by b z p.ds).passed) →
+    (if write then record { rgba = p.rgba; ds = record { depth = if u then z else p.ds.depth; stencil = p.ds.stencil } } else p) ≡ record { rgba = p.rgba; ds = if t then (tested_by b z p.ds).after else p.ds }
+kept_tested b func true kind z t u p e =
+    let passes : u ≡ (t && compares func z p.ds.depth) = e ∙ ap (λ c. t && c) (depth_passes b func true kind z p.ds) in
+    ap (λ ds. record { rgba = p.rgba; ds = ds })
+    ((λ i. record { depth = if passes i then z else p.ds.depth; stencil = p.ds.stencil })
+    ∙ written_where t (compares func z p.ds.depth) true z p.ds refl
+    ∙ sym (depth_lane b func true kind z t p.ds))
+kept_tested b func false kind z t u p e =
+    ap (λ ds. record { rgba = p.rgba; ds = ds })
+    (no_write t (compares func z p.ds.depth) false z p.ds refl
+    ∙ sym (depth_lane b func false kind z t p.ds))
+
+-- and with the colours stored where they pass, it is what the brush draws
+pub kept_drawn : (b : Brush) (func : Compare) (write : Bool) → tests_of b.state ≡ Depth func write → (z : ℕ) (t u : Bool) (p kept : Pixel) → u ≡ (t && (tested_by b z p.ds).passed) →
+    kept ≡ (if write then record { rgba = p.rgba; ds = record { depth = if u then z else p.ds.depth; stencil = p.ds.stencil } } else p) →
+    record { rgba = if u then written_color b.blend b.rgba kept.rgba else kept.rgba; ds = kept.ds } ≡ (if t then drawn_by b z p else p)
+kept_drawn b func write kind z t u p kept e is =
+    ap (λ (q : Pixel). record { rgba = if u then written_color b.blend b.rgba q.rgba else q.rgba; ds = q.ds }) (is ∙ kept_tested b func write kind z t u p e) ∙ both_lanes b z t u p e
+
 -- ---- the stencil
 
 -- a lane whose bit picks a depth

@@ -1,5 +1,5 @@
 -- A span of eight pixels under a brush.
-use Rattle.std.specs.Prelude.{ℕ, ◌≡◌, ◌<◌, ◌&&◌, if◌then◌else◌, List, slice_index}
+use Rattle.std.specs.Prelude.{ℕ, Bool, ◌≡◌, ◌<◌, ◌&&◌, if◌then◌else◌, List, slice_index}
 use Rattle.gfxspec.specs.declared.pixel.Pixel.{Pixel}
 use Rattle.gfxspec.specs.Color.{written_color}
 use Rattle.lanes.specs.Stencil.{StencilRule, has, stencil_after}
@@ -28,6 +28,10 @@ pub record ArePassed (b : Brush) (old : Block) (span row cover : ℕ) (depths : 
 abbrev pub deepened_lane : ℕ → List ℕ → ℕ → Pixel → Pixel
 deepened_lane bits depths j p =
     record { rgba = p.rgba; ds = record { depth = if has bits j then slice_index depths j else p.ds.depth; stencil = p.ds.stencil } }
+
+-- the same, if depths are to be stored
+abbrev pub kept_lane : Bool → ℕ → List ℕ → ℕ → Pixel → Pixel
+kept_lane write bits depths j p = if write then deepened_lane bits depths j p else p
 
 -- stencil values where bits are set
 abbrev pub stenciled_lane : ℕ → List ℕ → ℕ → Pixel → Pixel

@@ -9,7 +9,7 @@ ghost use Rattle.tileprog.specs.Cells.{IsStill, IsUnwritten};
 ghost use Rattle.tileprog.specs.Kinds.{tests_of};
 ghost use Rattle.tileprog.specs.declared.kind.Tests.TheVariants.{Open, Depth, Stencil};
 ghost use Rattle.tileprog.specs.Counting.{eight, one_if};
-ghost use Rattle.tileprog.specs.SpanDrawn.{painted_lane, tested_lane, drawn_lane, deepened_lane, stenciled_lane, operated_lane, ArePassed};
+ghost use Rattle.tileprog.specs.SpanDrawn.{painted_lane, tested_lane, drawn_lane, deepened_lane, kept_lane, stenciled_lane, operated_lane, ArePassed};
 
 use crate::brush::Brush;
 use gfxspec::Compare;
@@ -29,11 +29,11 @@ fn paint_span<A: Allocator>(block: &mut TileBlock<A>, span: u32, row: u32, bits:
     if bits == 0 {
         return;
     }
-    if write.keep == u32::MAX && write.flip == 0 {
-        return;
-    }
     if bits == 255 && write.keep == 0 {
         block.set_color_span(span, row, [write.flip; 8]);
+        return;
+    }
+    if write.keep == u32::MAX && write.flip == 0 {
         return;
     }
     let new = write8(write, &old);
@@ -78,10 +78,10 @@ fn put_stencils<A: Allocator>(
     }
 }
 
-/// Tests depth at the span's covered pixels. Where it passes the depth is stored, if it is to be.
+/// The span's covered pixels at which depth passes, as bits.
 #[inline(always)]
-fn test_depths<A: Allocator>(
-    block: &mut TileBlock<A>,
+fn passed_depths<A: Allocator>(
+    block: &TileBlock<A>,
     span: u32,
     row: u32,
     cover: u8,
@@ -93,14 +93,47 @@ fn test_depths<A: Allocator>(
     requires span { span < 4 }
     requires row { row < 32 }
     requires kind { tests_of brush.now.state ≡ Depth func write }
-    ensures block { SpanStored block.old block.new span row (tested_lane brush.now cover new.now) }
-    ensures bits { ArePassed brush.now block.old span row cover new.now result }
+    ensures { ArePassed brush.now block.now span row cover new.now result }
 {
-    let passed = cover & depth_mask(func, new, &block.depth_span(span, row));
+    cover & depth_mask(func, new, &block.depth_span(span, row))
+}
+
+/// Stores depths where bits are set, if depths are to be stored.
+#[inline(always)]
+fn keep_depths<A: Allocator>(
+    block: &mut TileBlock<A>,
+    span: u32,
+    row: u32,
+    bits: u8,
+    new: &[u32; 8],
+    write: bool,
+)
+    requires span { span < 4 }
+    requires row { row < 32 }
+    ensures { SpanStored block.old block.new span row (kept_lane write bits new.now) }
+{
     if write {
-        put_depths(block, span, row, passed, new);
+        put_depths(block, span, row, bits, new);
     }
-    passed
+}
+
+/// Stores the depths, if they are to be stored, and the colours of the pixels that pass.
+#[inline(always)]
+fn draw_passed<A: Allocator>(
+    block: &mut TileBlock<A>,
+    span: u32,
+    row: u32,
+    bits: u8,
+    new: &[u32; 8],
+    write: bool,
+    brush: &Brush,
+)
+    requires span { span < 4 }
+    requires row { row < 32 }
+    ensures { SpanStored block.old block.new span row (λ j p. painted_lane brush.now bits j (kept_lane write bits new.now j p)) }
+{
+    keep_depths(block, span, row, bits, new, write);
+    paint_span(block, span, row, bits, brush);
 }
 
 /// Bit j is set where depth passes at pixel j, or isn't tested.
@@ -195,7 +228,8 @@ pub(crate) fn draw_open<A: Allocator>(
     paint_span(block, span, row, cover, brush);
 }
 
-/// Draws the span's covered pixels under a brush that tests depth alone; the answer has a bit for each that passes.
+/// Draws the span's covered pixels under a brush that tests depth alone; the answer has a bit for each that passes. Where all eight
+/// pass, which is known once, whole spans are stored.
 #[inline(always)]
 pub(crate) fn draw_depths<A: Allocator>(
     block: &mut TileBlock<A>,
@@ -213,8 +247,12 @@ pub(crate) fn draw_depths<A: Allocator>(
     ensures block { SpanStored block.old block.new span row (drawn_lane brush.now cover new.now) }
     ensures bits { ArePassed brush.now block.old span row cover new.now result }
 {
-    let passed = test_depths(block, span, row, cover, new, func, write, brush);
-    paint_span(block, span, row, passed, brush);
+    let passed = passed_depths(block, span, row, cover, new, func, write, brush);
+    if passed == 255 {
+        draw_passed(block, span, row, 255, new, write, brush);
+    } else {
+        draw_passed(block, span, row, passed, new, write, brush);
+    }
     passed
 }
 

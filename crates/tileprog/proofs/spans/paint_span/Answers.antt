@@ -15,23 +15,23 @@ returns-then-bits-eq0 g c =
 pub returns-then-write-eq0 : goal.returns-then-write-eq0
 returns-then-write-eq0 g c =
     let b = c.args.brush.now in
-    let old = c.color_span-old.result in
-    let small : (j : ℕ) → slice_index old j < 2 ^ 32 = search rules in
-    unchanged _ _ _ _ (λ j h.
-    lane_kept b (lane_pixel c.args.block.now c.args.span c.args.row j) (has c.args.bits j) (slice_index old j) (small j) (c.color_span-old.ensures j h)
-    (kept_all (slice_index old j) b.write.keep b.write.flip (small j) c.if-write.true c.if-write-eq0.true))
-
-pub returns-then-write-eq0-2 : goal.returns-then-write-eq0-2
-returns-then-write-eq0-2 g c =
-    let b = c.args.brush.now in
     let bits = c.args.bits in
     let old = c.color_span-old.result in
     let small : (j : ℕ) → slice_index old j < 2 ^ 32 = search rules in
     changed _ _ _ _ _ _ c.set_color_span.ensures (λ j h.
     let p = lane_pixel c.args.block.now c.args.span c.args.row j in
     let q = slice_index old j in
-    with_color p _ _ (ap (to_le_bytes w32) (get_or-replicate 8 j b.write.flip 0 h) ∙ lane_painted b p (has bits j) q b.write.flip b.write.flip (small j) (c.color_span-old.ensures j h) (kept_none q b.write.keep b.write.flip c.if-write-eq0-2.true)
+    with_color p _ _ (ap (to_le_bytes w32) (get_or-replicate 8 j b.write.flip 0 h) ∙ lane_painted b p (has bits j) q b.write.flip b.write.flip (small j) (c.color_span-old.ensures j h) (kept_none q b.write.keep b.write.flip c.if-write-eq0.true)
     (ap (λ t. if t then b.write.flip else q) (sym (has_all bits j c.if-bits-eq255.true h)))))
+
+pub returns-then-write-eq0-2 : goal.returns-then-write-eq0-2
+returns-then-write-eq0-2 g c =
+    let b = c.args.brush.now in
+    let old = c.color_span-old.result in
+    let small : (j : ℕ) → slice_index old j < 2 ^ 32 = search rules in
+    unchanged _ _ _ _ (λ j h.
+    lane_kept b (lane_pixel c.args.block.now c.args.span c.args.row j) (has c.args.bits j) (slice_index old j) (small j) (c.color_span-old.ensures j h)
+    (kept_all (slice_index old j) b.write.keep b.write.flip (small j) c.if-write.true c.if-write-eq0-2.true))
 
 pub returns-then-bits-eq255-2 : goal.returns-then-bits-eq255-2
 returns-then-bits-eq255-2 g c =
