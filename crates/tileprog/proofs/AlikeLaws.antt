@@ -1,10 +1,11 @@
 -- A triangle that does the same at each pixel of a tile.
 use Rattle.std.proofs.Common.{◌≡◌, ◌∙◌, ap, sym, refl, arith, ℕ, zero, suc, ◌+◌, ◌-◌, ◌*◌, ◌≤◌, Bool, true, false, ◌&&◌, ◌||◌, Option, Some, None}
-use Rattle.std.specs.Prelude.{not, bit_and, IfSome, if◌then◌else◌}
-use Rattle.std.specs.Int.{to_le_bytes, w32}
+use Rattle.std.specs.Prelude.{not, bit_and, bit_xor, IfSome, if◌then◌else◌}
+use Rattle.std.specs.Int.{from_le_bytes, to_le_bytes, w32}
 use Rattle.std.proofs.lemmas.Bool.Decides.{nat_tests}
 use Rattle.gfxspec.specs.declared.geometry.PixelRect.{PixelRect}
 use Rattle.gfxspec.specs.declared.pixel.DepthStencil.{DepthStencil}
+use Rattle.gfxspec.specs.declared.pixel.Pixel.{Pixel}
 use Rattle.gfxspec.specs.declared.state.Compare.{Compare}
 use Rattle.gfxspec.specs.declared.state.Compare.TheVariants.{Never, Less, Equal, LessEqual, Greater, NotEqual, GreaterEqual, Always}
 use Rattle.gfxspec.specs.Color.{written_color}
@@ -27,6 +28,7 @@ use Rattle.tileprog.specs.Counting.{one_if}
 use Rattle.tileprog.specs.Hidden.{none_passes, DepthsLie}
 use Rattle.tileprog.specs.declared.kind.Tests.TheVariants.{Open, Depth, Stencil}
 use Rattle.tileprog.specs.Kinds.{tests_of}
+use Rattle.tileprog.specs.Painting.{flipped, stands_for}
 use Rattle.tileprog.specs.Passing.{triangle_count}
 use Rattle.tileprog.proofs.Hiding.{none_pass}
 use Rattle.tileprog.proofs.Lanes.{all_open, tested_open}
@@ -115,14 +117,14 @@ module _ (t : TriSetup) (e : StateEntry) (deep : Bool) (a : IsAlike t e deep) (b
   pub alike_passes : (outcome t e u v (pixel_at b u v)).passed ≡ deep
   alike_passes = ap (λ (o : TestOutcome). o.passed) outcome_is
 
-  colored : (passed : Bool) → (passed ≡ true → (n : ℕ) → written_color e.blend t.rgba (to_le_bytes w32 n) ≡ to_le_bytes w32 n) → (pixel_at b u v).rgba ≡ (if passed then written_color e.blend t.rgba (pixel_at b u v).rgba else (pixel_at b u v).rgba)
-  colored true kept = sym (kept refl (value_at b.colors u v))
-  colored false kept = refl
+  colored : (passed : Bool) (n : ℕ) → (passed ≡ true → (n : ℕ) → written_color e.blend t.rgba (to_le_bytes w32 n) ≡ to_le_bytes w32 n) → to_le_bytes w32 n ≡ (if passed then written_color e.blend t.rgba (to_le_bytes w32 n) else to_le_bytes w32 n)
+  colored true n kept = sym (kept refl n)
+  colored false n kept = refl
 
-  pub alike_pixel : operated (rule_of t e) deep (pixel_at b u v) ≡ drawn t e (outcome t e u v (pixel_at b u v)) (pixel_at b u v)
-  alike_pixel =
-      (λ i. record { rgba = colored deep a.colors i; ds = (operated (rule_of t e) deep (pixel_at b u v)).ds })
-      ∙ ap (λ o. drawn t e o (pixel_at b u v)) (sym outcome_is)
+  pub alike_pixel : (flip : ℕ) → flipped flip (operated (rule_of t e) deep (pixel_at b u v)) ≡ drawn t e (outcome t e u v (stands_for flip b u v)) (stands_for flip b u v)
+  alike_pixel flip =
+      (λ i. record { rgba = colored deep (bit_xor (from_le_bytes w32 (pixel_at b u v).rgba) flip) a.colors i; ds = (operated (rule_of t e) deep (pixel_at b u v)).ds })
+      ∙ ap (λ o. drawn t e o (stands_for flip b u v)) (sym outcome_is)
 
 -- ---- where nothing is tested
 
@@ -136,8 +138,8 @@ module _ (t : TriSetup) (e : StateEntry) (kind : tests_of e.depth_stencil ≡ Op
   pub open_passes : (outcome t e u v (pixel_at b u v)).passed ≡ true
   open_passes = ap (λ (o : TestOutcome). o.passed) open_outcome
 
-  pub open_pixel : painted e.blend t.rgba (pixel_at b u v) ≡ drawn t e (outcome t e u v (pixel_at b u v)) (pixel_at b u v)
-  open_pixel = ap (λ o. drawn t e o (pixel_at b u v)) (sym open_outcome)
+  pub open_pixel : (flip : ℕ) → painted e.blend t.rgba (stands_for flip b u v) ≡ drawn t e (outcome t e u v (stands_for flip b u v)) (stands_for flip b u v)
+  open_pixel flip = ap (λ o. drawn t e o (stands_for flip b u v)) (sym open_outcome)
 
 -- ---- counts
 
@@ -168,8 +170,8 @@ none_counted r f h = sym (sum_over_none r _ (λ u v is. ap one_if (h u v is)))
 -- ---- in the words of a triangle's word, which reaches each pixel
 
 module _ (t : TriSetup) (e : StateEntry) (m : EdgeMask) (old : Block) (reached : (u v : ℕ) → IsIn old.rect u v → reaches_by m t e u v ≡ true) where
-  pub drawn_everywhere : (u v : ℕ) → IsIn old.rect u v → drawn t e (outcome t e u v (pixel_at old u v)) (pixel_at old u v) ≡ triangle_by m (Some t) (Some e) u v (pixel_at old u v)
-  drawn_everywhere u v is = ap (λ c. if c then drawn t e (outcome t e u v (pixel_at old u v)) (pixel_at old u v) else pixel_at old u v) (sym (reached u v is))
+  pub drawn_everywhere : (u v : ℕ) → IsIn old.rect u v → (p : Pixel) → drawn t e (outcome t e u v p) p ≡ triangle_by m (Some t) (Some e) u v p
+  drawn_everywhere u v is p = ap (λ c. if c then drawn t e (outcome t e u v p) p else p) (sym (reached u v is))
 
   pub counted_everywhere : sum_over old.rect (λ u v. one_if (outcome t e u v (pixel_at old u v)).passed) ≡ sum_over old.rect (triangle_count m t e old)
   counted_everywhere = sum_over_same old.rect _ _ (λ u v is. ap (λ c. one_if (c && (outcome t e u v (pixel_at old u v)).passed)) (sym (reached u v is)))

@@ -7,7 +7,6 @@ use Rattle.gfxspec.specs.declared.pixel.Pixel.{Pixel}
 use Rattle.gfxspec.specs.declared.pixel.DepthStencil.{DepthStencil}
 use Rattle.gfxspec.specs.declared.geometry.PixelRect.{PixelRect}
 use Rattle.gfxspec.specs.DepthStencil.{DepthStencilSetting, compares, depth_passes}
-use Rattle.gfxspec.specs.Color.{written_color}
 use Rattle.gfxspec.specs.Tiles.{IsIn}
 use Rattle.gfxspec.specs.Raster.{Triangle, Point, edge, edge_holds, covers, is_empty}
 use Rattle.tileprog.specs.Edges.{passes_edges}
@@ -26,6 +25,7 @@ use Rattle.tileprog.specs.Columns.{RowDrew}
 use Rattle.tileprog.specs.Kinds.{tests_of}
 use Rattle.tileprog.specs.Strokes.{Stroke, stroked}
 use Rattle.tileprog.specs.Within.{in_box}
+use Rattle.tileprog.specs.Painting.{painted_with}
 use Rattle.tileprog.proofs.Lanes.{rule_of, deep_enough, stencil_lane, stencil_passes_both, both_lanes, lane_kept, lane_unpainted, kept_all}
 
 -- ---- from what is known of the stored depths to pixels
@@ -123,11 +123,11 @@ module _ (b : Brush) (kind : tests_of b.state ≡ Stencil) (z : ℕ) (p : Pixel)
   depth_stays false true false u f e = ap (stored_depth true) (sym e)
 
   pub alike_lane : (t u : Bool) → (t ≡ true → deep ≡ deep_enough b z p.ds) → u ≡ (t && (passing && deep)) →
-      record { rgba = if u then written_color b.blend b.rgba p.rgba else p.rgba; ds = record { depth = p.ds.depth; stencil = if t then after else p.ds.stencil } } ≡ (if t then drawn_by b z p else p)
-  alike_lane false u ed eu = ap (λ v. record { rgba = if v then written_color b.blend b.rgba p.rgba else p.rgba; ds = p.ds }) eu
+      record { rgba = if u then painted_with b.write p.rgba else p.rgba; ds = record { depth = p.ds.depth; stencil = if t then after else p.ds.stencil } } ≡ (if t then drawn_by b z p else p)
+  alike_lane false u ed eu = ap (λ v. record { rgba = if v then painted_with b.write p.rgba else p.rgba; ds = p.ds }) eu
   alike_lane true u ed eu =
-      ap (λ n. record { rgba = if u then written_color b.blend b.rgba p.rgba else p.rgba; ds = record { depth = n; stencil = after } }) (depth_stays deep (b.state.depth && b.state.write) passing u stays eu)
-      ∙ ap (λ (ds : DepthStencil). record { rgba = if u then written_color b.blend b.rgba p.rgba else p.rgba; ds = ds })
+      ap (λ n. record { rgba = if u then painted_with b.write p.rgba else p.rgba; ds = record { depth = n; stencil = after } }) (depth_stays deep (b.state.depth && b.state.write) passing u stays eu)
+      ∙ ap (λ (ds : DepthStencil). record { rgba = if u then painted_with b.write p.rgba else p.rgba; ds = ds })
       (stencil_lane b kind z p.ds true passing deep u (b.state.depth && b.state.write) after ep (ed refl) eu refl ea)
       ∙ both_lanes b z true u p (eu ∙ stencil_passes_both b kind z p.ds passing deep ep (ed refl))
 
@@ -152,14 +152,14 @@ module _ (b : Brush) (kind : tests_of b.state ≡ Stencil) (r : StencilRule) (ru
   unpassed d true u e f = f ∙ e
   unpassed d false u e f = f
 
-  still_color : (d t u : Bool) (q : ℕ) → q < 2 ^ 32 → to_le_bytes w32 q ≡ p.rgba → deep ≡ d → u ≡ (t && (true && deep)) → p ≡ record { rgba = if u then written_color b.blend b.rgba p.rgba else p.rgba; ds = p.ds }
+  still_color : (d t u : Bool) (q : ℕ) → q < 2 ^ 32 → to_le_bytes w32 q ≡ p.rgba → deep ≡ d → u ≡ (t && (true && deep)) → p ≡ record { rgba = if u then painted_with b.write p.rgba else p.rgba; ds = p.ds }
   still_color true t u q fits is e f = let kept = still.colors e in lane_kept b p u q fits is (kept_all q b.write.keep b.write.flip fits kept.0 kept.1)
   still_color false t u q fits is e f = lane_unpainted b p u (unpassed deep t u e f)
 
   pub still_lane : (t u : Bool) (q : ℕ) → q < 2 ^ 32 → to_le_bytes w32 q ≡ p.rgba → (t ≡ true → deep ≡ deep_enough b z p.ds) → u ≡ (t && (true && deep)) → p ≡ (if t then drawn_by b z p else p)
   still_lane t u q fits is ed eu =
       still_color deep t u q fits is refl eu
-      ∙ (λ i. record { rgba = if u then written_color b.blend b.rgba p.rgba else p.rgba; ds = record { depth = p.ds.depth; stencil = same_either t p.ds.stencil i } })
+      ∙ (λ i. record { rgba = if u then painted_with b.write p.rgba else p.rgba; ds = record { depth = p.ds.depth; stencil = same_either t p.ds.stencil i } })
       ∙ alike_lane b kind z p true deep p.ds.stencil still_passes still_after stays t u ed eu
 
   pub still_bit : (t : Bool) → (t ≡ true → deep ≡ deep_enough b z p.ds) → (t && (true && deep)) ≡ (t && (tested_by b z p.ds).passed)

@@ -34,6 +34,7 @@ use Rattle.binner.specs.Program.{lets_through, reaches_by, outcome, drawn, trian
 use Rattle.tileprog.specs.Counting.{one_if}
 use Rattle.tileprog.specs.Edges.{passes_edges}
 use Rattle.tileprog.specs.Hidden.{NonePasses, none_passes, greatest_after, DepthsLie, IsHidden, AreAfter, IsWhole}
+use Rattle.tileprog.specs.Painting.{stands_for}
 use Rattle.tileprog.specs.Passing.{triangle_count, IsTile}
 use Rattle.tileprog.proofs.Lanes.{tested_depth}
 use Rattle.tileprog.proofs.Summing.{sum_over_none}
@@ -186,11 +187,11 @@ module _ (t : TriSetup) (e : StateEntry) (m : EdgeMask) (old : Block) (class : I
           = none_pass e.depth_stencil.func least greatest h.was.least h.was.greatest h.none (depth_of t.plane u v) (pixel_at old u v).ds.depth (between.0) (between.1) was.0 was.1 in
           failed e.depth_stencil (face_of t e) e.reference (depth_of t.plane u v) (pixel_at old u v).ds h.alone.stencil h.alone.depth fails
 
-      pub hidden_pixel : (u v : ℕ) → IsIn old.rect u v → pixel_at old u v ≡ triangle_by m (Some t) (Some e) u v (pixel_at old u v)
-      hidden_pixel u v is = by (reaches_by m t e u v) refl
+      pub hidden_pixel : (flip u v : ℕ) → IsIn old.rect u v → stands_for flip old u v ≡ triangle_by m (Some t) (Some e) u v (stands_for flip old u v)
+      hidden_pixel flip u v is = by (reaches_by m t e u v) refl
         where
-          by : (r : Bool) → reaches_by m t e u v ≡ r → pixel_at old u v ≡ (if r then drawn t e (outcome t e u v (pixel_at old u v)) (pixel_at old u v) else pixel_at old u v)
-          by true r = ap (λ o. drawn t e o (pixel_at old u v)) (sym (test_fails u v is r))
+          by : (r : Bool) → reaches_by m t e u v ≡ r → stands_for flip old u v ≡ (if r then drawn t e (outcome t e u v (stands_for flip old u v)) (stands_for flip old u v) else stands_for flip old u v)
+          by true r = ap (λ o. drawn t e o (stands_for flip old u v)) (sym (test_fails u v is r))
           by false r = refl
 
       pub hidden_count : 0 ≡ sum_over old.rect (triangle_count m t e old)
@@ -203,7 +204,7 @@ module _ (t : TriSetup) (e : StateEntry) (m : EdgeMask) (old : Block) (class : I
     -- what the depths lie between behind it
     module _ (new : Block) (whole : Bool) (d : DepthBounds)
         (a : AreAfter e.depth_stencil least greatest whole stored d)
-        (pixels : (u v : ℕ) → IsIn old.rect u v → pixel_at new u v ≡ triangle_by m (Some t) (Some e) u v (pixel_at old u v))
+        (pixels : (u v : ℕ) → IsIn old.rect u v → (pixel_at new u v).ds ≡ (triangle_by m (Some t) (Some e) u v (pixel_at old u v)).ds)
         (reached : whole ≡ true → (u v : ℕ) → IsIn old.rect u v → reaches_by m t e u v ≡ true) where
       tested_depth_is : (u v : ℕ) → (outcome t e u v (pixel_at old u v)).after.depth ≡ depth_after e.depth_stencil.func (depth_of t.plane u v) (pixel_at old u v).ds.depth
       tested_depth_is u v =
@@ -214,7 +215,7 @@ module _ (t : TriSetup) (e : StateEntry) (m : EdgeMask) (old : Block) (class : I
       pub kept_between : (u v : ℕ) → IsIn old.rect u v → (d.least ≤ (pixel_at new u v).ds.depth) × ((pixel_at new u v).ds.depth ≤ d.greatest)
       kept_between u v is =
           let was = lies a.was a.known u v is in
-          bounded_by d.least (min a.was.least least) (pixel_at new u v).ds.depth (triangle_by m (Some t) (Some e) u v (pixel_at old u v)).ds.depth d.greatest _ a.low (ap (λ (p : Pixel). p.ds.depth) (pixels u v is)) a.high
+          bounded_by d.least (min a.was.least least) (pixel_at new u v).ds.depth (triangle_by m (Some t) (Some e) u v (pixel_at old u v)).ds.depth d.greatest _ a.low (ap (λ (ds : DepthStencil). ds.depth) (pixels u v is)) a.high
           (by was (reaches_by m t e u v) refl whole reached)
         where
           by : ((a.was.least ≤ (pixel_at old u v).ds.depth) × ((pixel_at old u v).ds.depth ≤ a.was.greatest)) → (r : Bool) → reaches_by m t e u v ≡ r → (all : Bool) → (all ≡ true → (u v : ℕ) → IsIn old.rect u v → reaches_by m t e u v ≡ true) →
@@ -252,13 +253,22 @@ module _ (p : TriSetup) (e : StateEntry) (m : EdgeMask) (clip r : PixelRect) (ti
           lies_in : (c : PixelRect) (u v : ℕ) → c.left ≤ u → u < c.right → c.top ≤ v → v < c.bottom → (nat_le c.left u && (nat_lt u c.right && (nat_le c.top v && nat_lt v c.bottom))) ≡ true
           lies_in c u v a b d f = grind (arith, nat_tests)
 
+-- flips change nothing of what the tests leave
+same_tests : (t : TriSetup) (e : StateEntry) (m : EdgeMask) (old : Block) (flip u v : ℕ) → (triangle_by m (Some t) (Some e) u v (stands_for flip old u v)).ds ≡ (triangle_by m (Some t) (Some e) u v (pixel_at old u v)).ds
+same_tests t e m old flip u v = by (reaches_by m t e u v)
+  where
+    by : (r : Bool) → (if r then drawn t e (outcome t e u v (stands_for flip old u v)) (stands_for flip old u v) else stands_for flip old u v).ds ≡ (if r then drawn t e (outcome t e u v (pixel_at old u v)) (pixel_at old u v) else pixel_at old u v).ds
+    by true = refl
+    by false = refl
+
 -- what is kept behind it
-pub kept_if : (t : TriSetup) (e : StateEntry) (m : EdgeMask) (old new : Block) (clip : PixelRect) (least greatest : ℕ) (stored after : Option DepthBounds) (whole : Bool) → IsTile old.rect → IsClassOf (Cut (edge_bits m)) t.edges old.rect → IsBounded t e →
+pub kept_if : (t : TriSetup) (e : StateEntry) (m : EdgeMask) (flip : ℕ) (old new : Block) (clip : PixelRect) (least greatest : ℕ) (stored after : Option DepthBounds) (whole : Bool) → IsTile old.rect → IsClassOf (Cut (edge_bits m)) t.edges old.rect → IsBounded t e →
     ((u v : ℕ) → IsIn old.rect u v → is_in_rect clip u v ≡ is_in_rect t.bounds u v) → DepthsLie t old.rect least greatest → IfSome stored (λ w. LieBetween old w.least w.greatest) → (whole ≡ true → IsWhole old.rect clip m) →
     IfSome after (AreAfter e.depth_stencil least greatest whole stored) → new.rect ≡ old.rect →
-    ((u v : ℕ) → IsIn old.rect u v → pixel_at new u v ≡ triangle_by m (Some t) (Some e) u v (pixel_at old u v)) → IfSome after (λ d. LieBetween new d.least d.greatest)
-kept_if t e m old new clip least greatest stored None whole tile class bounded inside lie known all a rect pixels = a
-kept_if t e m old new clip least greatest stored (Some d) whole tile class bounded inside lie known all a rect pixels = λ u v is.
-    kept_between t e m old class least greatest lie stored known new whole d a pixels
+    ((u v : ℕ) → IsIn old.rect u v → stands_for flip new u v ≡ triangle_by m (Some t) (Some e) u v (stands_for flip old u v)) → IfSome after (λ d. LieBetween new d.least d.greatest)
+kept_if t e m flip old new clip least greatest stored None whole tile class bounded inside lie known all a rect pixels = a
+kept_if t e m flip old new clip least greatest stored (Some d) whole tile class bounded inside lie known all a rect pixels = λ u v is.
+    kept_between t e m old class least greatest lie stored known new whole d a
+    (λ u v is. ap (λ (p : Pixel). p.ds) (pixels u v is) ∙ same_tests t e m old flip u v)
     (λ w. whole_reached t e m clip old.rect tile class bounded inside (all w))
     u v (subst (λ (r : PixelRect). IsIn r u v) rect is)

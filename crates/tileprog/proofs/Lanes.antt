@@ -2,19 +2,19 @@
 use Rattle.std.proofs.Common.{◌≡◌, ◌∙◌, ap, sym, refl, arith, ℕ, ◌<◌, ◌%◌, ◌^◌, Bool, true, false, List}
 use Rattle.std.specs.Prelude.{◌==◌, ◌&&◌, ◌||◌, not, if◌then◌else◌, bit_and, bit_xor}
 use Rattle.std.specs.Int.{bit_at, to_le_bytes, w32}
-use Rattle.std.proofs.lemmas.Nat.{and_mask}
+use Rattle.std.proofs.lemmas.Nat.{and_mask, from_le_bytes-to_le_bytes_4}
 use Rattle.std.specs.Int.Bits.{xor_zero_l, xor_zero_r, and_zero_r}
 use Rattle.std.proofs.lemmas.Nat.Bits.{bit_at_and, bit_at-lt, bit_at-zero, bit_at_ones}
 use Rattle.gfxspec.specs.declared.pixel.Pixel.{Pixel}
 use Rattle.gfxspec.specs.declared.pixel.DepthStencil.{DepthStencil}
 use Rattle.gfxspec.specs.declared.state.Compare.{Compare}
 use Rattle.gfxspec.specs.DepthStencil.{DepthStencilSetting, FaceSetting, TestOutcome, tested, compares, masked, stencil_result, chosen_op}
-use Rattle.gfxspec.specs.Color.{written_color}
 use Rattle.lanes.proofs.Masks.{both_bits}
 use Rattle.tileprog.specs.declared.kind.Tests.TheVariants.{Open, Depth, Stencil}
 use Rattle.tileprog.specs.declared.brush.Brush.{Brush}
 use Rattle.tileprog.specs.Kinds.{tests_of}
 use Rattle.tileprog.specs.Brushes.{tested_by, drawn_by}
+use Rattle.tileprog.specs.Painting.{painted_with}
 use Rattle.lanes.specs.Stencil.{StencilRule, has, reference_passes, stencil_after}
 
 -- ---- bits
@@ -30,9 +30,9 @@ has_both a b j q e = ap (λ n. n == 1) (bit_at_and a b j) ∙ both_bits (bit_at 
 
 -- ---- colours
 
-pub lane_painted : (b : Brush) (p : Pixel) (t : Bool) (q n m : ℕ) → q < 2 ^ 32 → to_le_bytes w32 q ≡ p.rgba → n ≡ bit_xor (bit_and q b.write.keep) b.write.flip → m ≡ (if t then n else q) → to_le_bytes w32 m ≡ (if t then written_color b.blend b.rgba p.rgba else p.rgba)
+pub lane_painted : (b : Brush) (p : Pixel) (t : Bool) (q n m : ℕ) → q < 2 ^ 32 → to_le_bytes w32 q ≡ p.rgba → n ≡ bit_xor (bit_and q b.write.keep) b.write.flip → m ≡ (if t then n else q) → to_le_bytes w32 m ≡ (if t then painted_with b.write p.rgba else p.rgba)
 lane_painted b p true q n m small is write pick =
-    ap (to_le_bytes w32) (pick ∙ write) ∙ b.paints.gives q small ∙ ap (written_color b.blend b.rgba) is
+    ap (to_le_bytes w32) (pick ∙ write ∙ ap (λ k. bit_xor (bit_and k b.write.keep) b.write.flip) (sym (from_le_bytes-to_le_bytes_4 q small))) ∙ ap (painted_with b.write) is
 lane_painted b p false q n m small is write pick = ap (to_le_bytes w32) pick ∙ is
 
 -- a write that keeps every bit, and one that keeps none
@@ -58,14 +58,14 @@ pub with_color : (p : Pixel) (c d : List ℕ) → c ≡ d → colored p c ≡ co
 with_color p c d e = ap (colored p) e
 
 -- a lane whose colour a write keeps, and one that isn't painted
-pub lane_kept : (b : Brush) (p : Pixel) (t : Bool) (q : ℕ) → q < 2 ^ 32 → to_le_bytes w32 q ≡ p.rgba → q ≡ bit_xor (bit_and q b.write.keep) b.write.flip → p ≡ colored p (if t then written_color b.blend b.rgba p.rgba else p.rgba)
+pub lane_kept : (b : Brush) (p : Pixel) (t : Bool) (q : ℕ) → q < 2 ^ 32 → to_le_bytes w32 q ≡ p.rgba → q ≡ bit_xor (bit_and q b.write.keep) b.write.flip → p ≡ colored p (if t then painted_with b.write p.rgba else p.rgba)
 lane_kept b p t q small is kept = with_color p p.rgba _ (sym is ∙ lane_painted b p t q q q small is kept (either_same t q q refl))
 
-pub lane_unpainted : (b : Brush) (p : Pixel) (t : Bool) → t ≡ false → p ≡ colored p (if t then written_color b.blend b.rgba p.rgba else p.rgba)
-lane_unpainted b p t e = ap (λ u. colored p (if u then written_color b.blend b.rgba p.rgba else p.rgba)) (sym e)
+pub lane_unpainted : (b : Brush) (p : Pixel) (t : Bool) → t ≡ false → p ≡ colored p (if t then painted_with b.write p.rgba else p.rgba)
+lane_unpainted b p t e = ap (λ u. colored p (if u then painted_with b.write p.rgba else p.rgba)) (sym e)
 
 -- a lane whose bit picks a colour
-pub lane_chosen : (b : Brush) (p : Pixel) (t : Bool) (q n : ℕ) → q < 2 ^ 32 → to_le_bytes w32 q ≡ p.rgba → n ≡ bit_xor (bit_and q b.write.keep) b.write.flip → (if t then colored p (to_le_bytes w32 n) else p) ≡ colored p (if t then written_color b.blend b.rgba p.rgba else p.rgba)
+pub lane_chosen : (b : Brush) (p : Pixel) (t : Bool) (q n : ℕ) → q < 2 ^ 32 → to_le_bytes w32 q ≡ p.rgba → n ≡ bit_xor (bit_and q b.write.keep) b.write.flip → (if t then colored p (to_le_bytes w32 n) else p) ≡ colored p (if t then painted_with b.write p.rgba else p.rgba)
 lane_chosen b p true q n small is write = with_color p _ _ (lane_painted b p true q n n small is write refl)
 lane_chosen b p false q n small is write = refl
 
@@ -168,9 +168,9 @@ open_passes b kind z false old = refl
 
 -- what the tests and then the colours leave is what the brush draws
 pub both_lanes : (b : Brush) (z : ℕ) (t u : Bool) (p : Pixel) → u ≡ (t && (tested_by b z p.ds).passed) →
-    record { rgba = if u then written_color b.blend b.rgba p.rgba else p.rgba; ds = if t then (tested_by b z p.ds).after else p.ds } ≡ (if t then drawn_by b z p else p)
-both_lanes b z true u p e = ap (λ v. record { rgba = if v then written_color b.blend b.rgba p.rgba else p.rgba; ds = (tested_by b z p.ds).after }) e
-both_lanes b z false u p e = ap (λ v. record { rgba = if v then written_color b.blend b.rgba p.rgba else p.rgba; ds = p.ds }) e
+    record { rgba = if u then painted_with b.write p.rgba else p.rgba; ds = if t then (tested_by b z p.ds).after else p.ds } ≡ (if t then drawn_by b z p else p)
+both_lanes b z true u p e = ap (λ v. record { rgba = if v then painted_with b.write p.rgba else p.rgba; ds = (tested_by b z p.ds).after }) e
+both_lanes b z false u p e = ap (λ v. record { rgba = if v then painted_with b.write p.rgba else p.rgba; ds = p.ds }) e
 
 -- where depths are written, and where they aren't
 module _ (z : ℕ) (old : DepthStencil) where

@@ -24,7 +24,7 @@ use Rattle.binner.specs.Compiled.{Compilation}
 use Rattle.binner.specs.Meaning.{WordFits, WordsFit, Decode, ProgramFits}
 use Rattle.tileprog.specs.Runs.{RunsTo}
 use Rattle.tileprog.specs.Counting.{one_if}
-use Rattle.tileprog.specs.Passing.{NamesState, IsTile, HasGrown, AtMost, is_open, passes_by, word_passes, word_passed, word_total, words_total, triangle_count}
+use Rattle.tileprog.specs.Passing.{NamesState, IsTile, HasGrown, AtMost, is_open, passes_by, word_passes, word_passed, word_total, words_total, triangle_passes}
 use Rattle.tileprog.proofs.Ones.{same_sums}
 use Rattle.tileprog.proofs.Summing.{sum_plus, sum_over_same, sum_over_none}
 
@@ -38,8 +38,8 @@ issue_counted r true passes passed is = is
 issue_counted r false passes passed is = sym (sum_over_none r (λ u v. 0) (λ u v is. refl))
 
 -- in a run over words: the counts so far and what the words that are left will count are what all words count
-pub record IsLeft (t : Tables) (e : Option StateEntry) (rest : List Word) (now : Block) (counts : List ℕ) (ws : List Word) (opening : Block) : Type 0 where
-  pub each : (k : ℕ) → k < 64 → slice_index counts k + words_total t e k rest now ≡ words_total t None k ws opening
+pub record IsLeft (t : Tables) (e : Option StateEntry) (rest : List Word) (r : PixelRect) (now : ℕ → ℕ → Pixel) (counts : List ℕ) (ws : List Word) (opening : ℕ → ℕ → Pixel) : Type 0 where
+  pub each : (k : ℕ) → k < 64 → slice_index counts k + words_total t e k rest r now ≡ words_total t None k ws r opening
 
 and_false : (b : Bool) → (b && false) ≡ false
 and_false true = refl
@@ -69,29 +69,27 @@ tests_few r test is =
     let all = sum_few (r.bottom - r.top) 32 (λ i. sum_below (r.right - r.left) (λ j. one_if (test (r.left + j) (r.top + i)))) (λ i. row (r.top + i)) in
     omega arith
 
-pub total_few : (t : Tables) (e : Option StateEntry) (issue : ℕ) (w : Word) (old : Block) → IsTile old.rect → word_total t e issue w old ≤ 1024
-total_few t e issue w old is = tests_few old.rect (λ u v. word_counts t e issue w u v (pixel_at old u v)) is
+pub total_few : (t : Tables) (e : Option StateEntry) (issue : ℕ) (w : Word) (r : PixelRect) (old : ℕ → ℕ → Pixel) → IsTile r → word_total t e issue w r old ≤ 1024
+total_few t e issue w r old is = tests_few r (λ u v. word_counts t e issue w u v (old u v)) is
 
-pub passed_few : (t : Tables) (e : Option StateEntry) (w : Word) (old : Block) (passed : ℕ) → passed ≡ sum_over old.rect (word_passed t e w old) → IsTile old.rect → passed ≤ 1024
-passed_few t e w old passed sums is = subst (λ n. n ≤ 1024) (sym sums) (tests_few old.rect (λ u v. word_passes t e w u v (pixel_at old u v)) is)
+pub passed_few : (t : Tables) (e : Option StateEntry) (w : Word) (r : PixelRect) (old : ℕ → ℕ → Pixel) (passed : ℕ) → passed ≡ sum_over r (word_passed t e w old) → IsTile r → passed ≤ 1024
+passed_few t e w r old passed sums is = subst (λ n. n ≤ 1024) (sym sums) (tests_few r (λ u v. word_passes t e w u v (old u v)) is)
 
 -- a word, and then the others
-pub totals_step : (t : Tables) (e : Option StateEntry) (issue : ℕ) (w : Word) (ws : List Word) (old mid : Block) → mid.rect ≡ old.rect
-    → ((u v : ℕ) → IsIn old.rect u v → pixel_at mid u v ≡ after_word t e w u v (pixel_at old u v))
-    → words_total t e issue (w ∷ ws) old ≡ word_total t e issue w old + words_total t (force_after t e w) issue ws mid
-totals_step t e issue w ws old mid same went =
-    sum_over_plus old.rect (λ u v. one_if (word_counts t e issue w u v (pixel_at old u v))) (λ u v. words_count t (force_after t e w) issue ws u v (after_word t e w u v (pixel_at old u v)))
-    ∙ ap (λ n. word_total t e issue w old + n)
-    (sum_over_same old.rect _ _ (λ u v is. ap (words_count t (force_after t e w) issue ws u v) (sym (went u v is)))
-    ∙ ap (λ r. sum_over r (λ u v. words_count t (force_after t e w) issue ws u v (pixel_at mid u v))) (sym same))
+pub totals_step : (t : Tables) (e : Option StateEntry) (issue : ℕ) (w : Word) (ws : List Word) (r : PixelRect) (old mid : ℕ → ℕ → Pixel)
+    → ((u v : ℕ) → IsIn r u v → mid u v ≡ after_word t e w u v (old u v))
+    → words_total t e issue (w ∷ ws) r old ≡ word_total t e issue w r old + words_total t (force_after t e w) issue ws r mid
+totals_step t e issue w ws r old mid went =
+    sum_over_plus r (λ u v. one_if (word_counts t e issue w u v (old u v))) (λ u v. words_count t (force_after t e w) issue ws u v (after_word t e w u v (old u v)))
+    ∙ ap (λ n. word_total t e issue w r old + n) (sum_over_same r _ _ (λ u v is. ap (words_count t (force_after t e w) issue ws u v) (sym (went u v is))))
 
 -- the counts so far and what is left stay the same
-totals_kept : (t : Tables) (e : Option StateEntry) (issue : ℕ) (w : Word) (ws : List Word) (old mid : Block) (before after all : ℕ) → mid.rect ≡ old.rect
-    → ((u v : ℕ) → IsIn old.rect u v → pixel_at mid u v ≡ after_word t e w u v (pixel_at old u v))
-    → after ≡ before + word_total t e issue w old
-    → before + words_total t e issue (w ∷ ws) old ≡ all
-    → after + words_total t (force_after t e w) issue ws mid ≡ all
-totals_kept t e issue w ws old mid before after all same went grew was = let step = totals_step t e issue w ws old mid same went in omega arith
+totals_kept : (t : Tables) (e : Option StateEntry) (issue : ℕ) (w : Word) (ws : List Word) (r : PixelRect) (old mid : ℕ → ℕ → Pixel) (before after all : ℕ)
+    → ((u v : ℕ) → IsIn r u v → mid u v ≡ after_word t e w u v (old u v))
+    → after ≡ before + word_total t e issue w r old
+    → before + words_total t e issue (w ∷ ws) r old ≡ all
+    → after + words_total t (force_after t e w) issue ws r mid ≡ all
+totals_kept t e issue w ws r old mid before after all went grew was = let step = totals_step t e issue w ws r old mid went in omega arith
 
 -- a word counts where its triangle passes, for the open issues
 counts_both : (t : Tables) (e : Option StateEntry) (issue : ℕ) (w : Word) (u v : ℕ) (p : Pixel) → (is_open e issue && word_passes t e w u v p) ≡ word_counts t e issue w u v p
@@ -105,16 +103,16 @@ counts_both t e issue (Tri n mask) u v p = by (slice_get t.triangles n) e
     by (Some s) None = refl
     by (Some s) (Some e) = refl
 
-pub word_grown : (t : Tables) (e : Option StateEntry) (w : Word) (block : Block) (passed : ℕ) → passed ≡ sum_over block.rect (word_passed t e w block)
-    → (k : ℕ) → (if is_open e k then passed else 0) ≡ word_total t e k w block
-word_grown t e w block passed is k =
-    issue_counted block.rect (is_open e k) (λ u v. word_passes t e w u v (pixel_at block u v)) passed is
-    ∙ sum_over_same block.rect _ _ (λ u v h. ap one_if (counts_both t e k w u v (pixel_at block u v)))
+pub word_grown : (t : Tables) (e : Option StateEntry) (w : Word) (r : PixelRect) (now : ℕ → ℕ → Pixel) (passed : ℕ) → passed ≡ sum_over r (word_passed t e w now)
+    → (k : ℕ) → (if is_open e k then passed else 0) ≡ word_total t e k w r now
+word_grown t e w r now passed is k =
+    issue_counted r (is_open e k) (λ u v. word_passes t e w u v (now u v)) passed is
+    ∙ sum_over_same r _ _ (λ u v h. ap one_if (counts_both t e k w u v (now u v)))
 
 -- nothing passes
-pub nothing_grown : (t : Tables) (e : Option StateEntry) (w : Word) (block : Block) (passed : ℕ) → passed ≡ sum_over block.rect (word_passed t e w block) → passed ≡ 0
-    → (k : ℕ) → 0 ≡ word_total t e k w block
-nothing_grown t e w block passed is none k = by (is_open e k) ∙ word_grown t e w block passed is k
+pub nothing_grown : (t : Tables) (e : Option StateEntry) (w : Word) (r : PixelRect) (now : ℕ → ℕ → Pixel) (passed : ℕ) → passed ≡ sum_over r (word_passed t e w now) → passed ≡ 0
+    → (k : ℕ) → 0 ≡ word_total t e k w r now
+nothing_grown t e w r now passed is none k = by (is_open e k) ∙ word_grown t e w r now passed is k
   where
     by : (b : Bool) → 0 ≡ (if b then passed else 0)
     by true = sym none
@@ -126,48 +124,47 @@ none_passed r = sym (sum_over_none r (λ u v. 0) (λ u v is. refl))
 -- ---- the loop over words
 
 -- what one word did to the counts
-pub record WordCounted (t : Tables) (e : Option StateEntry) (w : Word) (block : Block) (old new : List ℕ) : Type 0 where
-  pub each : (k : ℕ) → k < 64 → slice_index new k ≡ slice_index old k + word_total t e k w block
+pub record WordCounted (t : Tables) (e : Option StateEntry) (w : Word) (r : PixelRect) (now : ℕ → ℕ → Pixel) (old new : List ℕ) : Type 0 where
+  pub each : (k : ℕ) → k < 64 → slice_index new k ≡ slice_index old k + word_total t e k w r now
 
-pub counted_some : (t : Tables) (e : Option StateEntry) (w : Word) (block : Block) (passed : ℕ) (old new : List ℕ) → passed ≡ sum_over block.rect (word_passed t e w block) → HasGrown old new (λ k. if is_open e k then passed else 0) → WordCounted t e w block old new
-counted_some t e w block passed old new is grown = record { each = λ k h. grown.each k h ∙ ap (λ n. slice_index old k + n) (word_grown t e w block passed is k) }
+pub counted_some : (t : Tables) (e : Option StateEntry) (w : Word) (r : PixelRect) (now : ℕ → ℕ → Pixel) (passed : ℕ) (old new : List ℕ) → passed ≡ sum_over r (word_passed t e w now) → HasGrown old new (λ k. if is_open e k then passed else 0) → WordCounted t e w r now old new
+counted_some t e w r now passed old new is grown = record { each = λ k h. grown.each k h ∙ ap (λ n. slice_index old k + n) (word_grown t e w r now passed is k) }
 
-pub counted_none : (t : Tables) (e : Option StateEntry) (w : Word) (block : Block) (passed : ℕ) (counts : List ℕ) → passed ≡ sum_over block.rect (word_passed t e w block) → passed ≡ 0 → WordCounted t e w block counts counts
-counted_none t e w block passed counts is none = record { each = λ k h. let zero_total = nothing_grown t e w block passed is none k in omega arith }
+pub counted_none : (t : Tables) (e : Option StateEntry) (w : Word) (r : PixelRect) (now : ℕ → ℕ → Pixel) (passed : ℕ) (counts : List ℕ) → passed ≡ sum_over r (word_passed t e w now) → passed ≡ 0 → WordCounted t e w r now counts counts
+counted_none t e w r now passed counts is none = record { each = λ k h. let zero_total = nothing_grown t e w r now passed is none k in omega arith }
 
-pub room_next : (t : Tables) (e : Option StateEntry) (w : Word) (block : Block) (old new : List ℕ) (n m : ℕ) → IsTile block.rect → WordCounted t e w block old new → AtMost old n → n + 1024 ≤ m → AtMost new m
-room_next t e w block old new n m is counted room le =
-    record { each = λ k h. let grew = counted.each k h in let had = room.each k h in let few = total_few t e k w block is in omega arith }
+pub room_next : (t : Tables) (e : Option StateEntry) (w : Word) (r : PixelRect) (now : ℕ → ℕ → Pixel) (old new : List ℕ) (n m : ℕ) → IsTile r → WordCounted t e w r now old new → AtMost old n → n + 1024 ≤ m → AtMost new m
+room_next t e w r now old new n m is counted room le =
+    record { each = λ k h. let grew = counted.each k h in let had = room.each k h in let few = total_few t e k w r now is in omega arith }
 
 pub room_more : (counts : List ℕ) (n m : ℕ) → n ≤ m → AtMost counts n → AtMost counts m
 room_more counts n m le room = record { each = λ k h. let had = room.each k h in omega arith }
 
--- the numbers that are left of a tile's program, with what is so far of the block and the counts
-pub record ProgramLeft (t : Tables) (numbers rest : List ℕ) (e : Option StateEntry) (opening now : Block) (counts : List ℕ) : Type 0 where
-  pub rect : now.rect ≡ opening.rect
+-- the numbers that are left of a tile's program, with what its pixels and the counts are so far
+pub record ProgramLeft (t : Tables) (numbers rest : List ℕ) (e : Option StateEntry) (r : PixelRect) (opening now : ℕ → ℕ → Pixel) (counts : List ℕ) : Type 0 where
   pub decode : Decode rest
-  pub fit : WordsFit t opening.rect e (program rest)
-  pub pixels : (u v : ℕ) → IsIn opening.rect u v → after_words t e (program rest) u v (pixel_at now u v) ≡ after_words t None (program numbers) u v (pixel_at opening u v)
-  pub counted : IsLeft t e (program rest) now counts (program numbers) opening
+  pub fit : WordsFit t r e (program rest)
+  pub pixels : (u v : ℕ) → IsIn r u v → after_words t e (program rest) u v (now u v) ≡ after_words t None (program numbers) u v (opening u v)
+  pub counted : IsLeft t e (program rest) r now counts (program numbers) opening
   pub room : AtMost counts (1024 * (196608 - length rest))
   pub few : length rest ≤ 196608
 
 -- ---- one word
 
-module _ (t : Tables) (e : Option StateEntry) (w : Word) (old : Block) where
-  pub state_passed : (n : ℕ) → w ≡ State n → 0 ≡ sum_over old.rect (word_passed t e w old)
-  state_passed n is = none_passed old.rect ∙ ap (λ x. sum_over old.rect (word_passed t e x old)) (sym is)
+module _ (t : Tables) (e : Option StateEntry) (w : Word) (r : PixelRect) (old : ℕ → ℕ → Pixel) where
+  pub state_passed : (n : ℕ) → w ≡ State n → 0 ≡ sum_over r (word_passed t e w old)
+  state_passed n is = none_passed r ∙ ap (λ x. sum_over r (word_passed t e x old)) (sym is)
 
-  pub color_passed : (n : ℕ) → w ≡ ClearC n → 0 ≡ sum_over old.rect (word_passed t e w old)
-  color_passed n is = none_passed old.rect ∙ ap (λ x. sum_over old.rect (word_passed t e x old)) (sym is)
+  pub color_passed : (n : ℕ) → w ≡ ClearC n → 0 ≡ sum_over r (word_passed t e w old)
+  color_passed n is = none_passed r ∙ ap (λ x. sum_over r (word_passed t e x old)) (sym is)
 
-  pub depth_passed : (n : ℕ) → w ≡ ClearDs n → 0 ≡ sum_over old.rect (word_passed t e w old)
-  depth_passed n is = none_passed old.rect ∙ ap (λ x. sum_over old.rect (word_passed t e x old)) (sym is)
+  pub depth_passed : (n : ℕ) → w ≡ ClearDs n → 0 ≡ sum_over r (word_passed t e w old)
+  depth_passed n is = none_passed r ∙ ap (λ x. sum_over r (word_passed t e x old)) (sym is)
 
   pub tri_passed : (n result : ℕ) (mask : EdgeMask) (p : TriSetup) (en : StateEntry) → w ≡ Tri n mask → slice_get t.triangles n ≡ Some p → e ≡ Some en
-      → result ≡ sum_over old.rect (triangle_count mask p en old) → result ≡ sum_over old.rect (word_passed t e w old)
+      → result ≡ sum_over r (λ u v. one_if (triangle_passes mask p en u v (old u v))) → result ≡ sum_over r (word_passed t e w old)
   tri_passed n result mask p en is named force count =
-      count ∙ (λ i. sum_over old.rect (λ u v. one_if (passes_by mask (sym named i) (sym force i) u v (pixel_at old u v)))) ∙ ap (λ x. sum_over old.rect (word_passed t e x old)) (sym is)
+      count ∙ (λ i. sum_over r (λ u v. one_if (passes_by mask (sym named i) (sym force i) u v (old u v)))) ∙ ap (λ x. sum_over r (word_passed t e x old)) (sym is)
 
 -- ---- what a word that fits names
 
@@ -204,15 +201,19 @@ names_state t r e (Tri n m) h = tt
 names_state t r e (ClearC n) h = tt
 names_state t r e (ClearDs n) h = tt
 
-module _ (t : Tables) (numbers : List ℕ) (opening : Block) where
-  pub all_left : (counts : List ℕ) → ProgramFits t opening.rect numbers → length numbers ≤ 196608 → counts ≡ replicate 64 0 → ProgramLeft t numbers numbers None opening opening counts
-  all_left counts fits few zeros =
+module _ (t : Tables) (numbers : List ℕ) (r : PixelRect) (opening : ℕ → ℕ → Pixel) where
+  pub all_left : (now : ℕ → ℕ → Pixel) (counts : List ℕ) → ((u v : ℕ) → now u v ≡ opening u v) → ProgramFits t r numbers → length numbers ≤ 196608 → counts ≡ replicate 64 0 → ProgramLeft t numbers numbers None r opening now counts
+  all_left now counts same fits few zeros =
       record {
-        rect = refl;
         decode = fits.decode;
         fit = fits.fit;
-        pixels = λ u v is. refl;
-        counted = record { each = λ k h. let none = zero_at k h in omega arith };
+        pixels = λ u v is. ap (after_words t None (program numbers) u v) (same u v);
+        counted = record {
+          each = λ k h.
+              let none = zero_at k h in
+              let all = sum_over_same r (λ u v. words_count t None k (program numbers) u v (now u v)) (λ u v. words_count t None k (program numbers) u v (opening u v)) (λ u v is. ap (words_count t None k (program numbers) u v) (same u v)) in
+              omega (arith, none, all);
+        };
         room = record { each = λ k h. let none = zero_at k h in omega arith };
         few = few;
       }
@@ -224,29 +225,27 @@ module _ (t : Tables) (numbers : List ℕ) (opening : Block) where
     words_split : program now ≡ w ∷ program next
     words_split = ap program split ∙ words_next n next w is
 
-    pub next_fits : (e : Option StateEntry) (mid : Block) (counts : List ℕ) → ProgramLeft t numbers now e opening mid counts → WordFits t opening.rect e w
-    next_fits e mid counts left = (first_fits t opening.rect e w (program now) (program next) words_split left.fit).0
+    pub next_fits : (e : Option StateEntry) (mid : ℕ → ℕ → Pixel) (counts : List ℕ) → ProgramLeft t numbers now e r opening mid counts → WordFits t r e w
+    next_fits e mid counts left = (first_fits t r e w (program now) (program next) words_split left.fit).0
 
-    pub one_done : (e after : Option StateEntry) (mid new : Block) (counts more : List ℕ) → ProgramLeft t numbers now e opening mid counts → after ≡ force_after t e w → new.rect ≡ mid.rect
-        → ((u v : ℕ) → IsIn mid.rect u v → pixel_at new u v ≡ after_word t e w u v (pixel_at mid u v)) → WordCounted t e w mid counts more → IsTile opening.rect → ProgramLeft t numbers next after opening new more
-    one_done e after mid new counts more left force same went counted tile =
+    pub one_done : (e after : Option StateEntry) (mid new : ℕ → ℕ → Pixel) (counts more : List ℕ) → ProgramLeft t numbers now e r opening mid counts → after ≡ force_after t e w
+        → ((u v : ℕ) → IsIn r u v → new u v ≡ after_word t e w u v (mid u v)) → WordCounted t e w r mid counts more → IsTile r → ProgramLeft t numbers next after r opening new more
+    one_done e after mid new counts more left force went counted tile =
         let long : length now ≡ suc (length next) = ap length split in
         let had = left.few in
         record {
-          rect = same ∙ left.rect;
           decode = rest_decodes (decoded n) (subst Decode split left.decode);
-          fit = subst (λ f. WordsFit t opening.rect f (program next)) (sym force) (first_fits t opening.rect e w (program now) (program next) words_split left.fit).1;
+          fit = subst (λ f. WordsFit t r f (program next)) (sym force) (first_fits t r e w (program now) (program next) words_split left.fit).1;
           pixels = λ u v inside.
-              let In : PixelRect → Type 0 = λ r. IsIn r u v in
-              (λ i. after_words t (force i) (program next) u v (went u v (subst In (sym left.rect) inside) i))
-              ∙ sym (ap (λ l. after_words t e l u v (pixel_at mid u v)) words_split) ∙ left.pixels u v inside;
+              (λ i. after_words t (force i) (program next) u v (went u v inside i))
+              ∙ sym (ap (λ l. after_words t e l u v (mid u v)) words_split) ∙ left.pixels u v inside;
           counted = record {
             each = λ k h.
-                ap (λ f. slice_index more k + words_total t f k (program next) new) force
-                ∙ totals_kept t e k w (program next) mid new (slice_index counts k) (slice_index more k) (words_total t None k (program numbers) opening) same went (counted.each k h)
-                (ap (λ l. slice_index counts k + words_total t e k l mid) (sym words_split) ∙ left.counted.each k h);
+                ap (λ f. slice_index more k + words_total t f k (program next) r new) force
+                ∙ totals_kept t e k w (program next) r mid new (slice_index counts k) (slice_index more k) (words_total t None k (program numbers) r opening) went (counted.each k h)
+                (ap (λ l. slice_index counts k + words_total t e k l r mid) (sym words_split) ∙ left.counted.each k h);
           };
-          room = room_next t e w mid counts more (1024 * (196608 - length now)) (1024 * (196608 - length next)) (subst IsTile (sym left.rect) tile) counted left.room (omega arith);
+          room = room_next t e w r mid counts more (1024 * (196608 - length now)) (1024 * (196608 - length next)) tile counted left.room (omega arith);
           few = omega arith;
         }
       where
@@ -254,15 +253,16 @@ module _ (t : Tables) (numbers : List ℕ) (opening : Block) where
         rest_decodes None h = absurd cc
         rest_decodes (Some v) h = h
 
-  pub none_left : (c : Compilation) (tile : ℕ) (rest : List ℕ) (e : Option StateEntry) (after : Block) (counts : List ℕ) → c.tables ≡ t → words_of c.numbers tile ≡ numbers → rest ≡ [] → ProgramLeft t numbers rest e opening after counts → RunsTo c tile opening after counts
-  none_left c tile rest e after counts of_tables of_numbers none left =
-      record {
-        rect = left.rect;
-        pixels = λ u v is.
-            sym (ap (λ ns. after_words t e (program ns) u v (pixel_at after u v)) none) ∙ left.pixels u v is
-            ∙ (λ i. after_words (sym of_tables i) None (program (sym of_numbers i)) u v (pixel_at opening u v));
-        counts = λ k h.
-            nothing_counted after.rect (slice_index counts k) ∙ sym (ap (λ ns. slice_index counts k + words_total t e k (program ns) after) none) ∙ left.counted.each k h
-            ∙ (λ i. words_total (sym of_tables i) None k (program (sym of_numbers i)) opening);
-        few = λ k h. let most = left.room.each k h in omega arith;
-      }
+pub none_left : (t : Tables) (numbers : List ℕ) (opening : Block) (c : Compilation) (tile : ℕ) (rest : List ℕ) (e : Option StateEntry) (now : ℕ → ℕ → Pixel) (after : Block) (counts : List ℕ) → c.tables ≡ t → words_of c.numbers tile ≡ numbers → rest ≡ []
+    → after.rect ≡ opening.rect → ((u v : ℕ) → IsIn opening.rect u v → pixel_at after u v ≡ now u v) → ProgramLeft t numbers rest e opening.rect (pixel_at opening) now counts → RunsTo c tile opening after counts
+none_left t numbers opening c tile rest e now after counts of_tables of_numbers none same stands left =
+    record {
+      rect = same;
+      pixels = λ u v is.
+          stands u v is ∙ sym (ap (λ ns. after_words t e (program ns) u v (now u v)) none) ∙ left.pixels u v is
+          ∙ (λ i. after_words (sym of_tables i) None (program (sym of_numbers i)) u v (pixel_at opening u v));
+      counts = λ k h.
+          nothing_counted opening.rect (slice_index counts k) ∙ sym (ap (λ ns. slice_index counts k + words_total t e k (program ns) opening.rect now) none) ∙ left.counted.each k h
+          ∙ (λ i. words_total (sym of_tables i) None k (program (sym of_numbers i)) opening.rect (pixel_at opening));
+      few = λ k h. let most = left.room.each k h in omega arith;
+    }

@@ -1,7 +1,7 @@
 -- A triangle under an entry, as the stroke of its brush.
 use Rattle.std.proofs.Common.{◌≡◌, ◌∙◌, ap, sym, subst, refl, arith, ⊎_elim, inl, inr, ◌⊎◌, ℕ, zero, suc, ◌+◌, ◌*◌, ◌<◌, ◌≤◌, Bool, true, false, ◌&&◌, ◌||◌, nat_lt, Some}
 use Rattle.std.specs.Prelude.{nat_le, not, ◌==◌, if◌then◌else◌}
-use Rattle.std.specs.Int.{bit_at}
+use Rattle.std.specs.Int.{bit_at, to_le_bytes, w32}
 use Rattle.std.proofs.lemmas.Bool.Decides.{nat_tests}
 use Rattle.std.proofs.lemmas.Nat.Bits.{bit_at-lt}
 use Rattle.gfxspec.specs.declared.pixel.Pixel.{Pixel}
@@ -17,7 +17,7 @@ use Rattle.classify.specs.declared.Class.TheVariants.{Cut}
 use Rattle.tileword.specs.declared.edge_mask.EdgeMask.{EdgeMask}
 use Rattle.tileword.specs.EdgeMask.{named_bit, edge_bits}
 use Rattle.meaning.specs.Over.{sum_over}
-use Rattle.tileblock.specs.Block.{Block, pixel_at}
+use Rattle.tileblock.specs.Block.{Block, pixel_at, value_at}
 use Rattle.binner.specs.declared.entry.StateEntry.{StateEntry}
 use Rattle.binner.specs.declared.setup.TriSetup.{TriSetup}
 use Rattle.binner.specs.Program as P
@@ -27,6 +27,7 @@ use Rattle.tileprog.specs.declared.brush.Brush.{Brush}
 use Rattle.tileprog.specs.Brushes.{tested_by, drawn_by}
 use Rattle.tileprog.specs.Counting.{one_if, stroke_count}
 use Rattle.tileprog.specs.Edges.{passes_edge, passes_edges}
+use Rattle.tileprog.specs.Painting.{painted_with, flipped_color, flipped, stands_for, PaintsAs}
 use Rattle.tileprog.specs.Passing.{triangle_count, IsTile}
 use Rattle.tileprog.specs.Strokes.{IsNamed, stroked}
 use Rattle.tileprog.proofs.Summing.{sum_over_same, sum_over_none}
@@ -85,19 +86,27 @@ passes_are m t p =
 
 -- ---- a brush of an entry
 
-pub record IsBrushOf (b : Brush) (p : TriSetup) (e : StateEntry) : Type 0 where
+pub record IsBrushOf (b : Brush) (p : TriSetup) (e : StateEntry) (flip : ℕ) : Type 0 where
   pub state : b.state ≡ e.depth_stencil
   pub front : b.front ≡ p.front
   pub reference : b.reference ≡ e.reference
-  pub blend : b.blend ≡ e.blend
-  pub rgba : b.rgba ≡ p.rgba
+  pub paints : PaintsAs b.write e.blend p.rgba flip
 
-module _ (b : Brush) (p : TriSetup) (e : StateEntry) (k : IsBrushOf b p e) (x y : ℕ) (old : Pixel) where
-  pub test_is : tested_by b (depth_of p.plane x y) old.ds ≡ outcome p e x y old
-  test_is = λ i. tested (k.state i) (if k.front i then (k.state i).front else (k.state i).back) (k.reference i) (depth_of p.plane x y) old.ds
+module _ (b : Brush) (p : TriSetup) (e : StateEntry) (flip : ℕ) (k : IsBrushOf b p e flip) (x y : ℕ) where
+  pub test_is : (old : Pixel) → tested_by b (depth_of p.plane x y) old.ds ≡ outcome p e x y old
+  test_is old = λ i. tested (k.state i) (if k.front i then (k.state i).front else (k.state i).back) (k.reference i) (depth_of p.plane x y) old.ds
 
-  pub drawn_is : drawn_by b (depth_of p.plane x y) old ≡ drawn p e (outcome p e x y old) old
-  drawn_is = λ i. record { rgba = if (test_is i).passed then written_color (k.blend i) (k.rgba i) old.rgba else old.rgba; ds = (test_is i).after }
+  -- a stored colour that is painted where the tests pass
+  colors_are : (passed : Bool) (n : ℕ) → flipped_color flip (if passed then painted_with b.write (to_le_bytes w32 n) else to_le_bytes w32 n) ≡ (if passed then written_color e.blend p.rgba (flipped_color flip (to_le_bytes w32 n)) else flipped_color flip (to_le_bytes w32 n))
+  colors_are true n = k.paints.gives n
+  colors_are false n = refl
+
+  pub drawn_is : (block : Block) → flipped flip (drawn_by b (depth_of p.plane x y) (pixel_at block x y)) ≡ drawn p e (outcome p e x y (stands_for flip block x y)) (stands_for flip block x y)
+  drawn_is block =
+      let tests = tested_by b (depth_of p.plane x y) (pixel_at block x y).ds in
+      let n = value_at block.colors x y in
+      (λ i. record { rgba = colors_are tests.passed n i; ds = tests.after })
+      ∙ ap (λ o. drawn p e o (stands_for flip block x y)) (test_is (pixel_at block x y))
 
 -- ---- a triangle in its bounds
 
@@ -123,10 +132,14 @@ module _ (p : TriSetup) (e : StateEntry) (m : EdgeMask) (clip r : PixelRect) (ti
       (named_covers (edge_bits m) p.edges r u v p.solid class is) (bounded u v wide high)
       ∙ ap (λ b. b && lets_through e u v) (passes_are m p.edges (centre u v))
 
-  pub under_is : (b : Brush) → IsBrushOf b p e → (u v : ℕ) → IsIn r u v → (old : Pixel) → stroked (record { brush = b; plane = p.plane; mask = edge_bits m; clip = clip }) u v old ≡ triangle_by m (Some p) (Some e) u v old
-  under_is b k u v is old =
-      ap (λ c. if c then drawn_by b (depth_of p.plane u v) old else old) (reach_is u v is)
-      ∙ ap (λ q. if reaches_by m p e u v then q else old) (drawn_is b p e k u v old)
+  pub under_is : (b : Brush) (flip : ℕ) → IsBrushOf b p e flip → (u v : ℕ) → IsIn r u v → (block : Block) → flipped flip (stroked (record { brush = b; plane = p.plane; mask = edge_bits m; clip = clip }) u v (pixel_at block u v)) ≡ triangle_by m (Some p) (Some e) u v (stands_for flip block u v)
+  under_is b flip k u v is block =
+      ap (λ c. flipped flip (if c then drawn_by b (depth_of p.plane u v) (pixel_at block u v) else pixel_at block u v)) (reach_is u v is)
+      ∙ by (reaches_by m p e u v)
+    where
+      by : (reached : Bool) → flipped flip (if reached then drawn_by b (depth_of p.plane u v) (pixel_at block u v) else pixel_at block u v) ≡ (if reached then drawn p e (outcome p e u v (stands_for flip block u v)) (stands_for flip block u v) else stands_for flip block u v)
+      by true = drawn_is b p e flip k u v block
+      by false = refl
 
   -- where the bounds leave nothing of a tile
   nowhere : (clip.right ≤ clip.left) ⊎ (clip.bottom ≤ clip.top) → (u v : ℕ) → IsIn r u v → reaches_by m p e u v ≡ false
@@ -143,6 +156,6 @@ module _ (p : TriSetup) (e : StateEntry) (m : EdgeMask) (clip r : PixelRect) (ti
   none_counted empty old =
       sym (sum_over_none r _ (λ u v is. ap (λ c. one_if (c && (outcome p e u v (pixel_at old u v)).passed)) (nowhere empty u v is)))
 
-  pub under_counts : (b : Brush) → IsBrushOf b p e → (old : Block) → sum_over r (stroke_count (record { brush = b; plane = p.plane; mask = edge_bits m; clip = clip }) old) ≡ sum_over r (triangle_count m p e old)
-  under_counts b k old =
-      sum_over_same r _ _ (λ u v is. λ i. one_if (reach_is u v is i && (test_is b p e k u v (pixel_at old u v) i).passed))
+  pub under_counts : (b : Brush) (flip : ℕ) → IsBrushOf b p e flip → (old : Block) → sum_over r (stroke_count (record { brush = b; plane = p.plane; mask = edge_bits m; clip = clip }) old) ≡ sum_over r (triangle_count m p e old)
+  under_counts b flip k old =
+      sum_over_same r _ _ (λ u v is. λ i. one_if (reach_is u v is i && (test_is b p e flip k u v (pixel_at old u v) i).passed))

@@ -47,20 +47,20 @@ word_passes t e (Tri n m) x y old = passes_by m (slice_get t.triangles n) e x y 
 word_passes t e (ClearC n) x y old = false
 word_passes t e (ClearDs n) x y old = false
 
-abbrev pub word_passed : Tables → Option StateEntry → Word → Block → ℕ → ℕ → ℕ
-word_passed t e w old u v = one_if (word_passes t e w u v (pixel_at old u v))
+abbrev pub word_passed : Tables → Option StateEntry → Word → (ℕ → ℕ → Pixel) → ℕ → ℕ → ℕ
+word_passed t e w old u v = one_if (word_passes t e w u v (old u v))
 
 -- the issue is open in the entry in force
 abbrev pub is_open : Option StateEntry → ℕ → Bool
 is_open None issue = false
 is_open (Some e) issue = bit_at e.issues issue == 1
 
--- how many pixels of a block's rectangle a word counts for an issue, and how many a list of words does
-abbrev pub word_total : Tables → Option StateEntry → ℕ → Word → Block → ℕ
-word_total t e issue w old = sum_over old.rect (λ u v. one_if (word_counts t e issue w u v (pixel_at old u v)))
+-- how many pixels of a rectangle a word counts for an issue, and how many a list of words does
+abbrev pub word_total : Tables → Option StateEntry → ℕ → Word → PixelRect → (ℕ → ℕ → Pixel) → ℕ
+word_total t e issue w r old = sum_over r (λ u v. one_if (word_counts t e issue w u v (old u v)))
 
-abbrev pub words_total : Tables → Option StateEntry → ℕ → List Word → Block → ℕ
-words_total t e issue ws old = sum_over old.rect (λ u v. words_count t e issue ws u v (pixel_at old u v))
+abbrev pub words_total : Tables → Option StateEntry → ℕ → List Word → PixelRect → (ℕ → ℕ → Pixel) → ℕ
+words_total t e issue ws r old = sum_over r (λ u v. words_count t e issue ws u v (old u v))
 
 -- each of the 64 counts grew by f of its issue
 pub record HasGrown (old new : List ℕ) (f : ℕ → ℕ) : Type 0 where

@@ -1,16 +1,16 @@
 -- A span of eight pixels under a brush.
 use Rattle.std.specs.Prelude.{ℕ, Bool, ◌≡◌, ◌<◌, ◌&&◌, if◌then◌else◌, List, slice_index}
 use Rattle.gfxspec.specs.declared.pixel.Pixel.{Pixel}
-use Rattle.gfxspec.specs.Color.{written_color}
 use Rattle.lanes.specs.Stencil.{StencilRule, has, stencil_after}
 use Rattle.tileblock.specs.Block.{Block}
 use Rattle.tileblock.specs.SpanStored.{lane_pixel}
 use Rattle.tileprog.specs.declared.brush.Brush.{Brush}
 use Rattle.tileprog.specs.Brushes.{tested_by, drawn_by}
+use Rattle.tileprog.specs.Painting.{painted_with}
 
 -- the colours where bits are set
 abbrev pub painted_lane : Brush → ℕ → ℕ → Pixel → Pixel
-painted_lane b bits j p = record { rgba = if has bits j then written_color b.blend b.rgba p.rgba else p.rgba; ds = p.ds }
+painted_lane b bits j p = record { rgba = if has bits j then painted_with b.write p.rgba else p.rgba; ds = p.ds }
 
 -- what the tests leave at a covered lane
 abbrev pub tested_lane : Brush → ℕ → List ℕ → ℕ → Pixel → Pixel

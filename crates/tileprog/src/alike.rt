@@ -13,14 +13,15 @@ ghost use Rattle.binner.specs.Program.{outcome, drawn};
 ghost use Rattle.tileprog.specs.Counting.{one_if};
 ghost use Rattle.tileprog.specs.Kinds.{tests_of};
 ghost use Rattle.tileprog.specs.declared.kind.Tests.TheVariants.{Open};
-ghost use Rattle.tileprog.specs.Painting.{PaintsAs};
+ghost use Rattle.tileprog.specs.Painting.{stands_for};
 ghost use Rattle.tileprog.specs.Passing.{IsTile};
-ghost use Rattle.tileprog.specs.Alike.{opposite, HasOutcome, IsAlike, AreBytes, operated, painted, Changed};
+ghost use Rattle.tileprog.specs.Alike.{opposite, HasOutcome, IsAlike, AreBytes, operated, Changed};
 
 use crate::hidden::none_passes;
+use crate::paint::paint_tile;
 use binner::{StateEntry, TriSetup};
 use gfxspec::{Compare, PixelRect};
-use lanes::{StencilTest, write8};
+use lanes::StencilTest;
 use logicop::ColorWrite;
 use states::BlendState;
 use std::alloc::Allocator;
@@ -178,7 +179,8 @@ pub(crate) fn run_alike<A: Allocator>(
     requires alike { IsAlike triangle.now entry.now deep }
     requires outcome { (u v : ℕ) → IsIn block.old.rect u v → depth_passes entry.now.depth_stencil (depth_of triangle.now.plane u v) (pixel_at block.old u v).ds.depth ≡ deep }
     ensures rect { block.new.rect ≡ block.old.rect }
-    ensures pixels { (u v : ℕ) → IsIn block.old.rect u v → pixel_at block.new u v ≡ drawn triangle.now entry.now (outcome triangle.now entry.now u v (pixel_at block.old u v)) (pixel_at block.old u v) }
+    ensures pixels { (flip u v : ℕ) → IsIn block.old.rect u v → stands_for flip block.new u v
+        ≡ drawn triangle.now entry.now (outcome triangle.now entry.now u v (stands_for flip block.old u v)) (stands_for flip block.old u v) }
     ensures count { result ≡ sum_over block.old.rect (λ u v. one_if (outcome triangle.now entry.now u v (pixel_at block.old u v)).passed) }
     ensures few { result ≤ 1024 }
 {
@@ -204,56 +206,22 @@ pub(crate) fn is_open(entry: &StateEntry, whole: bool) -> bool
     true
 }
 
-/// Does a write to each pixel of a tile. The loop has nothing else: what the write keeps is known to its inlined copies.
-#[inline(always)]
-fn write_tile<A: Allocator>(
-    block: &mut TileBlock<A>,
-    write: ColorWrite,
-    blend: BlendState,
-    rgba: [u8; 4],
-)
-    requires tile { IsInTile block.old.rect }
-    requires paints { PaintsAs write blend rgba }
-    ensures { Changed (painted blend rgba) block.old block.new }
-{
-    for at in 0..128u32 {
-        let stored = block.color_span(at % 4, at / 4);
-        block.set_color_span(at % 4, at / 4, write8(write, &stored));
-    }
-}
-
-/// Writes a colour to each pixel of a tile. Where all bits are kept, as under XOR, or none, as under no operation, the loop knows that.
-#[inline(always)]
-fn paint_tile<A: Allocator>(block: &mut TileBlock<A>, blend: BlendState, rgba: [u8; 4])
-    requires tile { IsInTile block.old.rect }
-    ensures { Changed (painted blend rgba) block.old block.new }
-{
-    let write = ColorWrite::of_state(&blend, u32::from_le_bytes(rgba));
-    let flip = write.flip;
-    if write.keep == u32::MAX {
-        let keep = u32::MAX;
-        write_tile(block, ColorWrite { keep, flip }, blend, rgba);
-    } else if write.keep == 0 {
-        write_tile(block, ColorWrite { keep: 0, flip }, blend, rgba);
-    } else {
-        write_tile(block, write, blend, rgba);
-    }
-}
-
 /// A triangle that tests nothing over a tile, all pixels of which it reaches; the answer is how many there are.
 pub(crate) fn run_open<A: Allocator>(
     block: &mut TileBlock<A>,
+    flip: &mut u32,
     triangle: &TriSetup,
     entry: &StateEntry,
 ) -> u32
     requires tile { IsTile block.old.rect }
     requires open { tests_of entry.now.depth_stencil ≡ Open }
     ensures rect { block.new.rect ≡ block.old.rect }
-    ensures pixels { (u v : ℕ) → IsIn block.old.rect u v → pixel_at block.new u v ≡ drawn triangle.now entry.now (outcome triangle.now entry.now u v (pixel_at block.old u v)) (pixel_at block.old u v) }
+    ensures pixels { (u v : ℕ) → IsIn block.old.rect u v → stands_for flip.new block.new u v
+        ≡ drawn triangle.now entry.now (outcome triangle.now entry.now u v (stands_for flip.old block.old u v)) (stands_for flip.old block.old u v) }
     ensures count { result ≡ sum_over block.old.rect (λ u v. one_if (outcome triangle.now entry.now u v (pixel_at block.old u v)).passed) }
     ensures few { result ≤ 1024 }
 {
     let rect = block.rect();
-    paint_tile(block, entry.blend, triangle.rgba);
+    paint_tile(block, flip, &entry.blend, triangle.rgba);
     pixels_in(rect)
 }

@@ -16,6 +16,7 @@ mod draw;
 mod hidden;
 mod kind;
 mod order;
+mod paint;
 mod program;
 mod rows;
 mod spans;

@@ -4,7 +4,6 @@ ghost use Rattle.std.specs.Prelude.{◌≡◌, ◌≤◌, ℕ, Some, IsTrue};
 ghost use Rattle.gfxspec.specs.Items.{is_in_rect};
 ghost use Rattle.gfxspec.specs.Raster.{centre, covers};
 ghost use Rattle.gfxspec.specs.Tiles.{IsIn};
-ghost use Rattle.tileblock.specs.Block.{pixel_at};
 ghost use Rattle.tileword.specs.EdgeMask.{edge_bits};
 ghost use Rattle.classify.specs.Region.{IsClassOf};
 ghost use Rattle.classify.specs.declared.Class.TheVariants.{Cut};
@@ -12,6 +11,7 @@ ghost use Rattle.meaning.specs.Over.{sum_over};
 ghost use Rattle.binner.specs.Program.{triangle_by};
 ghost use Rattle.binner.specs.Meaning.{IsBounded};
 ghost use Rattle.tileprog.specs.Hidden.{DepthsLie, IsWhole};
+ghost use Rattle.tileprog.specs.Painting.{stands_for};
 ghost use Rattle.tileprog.specs.Passing.{triangle_count, IsTile};
 ghost use Rattle.tileprog.specs.Strokes.{IsWithin};
 
@@ -19,6 +19,7 @@ use crate::alike::{alike_outcome, is_open, run_alike, run_open};
 use crate::brush::make_brush;
 use crate::draw::draw;
 use crate::hidden::{asks_plane, bounds_after, is_hidden, keep_after};
+use crate::paint::write_under;
 use binner::{StateEntry, TriSetup};
 use gfxspec::PixelRect;
 use std::alloc::Allocator;
@@ -41,13 +42,15 @@ fn clipped(rect: PixelRect, bounds: PixelRect) -> PixelRect
     }
 }
 
-/// A triangle under a state entry over the pixels of a clip rectangle in a tile; the answer is how many pass.
+/// A triangle under a state entry over the pixels of a clip rectangle in a tile, of whose colours these bits are still to be flipped; the
+/// answer is how many pass.
 fn draw_under<A: Allocator>(
     block: &mut TileBlock<A>,
     triangle: &TriSetup,
     mask: EdgeMask,
     entry: &StateEntry,
     clip: PixelRect,
+    flip: u32,
 ) -> u32
     requires tile { IsTile block.old.rect }
     requires class { IsClassOf (Cut (edge_bits mask)) triangle.now.edges block.old.rect }
@@ -55,17 +58,12 @@ fn draw_under<A: Allocator>(
     requires within { IsWithin clip block.old.rect }
     requires inside { (u v : ℕ) → IsIn block.old.rect u v → is_in_rect clip u v ≡ is_in_rect triangle.now.bounds u v }
     ensures rect { block.new.rect ≡ block.old.rect }
-    ensures pixels { (u v : ℕ) → IsIn block.old.rect u v → pixel_at block.new u v ≡ triangle_by mask (Some triangle.now) (Some entry.now) u v (pixel_at block.old u v) }
+    ensures pixels { (u v : ℕ) → IsIn block.old.rect u v → stands_for flip block.new u v ≡ triangle_by mask (Some triangle.now) (Some entry.now) u v (stands_for flip block.old u v) }
     ensures count { result ≡ sum_over block.old.rect (triangle_count mask triangle.now entry.now block.old) }
     ensures few { result ≤ 1024 }
 {
-    let brush = make_brush(
-        entry.depth_stencil,
-        triangle.front,
-        entry.reference,
-        entry.blend,
-        triangle.rgba,
-    );
+    let write = write_under(&entry.blend, triangle.rgba, flip);
+    let brush = make_brush(entry.depth_stencil, triangle.front, entry.reference, write);
     draw(block, triangle, mask.bits(), &brush, clip)
 }
 
@@ -97,9 +95,10 @@ fn depth_range(triangle: &TriSetup, rect: PixelRect, all: bool) -> (u32, u32)
     }
 }
 
-/// A triangle under a state entry over a tile; the answer is how many pixels pass.
+/// A triangle under a state entry over a tile, of whose colours bits may still have to be flipped; the answer is how many pixels pass.
 pub(crate) fn run_triangle<A: Allocator>(
     block: &mut TileBlock<A>,
+    flip: &mut u32,
     triangle: &TriSetup,
     mask: EdgeMask,
     entry: &StateEntry,
@@ -108,7 +107,7 @@ pub(crate) fn run_triangle<A: Allocator>(
     requires class { IsClassOf (Cut (edge_bits mask)) triangle.now.edges block.old.rect }
     requires bounded { IsBounded triangle.now entry.now }
     ensures rect { block.new.rect ≡ block.old.rect }
-    ensures pixels { (u v : ℕ) → IsIn block.old.rect u v → pixel_at block.new u v ≡ triangle_by mask (Some triangle.now) (Some entry.now) u v (pixel_at block.old u v) }
+    ensures pixels { (u v : ℕ) → IsIn block.old.rect u v → stands_for flip.new block.new u v ≡ triangle_by mask (Some triangle.now) (Some entry.now) u v (stands_for flip.old block.old u v) }
     ensures count { result ≡ sum_over block.old.rect (triangle_count mask triangle.now entry.now block.old) }
     ensures few { result ≤ 1024 }
 {
@@ -120,7 +119,7 @@ pub(crate) fn run_triangle<A: Allocator>(
     let whole = is_whole(rect, clip, mask);
     let open = is_open(entry, whole);
     if open {
-        return run_open(block, triangle, entry);
+        return run_open(block, flip, triangle, entry);
     }
     let stored = block.depth_bounds();
     let by_plane = asks_plane(entry, stored, whole);
@@ -134,7 +133,7 @@ pub(crate) fn run_triangle<A: Allocator>(
         return run_alike(block, triangle, entry, deep);
     }
     let after = bounds_after(entry, least, greatest, whole, stored);
-    let passed = draw_under(block, triangle, mask, entry, clip);
+    let passed = draw_under(block, triangle, mask, entry, clip, *flip);
     keep_after(block, after, passed);
     passed
 }

@@ -3,13 +3,14 @@
 ghost use Rattle.std.specs.Prelude.{◌≡◌, ◌<◌, ◌≤◌, ◌+◌, ◌^◌, ◌==◌, ℕ, None, Some, length, if◌then◌else◌};
 ghost use Rattle.std.specs.Int.{bit_at};
 ghost use Rattle.gfxspec.specs.Tiles.{IsIn, tile_count, tile_rect};
-ghost use Rattle.tileblock.specs.Block.{pixel_at};
 ghost use Rattle.meaning.specs.Over.{sum_over};
 ghost use Rattle.binner.specs.Program.{after_word, force_after};
 ghost use Rattle.binner.specs.Meaning.{WordFits};
+ghost use Rattle.tileprog.specs.Painting.{stands_for};
 ghost use Rattle.tileprog.specs.Passing.{shown, word_passed, is_open, NamesState, HasGrown, AtMost, IsTile};
 ghost use Rattle.tileprog.specs.Runs.{RunsTo};
 
+use crate::paint::flip_tile;
 use crate::triangles::run_triangle;
 use binner::{Compiled, StateEntry};
 use std::alloc::Allocator;
@@ -66,28 +67,30 @@ fn next_force<'a, A: Allocator + Copy>(
     }
 }
 
-/// Runs one word on a block; the answer is how many pixels pass.
+/// Runs one word on a block, of whose colours bits may still have to be flipped; the answer is how many pixels pass.
 #[inline]
 fn run_word<A: Allocator + Copy>(
     compiled: &Compiled<A>,
     force: Option<&StateEntry>,
     word: Word,
     block: &mut TileBlock<A>,
+    flip: &mut u32,
 ) -> u32
     requires tile { IsTile block.old.rect }
     requires fits { WordFits compiled.now.tables block.old.rect (shown force) word }
     ensures rect { block.new.rect ≡ block.old.rect }
-    ensures pixels { (u v : ℕ) → IsIn block.old.rect u v → pixel_at block.new u v ≡ after_word compiled.now.tables (shown force.entry) word u v (pixel_at block.old u v) }
-    ensures passed { result ≡ sum_over block.old.rect (word_passed compiled.now.tables (shown force.entry) word block.old) }
+    ensures pixels { (u v : ℕ) → IsIn block.old.rect u v → stands_for flip.new block.new u v ≡ after_word compiled.now.tables (shown force.entry) word u v (stands_for flip.old block.old u v) }
+    ensures passed { result ≡ sum_over block.old.rect (word_passed compiled.now.tables (shown force.entry) word (stands_for flip.old block.old)) }
 {
     match word {
         Word::State(_) => 0,
         Word::Tri(number, mask) => match force {
-            Some(entry) => run_triangle(block, compiled.tri(number), mask, entry),
+            Some(entry) => run_triangle(block, flip, compiled.tri(number), mask, entry),
             None => unreachable!(),
         },
         Word::ClearC(number) => {
             block.clear_color(compiled.color(number));
+            *flip = 0;
             0
         }
         Word::ClearDs(number) => {
@@ -125,15 +128,17 @@ pub(crate) fn run_words<A: Allocator + Copy>(
     let _size = compiled.size();
     let mut counts = [0; 64];
     let mut force: Option<&StateEntry> = None;
+    let mut flip = 0u32;
     for number in compiled.words(tile) {
         let Some(word) = decode(number) else {
             unreachable!()
         };
-        let passed = run_word(compiled, force, word, block);
+        let passed = run_word(compiled, force, word, block, &mut flip);
         if passed != 0 {
             count_word(&mut counts, force, passed);
         }
         force = next_force(compiled, force, word);
     }
+    flip_tile(block, flip);
     counts
 }

@@ -7,7 +7,7 @@ use Rattle.tileprog.proofs.alike.run_open.Goals as goal
 
 pub returns-clause-pixels : goal.returns-clause-pixels
 returns-clause-pixels g c = λ u v is.
-    c.paint_tile.ensures.pixels u v is ∙ open_pixel c.args.triangle.now c.args.entry.now c.requires.open c.args.block.now u v
+    c.paint_tile.ensures.pixels u v is ∙ open_pixel c.args.triangle.now c.args.entry.now c.requires.open c.args.block.now u v c.args.flip.now
 
 pub returns-clause-count : goal.returns-clause-count
 returns-clause-count g c =

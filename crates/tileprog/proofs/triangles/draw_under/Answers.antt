@@ -1,8 +1,9 @@
 use Rattle.std.proofs.Common.{◌∙◌, ap, sym, subst, ℕ}
 use Rattle.tileword.specs.EdgeMask.{edge_bits}
-use Rattle.tileblock.specs.Block.{pixel_at}
+use Rattle.logicop.specs.declared.color_write.ColorWrite.{ColorWrite}
 use Rattle.meaning.specs.Over.{sum_over}
 use Rattle.tileprog.specs.Counting.{stroke_count}
+use Rattle.tileprog.specs.Painting.{flipped, PaintsAs}
 use Rattle.tileprog.specs.Strokes.{IsNamed, Stroked}
 use Rattle.tileprog.proofs.Under.{is_named, IsBrushOf, under_is, under_counts}
 use Rattle.tileprog.proofs.triangles.draw_under.Goals as goal
@@ -22,10 +23,11 @@ returns-clause-pixels g c = λ u v is.
     let b = c.make_brush-brush.result in
     let made = c.make_brush-brush.ensures in
     let inside = c.requires.inside in
-    let k : IsBrushOf b p e = record { state = made.state; front = made.front; reference = made.reference; blend = made.blend; rgba = made.rgba } in
+    let P : ColorWrite → Type 0 = λ w. PaintsAs w e.blend p.rgba c.args.flip in
+    let k : IsBrushOf b p e c.args.flip = record { state = made.state; front = made.front; reference = made.reference; paints = subst P (sym made.write) c.write_under-write.ensures } in
     let S : ℕ → Type 0 = λ n. Stroked (record { brush = b; plane = p.plane; mask = n; clip = clip }) c.args.block.now c.draw.new.block in
     let drew = subst S c.bits.ensures.value c.draw.ensures.drew in
-    drew.pixels u v is ∙ under_is p e c.args.mask clip r c.requires.tile c.requires.class c.requires.bounded inside b k u v is (pixel_at c.args.block.now u v)
+    ap (flipped c.args.flip) (drew.pixels u v is) ∙ under_is p e c.args.mask clip r c.requires.tile c.requires.class c.requires.bounded inside b c.args.flip k u v is c.args.block.now
 
 pub returns-clause-count : goal.returns-clause-count
 returns-clause-count g c =
@@ -36,7 +38,8 @@ returns-clause-count g c =
     let b = c.make_brush-brush.result in
     let made = c.make_brush-brush.ensures in
     let inside = c.requires.inside in
-    let k : IsBrushOf b p e = record { state = made.state; front = made.front; reference = made.reference; blend = made.blend; rgba = made.rgba } in
+    let P : ColorWrite → Type 0 = λ w. PaintsAs w e.blend p.rgba c.args.flip in
+    let k : IsBrushOf b p e c.args.flip = record { state = made.state; front = made.front; reference = made.reference; paints = subst P (sym made.write) c.write_under-write.ensures } in
     c.draw.ensures.count
     ∙ ap (λ n. sum_over r (stroke_count (record { brush = b; plane = p.plane; mask = n; clip = clip }) c.args.block.now)) c.bits.ensures.value
-    ∙ under_counts p e c.args.mask clip r c.requires.tile c.requires.class c.requires.bounded inside b k c.args.block.now
+    ∙ under_counts p e c.args.mask clip r c.requires.tile c.requires.class c.requires.bounded inside b c.args.flip k c.args.block.now

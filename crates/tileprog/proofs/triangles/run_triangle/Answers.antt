@@ -3,7 +3,7 @@ use Rattle.std.specs.Prelude.{IfSome}
 use Rattle.gfxspec.specs.declared.geometry.PixelRect.{PixelRect}
 use Rattle.gfxspec.specs.Items.{is_in_rect}
 use Rattle.gfxspec.specs.Tiles.{IsIn}
-use Rattle.tileblock.specs.Block.{Block, pixel_at}
+use Rattle.tileblock.specs.Block.{Block}
 use Rattle.classify.specs.Region.{IsClassOf}
 use Rattle.classify.specs.declared.Class.TheVariants.{Cut}
 use Rattle.tileword.specs.EdgeMask.{edge_bits}
@@ -13,6 +13,7 @@ use Rattle.tileprog.proofs.Hiding.{hidden_pixel, hidden_count, kept_if, whole_co
 use Rattle.tileprog.proofs.AlikeLaws.{outcome_there, drawn_everywhere, counted_everywhere}
 use Rattle.tileprog.specs.Alike.{HasOutcome}
 use Rattle.tileprog.specs.Hidden.{DepthsLie, IsWhole}
+use Rattle.tileprog.specs.Painting.{stands_for}
 use Rattle.tileprog.proofs.triangles.run_triangle.Goals as goal
 
 lie_in : (t : TriSetup) (a b : PixelRect) (least greatest : ℕ) → a ≡ b → DepthsLie t a least greatest → DepthsLie t b least greatest
@@ -38,7 +39,7 @@ returns-then-clip-clause-pixels g c = λ u v is.
     let P : PixelRect → Type 0 = λ r. (u v : ℕ) → IsIn r u v → is_in_rect clip u v ≡ is_in_rect p.bounds u v in
     let inside = subst P c.rect-rect.ensures c.clipped-clip.ensures.pixels in
     let empty : (clip.right ≤ clip.left) ⊎ (clip.bottom ≤ clip.top) = ⊎_elim (λ a. inl a) (λ b. inr b.1) c.then-clip.either in
-    nothing_left p c.args.entry.now c.args.mask clip r c.requires.tile c.requires.class c.requires.bounded inside empty u v is (pixel_at c.args.block.now u v)
+    nothing_left p c.args.entry.now c.args.mask clip r c.requires.tile c.requires.class c.requires.bounded inside empty u v is (stands_for c.args.flip.now c.args.block.now u v)
 
 pub returns-then-clip-clause-count : goal.returns-then-clip-clause-count
 returns-then-clip-clause-count g c =
@@ -60,7 +61,7 @@ returns-then-open-clause-pixels g c = λ u v is.
     let W : PixelRect → Type 0 = λ r. IsWhole r clip c.args.mask in
     let every = subst W c.rect-rect.ensures (c.is_whole-whole.ensures (c.is_open-open.ensures.whole c.if-open.true)) in
     c.run_open.ensures.pixels u v is
-    ∙ drawn_everywhere t c.args.entry.now c.args.mask b (whole_reached t c.args.entry.now c.args.mask clip b.rect c.requires.tile c.requires.class c.requires.bounded inside every) u v is
+    ∙ drawn_everywhere t c.args.entry.now c.args.mask b (whole_reached t c.args.entry.now c.args.mask clip b.rect c.requires.tile c.requires.class c.requires.bounded inside every) u v is (stands_for c.args.flip.now b u v)
 
 pub returns-then-open-clause-count : goal.returns-then-open-clause-count
 returns-then-open-clause-count g c =
@@ -76,7 +77,7 @@ returns-then-open-clause-count g c =
 
 pub returns-then-hidden-clause-pixels : goal.returns-then-hidden-clause-pixels
 returns-then-hidden-clause-pixels g c = λ u v is.
-    hidden_pixel c.args.triangle.now c.args.entry.now c.args.mask c.args.block.now c.requires.class c.depth_range-least.result.0 c.depth_range-least.result.1 (lie_in c.args.triangle.now c.rect-rect.result c.args.block.now.rect c.depth_range-least.result.0 c.depth_range-least.result.1 c.rect-rect.ensures c.depth_range-least.ensures) c.depth_bounds-stored.result c.depth_bounds-stored.ensures (c.is_hidden-hidden.ensures c.if-hidden.true) u v is
+    hidden_pixel c.args.triangle.now c.args.entry.now c.args.mask c.args.block.now c.requires.class c.depth_range-least.result.0 c.depth_range-least.result.1 (lie_in c.args.triangle.now c.rect-rect.result c.args.block.now.rect c.depth_range-least.result.0 c.depth_range-least.result.1 c.rect-rect.ensures c.depth_range-least.ensures) c.depth_bounds-stored.result c.depth_bounds-stored.ensures (c.is_hidden-hidden.ensures c.if-hidden.true) c.args.flip.now u v is
 
 pub returns-then-hidden-clause-count : goal.returns-then-hidden-clause-count
 returns-then-hidden-clause-count g c =
@@ -106,8 +107,8 @@ returns-in-Some-clause-pixels g c = λ u v is.
     let whole : c.is_whole-whole.result ≡ true = held c.alike_outcome-outcome.result _ c.is_whole-whole.result c.in-Some.is c.alike_outcome-outcome.ensures.whole in
     let W : PixelRect → Type 0 = λ r. IsWhole r clip c.args.mask in
     let every = subst W c.rect-rect.ensures (c.is_whole-whole.ensures whole) in
-    c.run_alike.ensures.pixels u v is
-    ∙ drawn_everywhere t c.args.entry.now c.args.mask b (whole_reached t c.args.entry.now c.args.mask clip b.rect c.requires.tile c.requires.class c.requires.bounded inside every) u v is
+    c.run_alike.ensures.pixels c.args.flip.now u v is
+    ∙ drawn_everywhere t c.args.entry.now c.args.mask b (whole_reached t c.args.entry.now c.args.mask clip b.rect c.requires.tile c.requires.class c.requires.bounded inside every) u v is (stands_for c.args.flip.now b u v)
 
 pub returns-in-Some-clause-count : goal.returns-in-Some-clause-count
 returns-in-Some-clause-count g c =
@@ -137,9 +138,9 @@ keep_after-requires g c =
     let inside = subst P c.rect-rect.ensures c.clipped-clip.ensures.pixels in
     let W : PixelRect → Type 0 = λ r. c.is_whole-whole.result ≡ true → IsWhole r clip c.args.mask in
     let all = subst W c.rect-rect.ensures c.is_whole-whole.ensures in
-    kept_if p c.args.entry.now c.args.mask c.args.block.now c.draw_under-passed.new.block clip c.depth_range-least.result.0 c.depth_range-least.result.1 c.depth_bounds-stored.result c.bounds_after-after.result c.is_whole-whole.result
+    kept_if p c.args.entry.now c.args.mask c.args.flip.now c.args.block.now c.draw_under-passed.new.block clip c.depth_range-least.result.0 c.depth_range-least.result.1 c.depth_bounds-stored.result c.bounds_after-after.result c.is_whole-whole.result
     c.requires.tile c.requires.class c.requires.bounded inside (lie_in c.args.triangle.now c.rect-rect.result c.args.block.now.rect c.depth_range-least.result.0 c.depth_range-least.result.1 c.rect-rect.ensures c.depth_range-least.ensures) c.depth_bounds-stored.ensures all c.bounds_after-after.ensures c.draw_under-passed.ensures.rect c.draw_under-passed.ensures.pixels
 
 pub returns-clause-pixels : goal.returns-clause-pixels
 returns-clause-pixels g c = λ u v is.
-    ap (λ (b : Block). pixel_at b u v) c.keep_after.ensures ∙ c.draw_under-passed.ensures.pixels u v is
+    ap (λ (b : Block). stands_for c.args.flip.now b u v) c.keep_after.ensures ∙ c.draw_under-passed.ensures.pixels u v is

@@ -1,0 +1,12 @@
+use Rattle.std.proofs.Common.{◌∙◌, ap, sym}
+use Rattle.tileblock.specs.Block.{pixel_at}
+use Rattle.tileprog.specs.Painting.{stands_for}
+use Rattle.tileprog.proofs.Painted.{stands_itself, flip_written}
+use Rattle.tileprog.proofs.paint.flip_tile.Goals as goal
+
+pub returns-then-flip-ne0-clause-pixels : goal.returns-then-flip-ne0-clause-pixels
+returns-then-flip-ne0-clause-pixels g c = λ u v is. c.write_tile.ensures.pixels u v is ∙ flip_written c.args.flip c.args.block.now u v
+
+pub returns-else-flip-ne0-clause-pixels : goal.returns-else-flip-ne0-clause-pixels
+returns-else-flip-ne0-clause-pixels g c = λ u v is.
+    sym (ap (λ f. stands_for f c.args.block.now u v) c.if-flip-ne0.false ∙ stands_itself c.args.block.now u v)
