@@ -1,6 +1,6 @@
 -- Bits of masks of eight lanes, and lists that are stored lane by lane.
-use Rattle.std.proofs.Common.{◌≡◌, ◌∙◌, ap, sym, refl, arith, ℕ, zero, suc, ◌+◌, ◌-◌, ◌*◌, ◌%◌, ◌^◌, ◌<◌, ◌≤◌, ◌⊎◌, inl, inr, Bool, true, false, cond, lit<, List, [], ◌∷◌, length, get_or, map, eqb, ltb, Fits, w8, min}
-use Rattle.std.specs.Prelude.{◌==◌, ◌&&◌, nat_lt, if◌then◌else◌, bit_and, replicate}
+use Rattle.std.proofs.Common.{◌≡◌, ◌∙◌, ap, sym, refl, arith, ℕ, zero, suc, ◌+◌, ◌-◌, ◌*◌, ◌%◌, ◌^◌, ◌<◌, ◌≤◌, ◌⊎◌, inl, inr, Bool, true, false, cond, lit<, List, [], ◌∷◌, ◌++◌, length, get_or, map, eqb, ltb, Fits, w8, min}
+use Rattle.std.specs.Prelude.{◌==◌, ◌&&◌, nat_lt, if◌then◌else◌, bit_and}
 use Rattle.std.proofs.Math.Nat.{pow-le-pow_right}
 use Rattle.std.proofs.lemmas.Bool.Decides.{nat_tests}
 use Rattle.std.proofs.lemmas.Nat.Bits.{and_pow, bit_at-lt, bit_at_and, bit_at_ones, bit_at_ones_above}
@@ -9,7 +9,7 @@ use Rattle.gfxspec.proofs.Integers.{below_or_last}
 use mir.Val.{bits, hbits}
 use Rattle.std.specs.Simd.Lanes.{zip2, mask_l, sel_l, top}
 use Rattle.std.proofs.Math.ListN.{set}
-use Rattle.std.proofs.lemmas.List.{get_or-set_same, get_or-set_other, get_or-replicate}
+use Rattle.std.proofs.lemmas.List.{get_or-set_same, get_or-set_other, get_or_append_left, get_or-append-add}
 use Rattle.std.proofs.lemmas.Simd.{get_or-sel_l, tops_compared, length-zip2, length-sel_l, mask_l-mod, mask_l-lt, bit_mask_l, get_or-zip2}
 
 one_is : (b : Bool) → (cond b 1 0 == 1) ≡ b
@@ -169,41 +169,42 @@ stored_next f xs j v inside is before k h =
       | inr last ↦ ap (λ i. get_or (set xs j v) i 0) last ∙ get_or-set_same xs j v 0 inside ∙ is ∙ ap f (sym last)
     ]
 
--- ---- an operation on eight lanes
+-- ---- an operation on lanes
 
-module _ (f : ℕ → ℕ → ℕ) (xs : List ℕ) (long : length xs ≡ 8) (j : ℕ) (h : j < 8) where
-  -- with one number beside each
-  pub lane_with : (y : ℕ) → get_or (zip2 f xs (replicate 8 y)) j 0 ≡ f (get_or xs j 0) y
-  lane_with y = get_or-zip2 f xs (replicate 8 y) j 0 0 0 (omega (arith, long)) h ∙ ap (f (get_or xs j 0)) (get_or-replicate 8 j y 0 h)
+module _ (n : ℕ) (f : ℕ → ℕ → ℕ) (xs : List ℕ) (long : length xs ≡ n) (j : ℕ) (h : j < n) where
+  -- with as many others
+  pub lane_of_both : (ys : List ℕ) → length ys ≡ n → get_or (zip2 f xs ys) j 0 ≡ f (get_or xs j 0) (get_or ys j 0)
+  lane_of_both ys also = get_or-zip2 f xs ys j 0 0 0 (omega (arith, long, h)) (omega (arith, also, h))
 
-  -- with another eight
-  pub lane_of_both : (ys : List ℕ) → length ys ≡ 8 → get_or (zip2 f xs ys) j 0 ≡ f (get_or xs j 0) (get_or ys j 0)
-  lane_of_both ys also = get_or-zip2 f xs ys j 0 0 0 (omega (arith, long)) (omega (arith, also))
-
-pub long_with : (f : ℕ → ℕ → ℕ) (xs : List ℕ) (y : ℕ) → length xs ≡ 8 → length (zip2 f xs (replicate 8 y)) ≡ 8
-long_with f xs y long = length-zip2 f xs (replicate 8 y) long ∙ long
-
-pub long_both : (f : ℕ → ℕ → ℕ) (xs ys : List ℕ) → length xs ≡ 8 → length ys ≡ 8 → length (zip2 f xs ys) ≡ 8
-long_both f xs ys lx ly = length-zip2 f xs ys (lx ∙ sym ly) ∙ lx
+pub long_both : (n : ℕ) (f : ℕ → ℕ → ℕ) (xs ys : List ℕ) → length xs ≡ n → length ys ≡ n → length (zip2 f xs ys) ≡ n
+long_both n f xs ys lx ly = length-zip2 f xs ys (lx ∙ sym ly) ∙ lx
 
 -- in each lane one of two, by a comparison
-module _ (xs ys vs ws : List ℕ) (lx : length xs ≡ 8) (ly : length ys ≡ 8) (la : length vs ≡ 8) (lb : length ws ≡ 8) where
+module _ (n : ℕ) (xs ys vs ws : List ℕ) (lx : length xs ≡ n) (ly : length ys ≡ n) (la : length vs ≡ n) (lb : length ws ≡ n) where
   abbrev pub by_less : List ℕ
   by_less = sel_l (map (top (hbits w8)) (zip2 (λ a b. cond (ltb a b) (2 ^ bits w8 - 1) 0) xs ys)) vs ws
 
-  long_tests : length (zip2 ltb xs ys) ≡ 8
+  long_tests : length (zip2 ltb xs ys) ≡ n
   long_tests = length-zip2 ltb xs ys (lx ∙ sym ly) ∙ lx
 
-  pub long_by_less : length by_less ≡ 8
+  pub long_by_less : length by_less ≡ n
   long_by_less =
       ap (λ ms. length (sel_l ms vs ws)) (tops_compared w8 ltb xs ys)
       ∙ length-sel_l (zip2 ltb xs ys) vs ws (long_tests ∙ sym la) (long_tests ∙ sym lb) ∙ long_tests
 
-  pub lane_by_less : (j : ℕ) → j < 8 → get_or by_less j 0 ≡ cond (ltb (get_or xs j 0) (get_or ys j 0)) (get_or vs j 0) (get_or ws j 0)
+  pub lane_by_less : (j : ℕ) → j < n → get_or by_less j 0 ≡ cond (ltb (get_or xs j 0) (get_or ys j 0)) (get_or vs j 0) (get_or ws j 0)
   lane_by_less j h =
       ap (λ ms. get_or (sel_l ms vs ws) j 0) (tops_compared w8 ltb xs ys)
-      ∙ get_or-sel_l (zip2 ltb xs ys) vs ws j 0 (omega (arith, long_tests)) (omega (arith, la)) (omega (arith, lb))
-      ∙ ap (λ b. cond b (get_or vs j 0) (get_or ws j 0)) (get_or-zip2 ltb xs ys j 0 0 false (omega (arith, lx)) (omega (arith, ly)))
+      ∙ get_or-sel_l (zip2 ltb xs ys) vs ws j 0 (omega (arith, h, long_tests)) (omega (arith, h, la)) (omega (arith, h, lb))
+      ∙ ap (λ b. cond b (get_or vs j 0) (get_or ws j 0)) (get_or-zip2 ltb xs ys j 0 0 false (omega (arith, h, lx)) (omega (arith, h, ly)))
+
+-- lanes behind eight others
+module _ (xs ys : List ℕ) (long : length xs ≡ 8) where
+  pub lane_of_front : (j : ℕ) → j < 8 → get_or (xs ++ ys) j 0 ≡ get_or xs j 0
+  lane_of_front j h = get_or_append_left xs ys 0 j (omega (arith, long, h))
+
+  pub lane_of_back : (j : ℕ) → get_or (xs ++ ys) (8 + j) 0 ≡ get_or ys j 0
+  lane_of_back j = ap (λ n. get_or (xs ++ ys) (n + j) 0) (sym long) ∙ get_or-append-add xs ys j 0
 
 -- up by the lesser of a number and what is left to 255, and down by the lesser of a number and what is there
 pub up_to_the_end : (x by : ℕ) → x < 256 → by < 256 → (x + cond (ltb by (255 - x)) by (255 - x)) % 256 ≡ min (x + by) 255

@@ -11,27 +11,28 @@ use std::marker::Model;
 struct Spans {
     colors: [[u32; 8]; 128],
     depths: [[u32; 8]; 128],
+    /// Span s of row y at place 32 * s + y, so that the rows of a column of spans stand one behind the other.
     stencils: [[u8; 8]; 128],
     /// What the depths of cells lie between, where that is known of any.
     cells: Option<Cells>,
 }
 
 impl Spans {
-    ghost use Rattle.std.specs.Prelude.{◌≡◌, replicate, None};
+    ghost use Rattle.std.specs.Prelude.{◌≡◌, ◌%◌, replicate, None};
     ghost use Rattle.std.specs.Int.{w32, from_le_bytes};
-    ghost use Rattle.tileblock.specs.Block.{stored};
+    ghost use Rattle.tileblock.specs.Block.{span_of, stencils_of, stored};
 
     fn set(&mut self, x: u32, y: u32, pixel: Pixel)
-        ensures colors { self.new.colors ≡ stored self.old.colors x y (from_le_bytes w32 pixel.rgba) }
-        ensures depths { self.new.depths ≡ stored self.old.depths x y pixel.ds.depth }
-        ensures stencils { self.new.stencils ≡ stored self.old.stencils x y pixel.ds.stencil }
+        ensures colors { self.new.colors ≡ stored self.old.colors (span_of x y) (x % 8) (from_le_bytes w32 pixel.rgba) }
+        ensures depths { self.new.depths ≡ stored self.old.depths (span_of x y) (x % 8) pixel.ds.depth }
+        ensures stencils { self.new.stencils ≡ stored self.old.stencils (stencils_of x y) (x % 8) pixel.ds.stencil }
         ensures cells { self.new.cells ≡ None }
     {
         let at = (4 * (y % 32) + x % 32 / 8) as usize;
         let lane = (x % 8) as usize;
         self.colors[at][lane] = u32::from_le_bytes(pixel.rgba);
         self.depths[at][lane] = pixel.ds.depth;
-        self.stencils[at][lane] = pixel.ds.stencil;
+        self.stencils[(32 * (x % 32 / 8) + y % 32) as usize][lane] = pixel.ds.stencil;
         self.cells = None;
     }
 
@@ -121,7 +122,7 @@ impl<A: Allocator> TileBlock<A> {
     ghost use Rattle.tileblock.specs.Cells.{CellLies};
     ghost use Rattle.tileblock.specs.Widening.{HoldsRow, HoldsSpan, IsWider};
     ghost use Rattle.lanes.specs.Stencil.{has};
-    ghost use Rattle.tileblock.specs.SpanStored.{SpanStored};
+    ghost use Rattle.tileblock.specs.SpanStored.{SpanStored, lane_pixel};
 
     /// A tile of a new target.
     pub(crate) fn new(alloc: A, rect: PixelRect) -> Result<TileBlock<A>, AllocError>
@@ -167,7 +168,7 @@ impl<A: Allocator> TileBlock<A> {
             rgba: self.spans.colors[at][lane].to_le_bytes(),
             ds: DepthStencil {
                 depth: self.spans.depths[at][lane],
-                stencil: self.spans.stencils[at][lane],
+                stencil: self.spans.stencils[(32 * (x % 32 / 8) + y % 32) as usize][lane],
             },
         }
     }
@@ -203,7 +204,7 @@ impl<A: Allocator> TileBlock<A> {
         ensures { (j : ℕ) → j < 8 → slice_index result j
             ≡ (pixel_at self.now (self.now.rect.left + 8 * span + j) (self.now.rect.top + row)).ds.stencil }
     {
-        self.spans.stencils[(4 * row + span) as usize]
+        self.spans.stencils[(32 * span + row) as usize]
     }
 
     /// Stores the colours of such eight pixels.
@@ -254,14 +255,15 @@ impl<A: Allocator> TileBlock<A> {
         self.set_depth_span(span, row, select8(bits, &depths, &old));
     }
 
-    /// Stores the stencil values of such eight pixels.
+    /// Stores the stencil values of such eight pixels. Other rows of the span keep theirs, past the rectangle too.
     #[inline]
     pub fn set_stencil_span(&mut self, span: u32, row: u32, stencils: [u8; 8])
         requires span { span < 4 }
         requires row { row < 32 }
-        ensures { SpanStored self.old self.new span row (λ j old. record old { ds = record { depth = old.ds.depth; stencil = slice_index stencils j } }) }
+        ensures rows { (other j : ℕ) → other < 32 → j < 8 → other ≢ row → lane_pixel self.new span other j ≡ lane_pixel self.old span other j }
+        ensures stored { SpanStored self.old self.new span row (λ j old. record old { ds = record { depth = old.ds.depth; stencil = slice_index stencils j } }) }
     {
-        let at = (4 * row + span) as usize;
+        let at = (32 * span + row) as usize;
         self.spans.stencils[at] = stencils;
     }
 

@@ -18,7 +18,7 @@ use Rattle.tileblock.specs.Cells.{CellLies}
 use Rattle.tileblock.specs.declared.blocks.DepthBounds.{DepthBounds}
 use Rattle.tileprog.specs.declared.brush.Brush.{Brush}
 use Rattle.tileprog.specs.declared.kind.Tests.TheVariants.{Stencil}
-use Rattle.tileprog.specs.Alike.{HasOutcome}
+use Rattle.tileprog.specs.Alike.{HasOutcome, operated}
 use Rattle.tileprog.specs.Brushes.{tested_by, drawn_by}
 use Rattle.tileprog.specs.Cells.{InRows, AllHave, AreCovered, IsStill, IsUnwritten}
 use Rattle.tileprog.specs.Columns.{RowDrew}
@@ -60,6 +60,20 @@ pub first_have : (deep : Bool) (s : DepthStencilSetting) (d : DeepTriangle) (b :
 first_have deep s d b x row past more all = λ u v is here.
     let o = here.bottom in
     all u v is (record { left = here.left; right = here.right; top = here.top; bottom = omega (arith, o, more) })
+
+-- some of them
+pub part_have : (deep : Bool) (s : DepthStencilSetting) (d : DeepTriangle) (b : Block) (x from at past to : ℕ) → from ≤ at → past ≤ to → AllHave deep s d b x from to → AllHave deep s d b x at past
+part_have deep s d b x from at past to more less all = λ u v is here.
+    let t = here.top in
+    let o = here.bottom in
+    all u v is (record { left = here.left; right = here.right; top = omega (arith, t, more); bottom = omega (arith, o, less) })
+
+pub part_covered : (mask : ℕ) (t : Triangle) (r q : PixelRect) (x from at past to : ℕ) → from ≤ at → past ≤ to → q ≡ r → AreCovered true mask t r x from to → AreCovered true mask t q x at past
+part_covered mask t r q x from at past to more less same all =
+    subst (λ (r : PixelRect). AreCovered true mask t r x at past) (sym same) (λ u v here.
+    let l = here.top in
+    let o = here.bottom in
+    all u v (record { left = here.left; right = here.right; top = omega (arith, l, more); bottom = omega (arith, o, less) }))
 
 -- the first of rows whose depth test has one outcome
 pub first_told : (known : Option Bool) (s : DepthStencilSetting) (d : DeepTriangle) (b : Block) (x row past : ℕ) → row < past → IfSome known (λ deep. AllHave deep s d b x row past) → IfSome known (λ deep. AllHave deep s d b x row (row + 1))
@@ -164,6 +178,34 @@ module _ (b : Brush) (kind : tests_of b.state ≡ Stencil) (r : StencilRule) (ru
 
   pub still_bit : (t : Bool) → (t ≡ true → deep ≡ deep_enough b z p.ds) → (t && (true && deep)) ≡ (t && (tested_by b z p.ds).passed)
   still_bit t ed = alike_bit b kind z p true deep p.ds.stencil still_passes still_after stays t ed
+
+-- a lane at which no more than the stencil value changes
+module _ (b : Brush) (kind : tests_of b.state ≡ Stencil) (r : StencilRule) (rule : r ≡ rule_of b) (z : ℕ) (p : Pixel) (deep : Bool) (stays : IsUnwritten b.state deep)
+    (passes : (v : ℕ) → reference_passes r v ≡ true) (colors : deep ≡ true → (b.write.keep ≡ 4294967295) × (b.write.flip ≡ 0)) where
+  always_passes : true ≡ reference_passes (rule_of b) p.ds.stencil
+  always_passes = sym (passes p.ds.stencil) ∙ ap (λ r. reference_passes r p.ds.stencil) rule
+
+  abbrev after : ℕ
+  after = stencil_after r true deep p.ds.stencil
+
+  after_is : after ≡ stencil_after (rule_of b) true deep p.ds.stencil
+  after_is = ap (λ r. stencil_after r true deep p.ds.stencil) rule
+
+  kept_color : (d : Bool) (q : ℕ) → q < 2 ^ 32 → to_le_bytes w32 q ≡ p.rgba → deep ≡ d → p.rgba ≡ (if d then written_color b.blend b.rgba p.rgba else p.rgba)
+  kept_color true q fits is e = let kept = colors e in ap (λ (p : Pixel). p.rgba) (lane_kept b p true q fits is (kept_all q b.write.keep b.write.flip fits kept.0 kept.1))
+  kept_color false q fits is e = refl
+
+  pub operated_lane : (t : Bool) (q : ℕ) → t ≡ true → q < 2 ^ 32 → to_le_bytes w32 q ≡ p.rgba → deep ≡ deep_enough b z p.ds → operated r deep p ≡ (if t then drawn_by b z p else p)
+  operated_lane true q on fits is ed =
+      ap (λ c. record { rgba = c; ds = record { depth = p.ds.depth; stencil = after } }) (kept_color deep q fits is refl)
+      ∙ alike_lane b kind z p true deep after always_passes after_is stays true deep (λ t. ed) refl
+  operated_lane false q on fits is ed = absurd (never on)
+    where
+      never : false ≡ true → ⊥
+      never h = cc
+
+  pub operated_bit : (t : Bool) → t ≡ true → deep ≡ deep_enough b z p.ds → deep ≡ (t && (tested_by b z p.ds).passed)
+  operated_bit t on ed = ap (λ u. u && (true && deep)) (sym on) ∙ alike_bit b kind z p true deep after always_passes after_is stays t (λ t. ed)
 
 -- ---- edges
 

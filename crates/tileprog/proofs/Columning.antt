@@ -4,7 +4,7 @@ use Rattle.gfxspec.specs.declared.geometry.PixelRect.{PixelRect}
 use Rattle.gfxspec.specs.Items.{sum_below}
 use Rattle.depthplane.specs.Height.{DeepTriangle}
 use Rattle.tileblock.specs.Block.{Block}
-use Rattle.tileprog.specs.Columns.{RowDrew, ColumnDrew, SoFar, Continues}
+use Rattle.tileprog.specs.Columns.{RowDrew, RowsDrew, ColumnDrew, SoFar, Continues}
 use Rattle.tileprog.specs.Counting.{column_sum, stroke_count}
 use Rattle.tileprog.specs.Strokes.{Stroke, Drew, IsWithin}
 use Rattle.tileprog.specs.Within.{in_box}
@@ -64,6 +64,14 @@ row_behind s plane start mid new x y z w at n m within below was drawn d same e 
           subst (λ k. SoFar s old new x w k) (plus_both before n m)
           (row_more s plane old mid new x z w at (before + n) m inside below (was.so_far old before h) drawn d same e);
     }
+
+-- two rows more
+pub rows_drawn_behind : (s : Stroke) (start mid new : Block) (x y z w at n m : ℕ) → IsWithin s.clip start.rect → s.clip.top ≤ z → Continues s start mid x y z n → RowsDrew s mid new x at m → at ≡ z → w ≡ z + 2 → Continues s start new x y w (n + 2 * m)
+rows_drawn_behind s start mid new x y z w at n m within below was drawn same e =
+    let half = row_behind s s.plane start mid drawn.mid x y z (z + 1) at n m within below was drawn.first refl same refl in
+    let twice : n + m + m ≡ n + 2 * m = omega arith in
+    subst (λ k. Continues s start new x y w k) twice
+    (row_behind s s.plane start drawn.mid new x y (z + 1) w (at + 1) (n + m) m within (omega (arith, below)) half drawn.second refl (ap (λ v. v + 1) same) (omega (arith, e)))
 
 pub rows_behind : (s : Stroke) (start mid new : Block) (x y z a b w n m : ℕ) → Continues s start mid x y z n → Continues s mid new x a b m → a ≡ z → b ≡ w → Continues s start new x y w (n + m)
 rows_behind s start mid new x y z a b w n m was more e f =

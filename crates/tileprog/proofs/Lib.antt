@@ -18,3 +18,4 @@ pub mod Ordering
 pub mod Places
 pub mod AlikeLaws
 pub mod CellLaws
+pub mod Operating

@@ -29,6 +29,12 @@ pub record RowDrew (s : Stroke) (old new : Block) (x y n : ℕ) : Type 0 where
   pub count : n ≡ eight (λ j. stroke_count s old (x + j) y)
   pub few : n ≤ 8
 
+-- so have those below them behind these, and n of them passed in each row
+pub record RowsDrew (s : Stroke) (old new : Block) (x y n : ℕ) : Type 0 where
+  pub mid : Block
+  pub first : RowDrew s old mid x y n
+  pub second : RowDrew s mid new x (y + 1) n
+
 -- the clip's pixels in the eight columns from x on have
 pub record ColumnDrew (s : Stroke) (old new : Block) (x n : ℕ) : Type 0 where
   pub drew : Drew s old new (in_box x (x + 8) s.clip.top s.clip.bottom)

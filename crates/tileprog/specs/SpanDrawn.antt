@@ -1,9 +1,9 @@
 -- A span of eight pixels under a brush.
-use Rattle.std.specs.Prelude.{ℕ, Bool, ◌≡◌, ◌<◌, ◌&&◌, if◌then◌else◌, List, slice_index}
+use Rattle.std.specs.Prelude.{ℕ, Bool, ◌≡◌, ◌+◌, ◌<◌, ◌&&◌, if◌then◌else◌, List, slice_index}
 use Rattle.gfxspec.specs.declared.pixel.Pixel.{Pixel}
 use Rattle.lanes.specs.Stencil.{StencilRule, has, stencil_after}
 use Rattle.tileblock.specs.Block.{Block}
-use Rattle.tileblock.specs.SpanStored.{lane_pixel}
+use Rattle.tileblock.specs.SpanStored.{SpanStored, lane_pixel}
 use Rattle.tileprog.specs.declared.brush.Brush.{Brush}
 use Rattle.tileprog.specs.Brushes.{tested_by, drawn_by}
 use Rattle.tileprog.specs.Painting.{painted_with}
@@ -42,3 +42,10 @@ stenciled_lane bits stencils j p =
 abbrev pub operated_lane : StencilRule → ℕ → ℕ → ℕ → ℕ → Pixel → Pixel
 operated_lane r cover passing deep j p =
     record { rgba = p.rgba; ds = record { depth = p.ds.depth; stencil = if has cover j then stencil_after r (has passing j) (has deep j) p.ds.stencil else p.ds.stencil } }
+
+-- two rows of a span, one after the other, each pixel of which has had a change
+pub record RowsStored (old new : Block) (span row : ℕ) (change : Pixel → Pixel) : Type 0 where
+  pub mid : Block
+  pub first : SpanStored old mid span row (λ j. change)
+  pub waits : (j : ℕ) → j < 8 → lane_pixel mid span (row + 1) j ≡ lane_pixel old span (row + 1) j
+  pub second : SpanStored mid new span (row + 1) (λ j. change)

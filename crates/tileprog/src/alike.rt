@@ -19,6 +19,7 @@ ghost use Rattle.tileprog.specs.Alike.{opposite, HasOutcome, IsAlike, AreBytes, 
 
 use crate::hidden::none_passes;
 use crate::paint::paint_tile;
+use crate::spans::operate_rows;
 use binner::{StateEntry, TriSetup};
 use gfxspec::{Compare, PixelRect};
 use lanes::StencilTest;
@@ -140,8 +141,8 @@ fn read_bytes<A: Allocator>(block: &TileBlock<A>)
     }
 }
 
-/// Stores in each pixel of a tile what the stencil's operation leaves where the stencil test passes; bit j of `bits` says whether
-/// the depth test passes in lane j.
+/// Stores in each pixel of a tile what the stencil's operation leaves where the stencil test passes, two rows of a span at a time; bit
+/// j of `bits` says whether the depth test passes in lane j.
 #[inline(always)]
 fn operate<A: Allocator>(block: &mut TileBlock<A>, test: &StencilTest, deep: bool, bits: u8)
     requires tile { IsInTile block.old.rect }
@@ -153,9 +154,8 @@ fn operate<A: Allocator>(block: &mut TileBlock<A>, test: &StencilTest, deep: boo
         read_bytes(block);
         return;
     }
-    for at in 0..128u32 {
-        let stored = block.stencil_span(at % 4, at / 4);
-        block.set_stencil_span(at % 4, at / 4, test.after(&stored, 255, bits));
+    for pair in 0..64u32 {
+        operate_rows(block, pair / 16, 2 * (pair % 16), deep, test);
     }
 }
 

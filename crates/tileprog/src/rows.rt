@@ -5,14 +5,17 @@ ghost use Rattle.gfxspec.specs.Raster.{centre};
 ghost use Rattle.lanes.specs.Stencil.{has, reference_passes};
 ghost use Rattle.tileprog.specs.declared.kind.Tests.TheVariants.{Open, Depth, Stencil};
 ghost use Rattle.tileprog.specs.Cells.{AllHave, AreCovered, IsStill, IsUnwritten};
-ghost use Rattle.tileprog.specs.Columns.{IsColumn, IsRow, RowDrew};
+ghost use Rattle.tileprog.specs.Columns.{IsColumn, IsRow, RowDrew, RowsDrew};
 ghost use Rattle.tileprog.specs.Edges.{passes_edges, BeganIn, Decides};
 ghost use Rattle.tileprog.specs.Kinds.{tests_of};
 ghost use Rattle.tileprog.specs.Strokes.{IsNamed};
 
 use crate::brush::Brush;
 use crate::column::Column;
-use crate::spans::{draw_alike, draw_depths, draw_open, draw_stencils, keep_alike, lanes_in};
+use crate::spans::{
+    all_lanes, draw_alike, draw_depths, draw_open, draw_stencils, keep_alike, lanes_in,
+    operate_rows,
+};
 use depthplane::{Plane, Walks};
 use edges::EdgeWalk;
 use gfxspec::Compare;
@@ -181,4 +184,37 @@ pub(crate) fn alike_row<A: Allocator>(
     }
     let bits = draw_alike(block, column.span, row, 255, deep, always, test, brush);
     lanes_in(bits)
+}
+
+/// Two rows of a span of which all pixels are covered, under a brush whose stencil test passes always, and whose depth test passes at all
+/// of them or at none and changes neither colours nor depths; the answer is how many pixels of each row pass. The colours that are
+/// read aren't used, so nothing is left of it when it is compiled.
+#[inline(always)]
+pub(crate) fn operated_rows<A: Allocator>(
+    block: &mut TileBlock<A>,
+    column: &Column,
+    plane: &Plane,
+    row: u32,
+    deep: bool,
+    test: &StencilTest,
+    brush: &Brush,
+) -> u32
+    requires column { IsColumn column.now block.old.rect }
+    requires within { column.now.within ≡ 255 }
+    requires row { IsRow column.now block.old.rect row }
+    requires next { IsRow column.now block.old.rect (row + 1) }
+    requires named { IsNamed plane.now column.now.mask block.old.rect }
+    requires kind { tests_of brush.now.state ≡ Stencil }
+    requires test { test.now ≡ record { setting = brush.now.state; face = if brush.now.front then brush.now.state.front else brush.now.state.back; reference = brush.now.reference } }
+    requires covered { AreCovered true column.now.mask plane.now.triangle block.old.rect column.now.x row (row + 2) }
+    requires deep { AllHave deep brush.now.state plane.now block.old column.now.x row (row + 2) }
+    requires unwritten { IsUnwritten brush.now.state deep }
+    requires always { (v : ℕ) → reference_passes test.now v ≡ true }
+    requires colors { deep ≡ true → (brush.now.write.keep ≡ 4294967295) × (brush.now.write.flip ≡ 0) }
+    ensures { RowsDrew (record { brush = brush.now; plane = plane.now; mask = column.now.mask; clip = column.now.clip }) block.old block.new column.now.x (block.old.rect.top + row) result }
+{
+    let _upper = block.color_span(column.span, row);
+    let _lower = block.color_span(column.span, row + 1);
+    operate_rows(block, column.span, row, deep, test);
+    lanes_in(all_lanes(deep))
 }

@@ -9,7 +9,8 @@ ghost use Rattle.tileprog.specs.Cells.{IsStill, IsUnwritten};
 ghost use Rattle.tileprog.specs.Kinds.{tests_of};
 ghost use Rattle.tileprog.specs.declared.kind.Tests.TheVariants.{Open, Depth, Stencil};
 ghost use Rattle.tileprog.specs.Counting.{eight, one_if};
-ghost use Rattle.tileprog.specs.SpanDrawn.{painted_lane, tested_lane, drawn_lane, deepened_lane, kept_lane, stenciled_lane, operated_lane, ArePassed};
+ghost use Rattle.tileprog.specs.Alike.{operated};
+ghost use Rattle.tileprog.specs.SpanDrawn.{painted_lane, tested_lane, drawn_lane, deepened_lane, kept_lane, stenciled_lane, operated_lane, ArePassed, RowsStored};
 
 use crate::brush::Brush;
 use gfxspec::Compare;
@@ -281,7 +282,7 @@ pub(crate) fn draw_stencils<A: Allocator>(
 
 /// A bit for each of eight lanes, or none.
 #[inline(always)]
-fn all_lanes(set: bool) -> u8
+pub(crate) fn all_lanes(set: bool) -> u8
     ensures { (j : ℕ) → j < 8 → has result j ≡ set }
 {
     if set { 255 } else { 0 }
@@ -329,9 +330,30 @@ pub(crate) fn draw_alike<A: Allocator>(
     passed
 }
 
+/// Does the operation of a stencil test that passes at all pixels of two rows of a span, where the depth test has one outcome at
+/// them. The rows stand side by side in the block, and are read, changed and stored together.
+#[inline(always)]
+pub(crate) fn operate_rows<A: Allocator>(
+    block: &mut TileBlock<A>,
+    span: u32,
+    row: u32,
+    deep: bool,
+    test: &StencilTest,
+)
+    requires span { span < 4 }
+    requires row { row + 1 < 32 }
+    ensures { RowsStored block.old block.new span row (operated test.now deep) }
+{
+    let first = block.stencil_span(span, row);
+    let second = block.stencil_span(span, row + 1);
+    let after = test.after_rows(&first, &second, deep);
+    block.set_stencil_span(span, row, after.0);
+    block.set_stencil_span(span, row + 1, after.1);
+}
+
 /// Whether a brush keeps the colours of the pixels at which both tests pass, if the depth test does.
 #[inline(always)]
-fn keeps_colors(deep: bool, brush: &Brush) -> bool
+pub(crate) fn keeps_colors(deep: bool, brush: &Brush) -> bool
     ensures { IsTrue result → deep ≡ true → (brush.now.write.keep ≡ 4294967295) × (brush.now.write.flip ≡ 0) }
 {
     if !deep {

@@ -13,8 +13,8 @@ ghost use Rattle.tileprog.specs.Strokes.{IsNamed};
 use crate::brush::Brush;
 use crate::cells::{Cell, cell_of, is_long};
 use crate::column::Column;
-use crate::rows::{alike_row, stencil_row};
-use crate::spans::is_still;
+use crate::rows::{alike_row, operated_rows, stencil_row};
+use crate::spans::{is_still, keeps_colors};
 use depthplane::{Plane, Walks};
 use edges::{EdgeSet, EdgeWalk};
 use lanes::StencilTest;
@@ -103,6 +103,38 @@ fn alike_rows<A: Allocator>(
     passed
 }
 
+/// The same where the stencil test passes always and no colour changes, two rows at a time.
+#[inline(always)]
+fn paired_rows<A: Allocator>(
+    block: &mut TileBlock<A>,
+    column: &Column,
+    plane: &Plane,
+    row: u32,
+    deep: bool,
+    test: &StencilTest,
+    brush: &Brush,
+) -> u32
+    requires column { IsColumn column.now block.old.rect }
+    requires long { IsLong column.now block.old.rect }
+    requires row { row + 8 ≤ 32 }
+    requires named { IsNamed plane.now column.now.mask block.old.rect }
+    requires kind { tests_of brush.now.state ≡ Stencil }
+    requires test { test.now ≡ record { setting = brush.now.state; face = if brush.now.front then brush.now.state.front else brush.now.state.back; reference = brush.now.reference } }
+    requires covered { AreCovered true column.now.mask plane.now.triangle block.old.rect column.now.x row (row + 8) }
+    requires deep { AllHave deep brush.now.state plane.now block.old column.now.x row (row + 8) }
+    requires unwritten { IsUnwritten brush.now.state deep }
+    requires always { (v : ℕ) → reference_passes test.now v ≡ true }
+    requires colors { deep ≡ true → (brush.now.write.keep ≡ 4294967295) × (brush.now.write.flip ≡ 0) }
+    ensures { Continues (record { brush = brush.now; plane = plane.now; mask = column.now.mask; clip = column.now.clip }) block.old block.new column.now.x (block.old.rect.top + row) (block.old.rect.top + (row + 8)) result }
+{
+    let mut passed = 0u32;
+    for pair in 0..4u32 {
+        let more = operated_rows(block, column, plane, row + 2 * pair, deep, test, brush);
+        passed += 2 * more;
+    }
+    passed
+}
+
 /// The same where the stencil test passes always: where nothing changes, pixels are only counted.
 #[inline(always)]
 fn sure_rows<A: Allocator>(
@@ -128,10 +160,13 @@ fn sure_rows<A: Allocator>(
 {
     let still = is_still(deep, test, brush);
     if still {
-        alike_rows(block, column, plane, row, deep, true, true, test, brush)
-    } else {
-        alike_rows(block, column, plane, row, deep, true, false, test, brush)
+        return alike_rows(block, column, plane, row, deep, true, true, test, brush);
     }
+    let kept = keeps_colors(deep, brush);
+    if kept {
+        return paired_rows(block, column, plane, row, deep, test, brush);
+    }
+    alike_rows(block, column, plane, row, deep, true, false, test, brush)
 }
 
 /// The same where the stencil test's outcome may be known: each loop over rows has what is known as a constant.

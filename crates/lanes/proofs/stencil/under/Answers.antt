@@ -7,4 +7,4 @@ pub returns : goal.returns
 returns c = λ j h.
     let lv : length c.args.values ≡ 8 = search rules in
     let lm : length c.args.mask ≡ 8 = search rules in
-    lane_of_both bit_and c.args.values lv j h c.args.mask lm
+    lane_of_both 8 bit_and c.args.values lv j h c.args.mask lm

@@ -1,10 +1,9 @@
-use Rattle.std.proofs.Common.{rules, arith, ◌≡◌, ◌∙◌, sym, refl, true, ◌/◌, ◌%◌}
+use Rattle.std.proofs.Common.{rules, arith, ◌≡◌, ◌∙◌, sym, subst, refl, true, ◌*◌}
 use Rattle.lanes.specs.Stencil.{stencil_after}
 use Rattle.tileblock.specs.Block.{pixel_at}
-use Rattle.tileblock.specs.SpanStored.{lane_pixel}
 use Rattle.tileprog.specs.Alike.{operated}
 use Rattle.tileprog.proofs.Lanes.{has_all}
-use Rattle.tileprog.proofs.Places.{none_changed, more_changed, all_changed}
+use Rattle.tileprog.proofs.Places.{ColumnsChanged, no_columns, more_rows_changed, all_columns_changed}
 use Rattle.tileprog.proofs.alike.operate.Goals as goal
 
 pub returns-then-keeps : goal.returns-then-keeps
@@ -21,21 +20,22 @@ returns-then-keeps g c =
           λ i. record { rgba = p.rgba; ds = record { depth = p.ds.depth; stencil = sym kept i } };
     }
 
-pub loop-at-init : goal.loop-at-init
-loop-at-init g c = record { so_far = none_changed (operated c.args.test.now c.args.deep) c.args.block.now }
+pub loop-pair-init : goal.loop-pair-init
+loop-pair-init g c =
+    let none : 0 ≡ 2 * 0 = omega arith in
+    let b = c.args.block.now in
+    let f = operated c.args.test.now c.args.deep in
+    record { so_far = subst (λ at. ColumnsChanged f b b at) none (no_columns f b) }
 
-pub loop-at-preserved : goal.loop-at-preserved
-loop-at-preserved g c =
-    let test = c.args.test.now in
-    let mid = c.loop-at.block in
-    let at = c.loop-at.at in
+pub loop-pair-preserved : goal.loop-pair-preserved
+loop-pair-preserved g c =
     record {
-      so_far = more_changed (operated test c.args.deep) c.args.block.now mid _ at _ c.requires.tile c.loop-at.invariant.so_far c.set_stencil_span.ensures
-          (λ j h.
-          let p = lane_pixel mid (at % 4) (at / 4) j in
-          let after = c.after.ensures j h ∙ (λ i. stencil_after test (has_all 255 j refl h i) (c.requires.bits j h i) (c.stencil_span-stored.ensures j h i)) in
-          λ i. record { rgba = p.rgba; ds = record { depth = p.ds.depth; stencil = after i } });
+      so_far = more_rows_changed (operated c.args.test.now c.args.deep) c.args.block.now c.loop-pair.block _ c.loop-pair.pair c.requires.tile c.loop-pair.invariant.so_far c.operate_rows.ensures;
     }
 
 pub returns : goal.returns
-returns g c = all_changed (operated c.args.test.now c.args.deep) c.args.block.now c.loop-at.block c.loop-at.at c.requires.tile (search rules) c.loop-at.invariant.so_far
+returns g c =
+    let n = c.loop-pair.pair in
+    let done : n ≡ 64 = search rules in
+    let all : 2 * n ≡ 128 = omega (arith, done) in
+    all_columns_changed (operated c.args.test.now c.args.deep) c.args.block.now c.loop-pair.block (2 * n) c.requires.tile all c.loop-pair.invariant.so_far

@@ -7,6 +7,6 @@ use Rattle.tileprog.proofs.spans.put_stencils.Goals as goal
 
 pub returns-then-bits-eq255 : goal.returns-then-bits-eq255
 returns-then-bits-eq255 g c =
-    changed _ _ _ _ _ _ c.set_stencil_span.ensures (λ j h.
+    changed _ _ _ _ _ _ c.set_stencil_span.ensures.stored (λ j h.
     let p = lane_pixel c.args.block.now c.args.span c.args.row j in
     ap (λ t. record { rgba = p.rgba; ds = record { depth = p.ds.depth; stencil = if t then slice_index c.args.new.now j else p.ds.stencil } }) (sym (has_all c.args.bits j c.if-bits-eq255.true h)))
