@@ -191,7 +191,7 @@ module _ (b : Brush) (kind : tests_of b.state ≡ Stencil) (r : StencilRule) (ru
   after_is : after ≡ stencil_after (rule_of b) true deep p.ds.stencil
   after_is = ap (λ r. stencil_after r true deep p.ds.stencil) rule
 
-  kept_color : (d : Bool) (q : ℕ) → q < 2 ^ 32 → to_le_bytes w32 q ≡ p.rgba → deep ≡ d → p.rgba ≡ (if d then written_color b.blend b.rgba p.rgba else p.rgba)
+  kept_color : (d : Bool) (q : ℕ) → q < 2 ^ 32 → to_le_bytes w32 q ≡ p.rgba → deep ≡ d → p.rgba ≡ (if d then painted_with b.write p.rgba else p.rgba)
   kept_color true q fits is e = let kept = colors e in ap (λ (p : Pixel). p.rgba) (lane_kept b p true q fits is (kept_all q b.write.keep b.write.flip fits kept.0 kept.1))
   kept_color false q fits is e = refl
 

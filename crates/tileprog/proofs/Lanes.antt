@@ -222,9 +222,9 @@ kept_tested b func false kind z t u p e =
 -- and with the colours stored where they pass, it is what the brush draws
 pub kept_drawn : (b : Brush) (func : Compare) (write : Bool) → tests_of b.state ≡ Depth func write → (z : ℕ) (t u : Bool) (p kept : Pixel) → u ≡ (t && (tested_by b z p.ds).passed) →
     kept ≡ (if write then record { rgba = p.rgba; ds = record { depth = if u then z else p.ds.depth; stencil = p.ds.stencil } } else p) →
-    record { rgba = if u then written_color b.blend b.rgba kept.rgba else kept.rgba; ds = kept.ds } ≡ (if t then drawn_by b z p else p)
+    record { rgba = if u then painted_with b.write kept.rgba else kept.rgba; ds = kept.ds } ≡ (if t then drawn_by b z p else p)
 kept_drawn b func write kind z t u p kept e is =
-    ap (λ (q : Pixel). record { rgba = if u then written_color b.blend b.rgba q.rgba else q.rgba; ds = q.ds }) (is ∙ kept_tested b func write kind z t u p e) ∙ both_lanes b z t u p e
+    ap (λ (q : Pixel). record { rgba = if u then painted_with b.write q.rgba else q.rgba; ds = q.ds }) (is ∙ kept_tested b func write kind z t u p e) ∙ both_lanes b z t u p e
 
 -- ---- the stencil
 
