@@ -1,5 +1,5 @@
 -- A triangle that does the same at each pixel of a tile.
-use Rattle.std.proofs.Common.{◌≡◌, ◌∙◌, ap, sym, refl, arith, ℕ, zero, suc, ◌+◌, ◌-◌, ◌*◌, ◌≤◌, Bool, true, false, ◌&&◌, ◌||◌, Option, Some, None}
+use Rattle.std.proofs.Common.{◌≡◌, ◌∙◌, ap, sym, refl, arith, ℕ, zero, suc, ◌+◌, ◌-◌, ◌*◌, ◌%◌, ◌≤◌, Bool, true, false, ◌&&◌, ◌||◌, Option, Some, None}
 use Rattle.std.specs.Prelude.{not, bit_and, IfSome, if◌then◌else◌}
 use Rattle.std.specs.Int.{to_le_bytes, w32}
 use Rattle.std.proofs.lemmas.Bool.Decides.{nat_tests}
@@ -16,7 +16,7 @@ use Rattle.depthplane.specs.Place.{depth_of}
 use Rattle.lanes.specs.Stencil.{StencilRule}
 use Rattle.meaning.specs.Over.{sum_over}
 use Rattle.tileblock.specs.declared.blocks.DepthBounds.{DepthBounds}
-use Rattle.tileblock.specs.Block.{Block, pixel_at, value_at}
+use Rattle.tileblock.specs.Block.{Block, pixel_at, span_of, value_at}
 use Rattle.tileblock.specs.Bounds.{LieBetween}
 use Rattle.tileword.specs.declared.edge_mask.EdgeMask.{EdgeMask}
 use Rattle.binner.specs.declared.entry.StateEntry.{StateEntry}
@@ -116,7 +116,7 @@ module _ (t : TriSetup) (e : StateEntry) (deep : Bool) (a : IsAlike t e deep) (b
   alike_passes = ap (λ (o : TestOutcome). o.passed) outcome_is
 
   colored : (passed : Bool) → (passed ≡ true → (n : ℕ) → written_color e.blend t.rgba (to_le_bytes w32 n) ≡ to_le_bytes w32 n) → (pixel_at b u v).rgba ≡ (if passed then written_color e.blend t.rgba (pixel_at b u v).rgba else (pixel_at b u v).rgba)
-  colored true kept = sym (kept refl (value_at b.colors u v))
+  colored true kept = sym (kept refl (value_at b.colors (span_of u v) (u % 8)))
   colored false kept = refl
 
   pub alike_pixel : operated (rule_of t e) deep (pixel_at b u v) ≡ drawn t e (outcome t e u v (pixel_at b u v)) (pixel_at b u v)
