@@ -17,7 +17,7 @@ use Rattle.depthplane.specs.Place.{depth_of}
 use Rattle.lanes.specs.Stencil.{StencilRule}
 use Rattle.meaning.specs.Over.{sum_over}
 use Rattle.tileblock.specs.declared.blocks.DepthBounds.{DepthBounds}
-use Rattle.tileblock.specs.Block.{Block, pixel_at, value_at}
+use Rattle.tileblock.specs.Block.{Block, pixel_at}
 use Rattle.tileblock.specs.Bounds.{LieBetween}
 use Rattle.tileword.specs.declared.edge_mask.EdgeMask.{EdgeMask}
 use Rattle.binner.specs.declared.entry.StateEntry.{StateEntry}

@@ -10,7 +10,7 @@ use Rattle.gfxspec.specs.Color.{BlendSetting, written_color}
 use Rattle.logicop.specs.declared.color_write.ColorWrite.{ColorWrite}
 use Rattle.logicop.specs.Packed.{Writes}
 use Rattle.logicop.proofs.Steps.{written_bytes}
-use Rattle.tileblock.specs.Block.{Block, pixel_at, value_at}
+use Rattle.tileblock.specs.Block.{Block, pixel_at, span_of, value_at}
 use Rattle.tileprog.specs.Painting.{painted_with, flipped_color, flipped, stands_for, written, PaintsAs}
 
 byte_small : (n k : ℕ) → get_or (to_le_bytes w32 n) k 0 < 256
@@ -128,11 +128,11 @@ module _ (b : BlendSetting) (write : ColorWrite) (s : List ℕ) (p : ℕ) (write
 -- where nothing is to be flipped a pixel stands for itself
 pub stands_itself : (b : Block) (u v : ℕ) → stands_for 0 b u v ≡ pixel_at b u v
 stands_itself b u v =
-    let n = value_at b.colors u v in
+    let n = value_at b.colors (span_of u v) (u % 8) in
     ap (λ (c : List ℕ). record { rgba = c; ds = (pixel_at b u v).ds }) (ap (to_le_bytes w32) (xor_zero_r (packed n)) ∙ same_bytes n)
 
 -- flipping is a write that keeps every bit
 pub flip_written : (flip : ℕ) (b : Block) (u v : ℕ) → written (record { keep = 4294967295; flip = flip }) (pixel_at b u v) ≡ stands_for flip b u v
 flip_written flip b u v =
-    let m = packed (value_at b.colors u v) in
-    ap (λ (c : List ℕ). record { rgba = c; ds = (pixel_at b u v).ds }) (ap (λ n. to_le_bytes w32 (bit_xor n flip)) (keeps_all m (packed_small (value_at b.colors u v))))
+    let m = packed (value_at b.colors (span_of u v) (u % 8)) in
+    ap (λ (c : List ℕ). record { rgba = c; ds = (pixel_at b u v).ds }) (ap (λ n. to_le_bytes w32 (bit_xor n flip)) (keeps_all m (packed_small (value_at b.colors (span_of u v) (u % 8)))))

@@ -1,5 +1,5 @@
 -- A triangle under an entry, as the stroke of its brush.
-use Rattle.std.proofs.Common.{◌≡◌, ◌∙◌, ap, sym, subst, refl, arith, ⊎_elim, inl, inr, ◌⊎◌, ℕ, zero, suc, ◌+◌, ◌*◌, ◌<◌, ◌≤◌, Bool, true, false, ◌&&◌, ◌||◌, nat_lt, Some}
+use Rattle.std.proofs.Common.{◌≡◌, ◌∙◌, ap, sym, subst, refl, arith, ⊎_elim, inl, inr, ◌⊎◌, ℕ, zero, suc, ◌+◌, ◌*◌, ◌%◌, ◌<◌, ◌≤◌, Bool, true, false, ◌&&◌, ◌||◌, nat_lt, Some}
 use Rattle.std.specs.Prelude.{nat_le, not, ◌==◌, if◌then◌else◌}
 use Rattle.std.specs.Int.{bit_at, to_le_bytes, w32}
 use Rattle.std.proofs.lemmas.Bool.Decides.{nat_tests}
@@ -17,7 +17,7 @@ use Rattle.classify.specs.declared.Class.TheVariants.{Cut}
 use Rattle.tileword.specs.declared.edge_mask.EdgeMask.{EdgeMask}
 use Rattle.tileword.specs.EdgeMask.{named_bit, edge_bits}
 use Rattle.meaning.specs.Over.{sum_over}
-use Rattle.tileblock.specs.Block.{Block, pixel_at, value_at}
+use Rattle.tileblock.specs.Block.{Block, pixel_at, span_of, value_at}
 use Rattle.binner.specs.declared.entry.StateEntry.{StateEntry}
 use Rattle.binner.specs.declared.setup.TriSetup.{TriSetup}
 use Rattle.binner.specs.Program as P
@@ -104,7 +104,7 @@ module _ (b : Brush) (p : TriSetup) (e : StateEntry) (flip : ℕ) (k : IsBrushOf
   pub drawn_is : (block : Block) → flipped flip (drawn_by b (depth_of p.plane x y) (pixel_at block x y)) ≡ drawn p e (outcome p e x y (stands_for flip block x y)) (stands_for flip block x y)
   drawn_is block =
       let tests = tested_by b (depth_of p.plane x y) (pixel_at block x y).ds in
-      let n = value_at block.colors x y in
+      let n = value_at block.colors (span_of x y) (x % 8) in
       (λ i. record { rgba = colors_are tests.passed n i; ds = tests.after })
       ∙ ap (λ o. drawn p e o (stands_for flip block x y)) (test_is (pixel_at block x y))
 

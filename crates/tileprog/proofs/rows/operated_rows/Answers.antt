@@ -2,12 +2,11 @@ use Rattle.std.proofs.Common.{◌≡◌, ◌∙◌, ap, sym, subst, refl, rules,
 use Rattle.std.specs.Prelude.{slice_index}
 use Rattle.gfxspec.specs.declared.geometry.PixelRect.{PixelRect}
 use Rattle.gfxspec.specs.declared.pixel.Pixel.{Pixel}
-use Rattle.tileblock.specs.SpanStored.{lane_pixel}
 use Rattle.tileprog.specs.Cells.{AllHave, AreCovered}
 use Rattle.tileprog.specs.Columns.{RowDrew}
 use Rattle.tileprog.specs.Strokes.{Stroke}
 use Rattle.tileprog.proofs.CellLaws.{first_have, rest_have, row_covered}
-use Rattle.tileprog.proofs.Operating.{IsCoveredRow, AreColors, row_operated}
+use Rattle.tileprog.proofs.Operating.{IsCoveredRow, row_operated}
 use Rattle.tileprog.proofs.rows.operated_rows.Goals as goal
 
 pub returns : goal.returns
