@@ -89,9 +89,10 @@ impl<L: Drop, A: Allocator + Clone> Ports<L, A> {
 }
 
 impl<L: Drop, A: Allocator> Ports<L, A> {
-    ghost use Rattle.std.specs.Prelude.{◌≡◌, ◌^◌, ◌<◌, ◌++◌, ◌⊎◌, [], ◌∷◌, length, MatchResult, MatchOption};
+    ghost use Rattle.std.specs.Prelude.{◌≡◌, ◌^◌, ◌<◌, ◌++◌, ◌⊎◌, List, [], ◌∷◌, length, MatchResult, MatchOption};
     ghost use Rattle.crossbeam_queue.specs.Fifo.{Held};
     ghost use Rattle.gfxspec.specs.declared.error.GfxError.TheVariants.{Unfinished, PortFull};
+    ghost use Rattle.port.specs.declared.submission.Submission.{Submission};
     ghost use Rattle.port.specs.History.{of_port, submission, port_history, drain_history, AreAll, lengths_of, AllTaken, SomeLeft};
     ghost use Rattle.port.specs.Rule.{port_view, drain_view, Moment};
 
@@ -173,5 +174,33 @@ impl<L: Drop, A: Allocator> Ports<L, A> {
         queue.absorb::<Makes>(&mut pass, three);
         queue.learn_as::<Total>(&mut pass);
         Ok(counts)
+    }
+
+    /// Takes out what nobody asked for, until all that was sent is taken, settles the ports, and tells how many lists each
+    /// sent. Of each port, what was taken before the call and in it is what was sent.
+    pub fn drain_and_settle<R: Wait>(
+        self,
+        rt: &R,
+        passes: [PortPass<L>; 4],
+        drain: DrainPass<L>,
+    ) -> [u64; 4]
+        requires passes { AreAll self.queue passes }
+        requires drain { drain.queue ≡ self.queue }
+        ensures counts { result ≡ lengths_of passes }
+        ensures taken { (rest : List (Submission L)) × AllTaken passes (drain.taken ++ rest) }
+    {
+        let (mut ports, mut passes, mut drain) = (self, passes, drain);
+        for _ in rt.forever() {
+            match ports.settle(passes, drain) {
+                Ok(sent) => return sent,
+                Err(back) => {
+                    ports = back.1;
+                    passes = back.2;
+                    drain = back.3;
+                    ports.next(rt, &mut drain);
+                }
+            }
+        }
+        unreachable!()
     }
 }

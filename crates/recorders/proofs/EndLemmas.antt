@@ -1,8 +1,8 @@
 -- The first refused line of all contexts.
-use Rattle.std.proofs.Common.{◌≡◌, subst, refl, ℕ, zero, suc, ◌+◌, ◌-◌, ◌<◌, ◌≤◌, arith, Bool, true, false, cond, nat_lt, List, [], ◌∷◌, length, Some, None, Option}
+use Rattle.std.proofs.Common.{◌≡◌, subst, refl, ℕ, ◌+◌, ◌-◌, ◌<◌, ◌≤◌, arith, Bool, true, false, cond, nat_lt, List, [], ◌∷◌, length, Some, None, Option}
 use Rattle.std.specs.Prelude.{MatchOption, All}
 use Rattle.std.proofs.lemmas.Bool.Decides.{nat_tests}
-use Rattle.std.proofs.lemmas.List.Elements.{All-cons, All-nil}
+use Rattle.std.proofs.lemmas.List.Elements.{All-cons, All-nil, All-head, All-tail, All-from_get_or}
 use Rattle.atomic_table.specs.Seated.{TableId}
 use Rattle.gfxspec.specs.Commands.{Command}
 use Rattle.scenetext.specs.Scene.{Line}
@@ -15,7 +15,7 @@ use Rattle.recorders.specs.declared.recorder.RecorderResult.{RecorderResult}
 use Rattle.recorders.specs.Apart.{AcceptsTo, IsStopOf, IsListed, stop_or}
 use Rattle.recorders.specs.Sinks.{lists_sent}
 use Rattle.recorders.specs.Recorders.{IsEnd, AreEnded}
-use Rattle.recorders.specs.Ending.{earlier_of, first_of, pair_at, end_at, IsStopOfSome, Lacks, AreRecorded, AreEnds, EndsLack}
+use Rattle.recorders.specs.Ending.{earlier_of, first_of, no_end, pair_at, end_at, IsStopOfSome, Lacks, AreRecorded, AreEnds, EndsLack}
 use Rattle.recorders.specs.Receiving.{IsResultOf, AreResults}
 use Rattle.recorders.proofs.Growing.{fewer_lists}
 use Rattle.recorders.proofs.PortLemmas.{each_port}
@@ -23,67 +23,13 @@ use Rattle.recorders.proofs.PortLemmas.{each_port}
 pub accepts_less : (ls : List Line) (k m n : ℕ) → m ≤ n → AcceptsTo ls k n → AcceptsTo ls k m
 accepts_less ls k m n less h j low own = h j (omega (arith, less, low)) own
 
--- ---- the earlier of two refused lines
-
-earlier_low : (a b : Option RefusedLine) (n : ℕ) → stop_or a n ≤ n → stop_or b n ≤ n → (stop_or (earlier_of a b) n ≤ stop_or a n) × (stop_or (earlier_of a b) n ≤ stop_or b n)
-earlier_low None b n ha hb = (hb, omega arith)
-earlier_low (Some a) None n ha hb = (omega arith, ha)
-earlier_low (Some a) (Some b) n ha hb = by (nat_lt b.place a.place) refl
-  where
-    by : (t : Bool) → nat_lt b.place a.place ≡ t → (stop_or (cond t (Some b) (Some a)) n ≤ a.place) × (stop_or (cond t (Some b) (Some a)) n ≤ b.place)
-    by true e = let less : b.place < a.place = grind (arith, nat_tests) in (omega (arith, less), omega arith)
-    by false e = let more : a.place ≤ b.place = grind (arith, nat_tests) in (omega arith, more)
-
-earlier_is : (P : Option RefusedLine → Type 0) (a b : Option RefusedLine) → P a → P b → P (earlier_of a b)
-earlier_is P None b pa pb = pb
-earlier_is P (Some a) None pa pb = pa
-earlier_is P (Some a) (Some b) pa pb = by (nat_lt b.place a.place)
-  where
-    by : (t : Bool) → P (cond t (Some b) (Some a))
-    by true = pb
-    by false = pa
-
 pub match_more : {X : Type 0} {P Q : X → Type 0} (o : Option X) → ((x : X) → P x → Q x) → MatchOption o (Unit {0}) P → MatchOption o (Unit {0}) Q
 match_more None f h = tt
 match_more (Some x) f h = f x h
 
 -- ---- the first of many
 
--- it is among them, or was known
-first_is : (P : Option RefusedLine → Type 0) (known : Option RefusedLine) (ends : List RecordingEnd) → P known → ((p : ℕ) → p < length ends → P (pair_at ends p).first.refused × P (pair_at ends p).second.refused) → P (first_of known ends)
-first_is P known [] h each = h
-first_is P known (e ∷ ends) h each =
-    let here = each 0 (omega arith) in
-    first_is P (earlier_of known (earlier_of e.first.refused e.second.refused)) ends (earlier_is P known _ h (earlier_is P e.first.refused e.second.refused here.0 here.1)) (λ p low. each (suc p) (omega (arith, low)))
-
--- neither context of a recorder refused a line before this one
-abbrev NotBefore : ℕ → ℕ → RecordingEnd → Type 0
-NotBefore n a e = (a ≤ stop_or e.first.refused n) × (a ≤ stop_or e.second.refused n)
-
-each_more : (F : RecordingEnd → Type 0) (e : RecordingEnd) (ends : List RecordingEnd) → F e → ((p : ℕ) → p < length ends → F (pair_at ends p)) → (p : ℕ) → p < length (e ∷ ends) → F (pair_at (e ∷ ends) p)
-each_more F e ends one rest zero low = one
-each_more F e ends one rest (suc p) low = rest p (omega (arith, low))
-
--- and none of them is before it
-first_low : (known : Option RefusedLine) (ends : List RecordingEnd) (n : ℕ) → stop_or known n ≤ n → ((p : ℕ) → p < length ends → (stop_or (pair_at ends p).first.refused n ≤ n) × (stop_or (pair_at ends p).second.refused n ≤ n)) → (stop_or (first_of known ends) n ≤ stop_or known n) × ((p : ℕ) → p < length ends → NotBefore n (stop_or (first_of known ends) n) (pair_at ends p))
-first_low known [] n h each = (omega arith, λ p low. absurd (omega (arith, low)))
-first_low known (e ∷ ends) n h each =
-    let here = each 0 (omega arith) in
-    let both = earlier_low e.first.refused e.second.refused n here.0 here.1 in
-    let to_first = both.0 in
-    let to_second = both.1 in
-    let first_in = here.0 in
-    let two = earlier_low known (earlier_of e.first.refused e.second.refused) n h (omega (arith, to_first, first_in)) in
-    let to_known = two.0 in
-    let to_both = two.1 in
-    let rest = first_low (earlier_of known (earlier_of e.first.refused e.second.refused)) ends n (omega (arith, to_known, h)) (λ p low. each (suc p) (omega (arith, low))) in
-    let low = rest.0 in (
-      omega (arith, low, to_known),
-      each_more (NotBefore n (stop_or (first_of known (e ∷ ends)) n)) e ends (omega (arith, low, to_both, to_first), omega (arith, low, to_both, to_second)) rest.1,
-    )
-
--- ---- of eight contexts
-
+-- context k of each recorder, and context k + 4
 each_context : (F : ℕ → ContextEnd → Type 0) (ends : List RecordingEnd) → ((p : ℕ) → p < 4 → F p (pair_at ends p).first × F (p + 4) (pair_at ends p).second) → (k : ℕ) → k < 8 → F k (end_at ends k)
 each_context F ends each k low = by (nat_lt k 4) refl
   where
@@ -94,52 +40,76 @@ each_context F ends each k low = by (nat_lt k 4) refl
         let back : k - 4 + 4 ≡ k = omega (arith, more) in
         subst (λ j. F j (pair_at ends (k - 4)).second) back (each (k - 4) (omega (arith, more, low))).1
 
-within : (ls : List Line) (k : ℕ) (e : ContextEnd) → IsEnd ls k e → stop_or e.refused (length ls) ≤ length ls
-within ls k e h = by e.refused h.stop_is
-  where
-    by : (s : Option RefusedLine) → IsStopOf ls k (length ls) s → stop_or s (length ls) ≤ length ls
-    by None is = omega arith
-    by (Some s) is = let low = is.0 in omega (arith, low)
+module _ (ls : List Line) where
+  abbrev place_of : Option RefusedLine → ℕ
+  place_of o = stop_or o (length ls)
+
+  within : (o : Option RefusedLine) → IsStopOfSome ls o → place_of o ≤ length ls
+  within None is = omega arith
+  within (Some s) is = let low = is.2.0 in omega (arith, low)
+
+  -- the earlier of two is one of them, and behind neither
+  both : (a b : Option RefusedLine) → IsStopOfSome ls a → IsStopOfSome ls b → IsStopOfSome ls (earlier_of a b) × (place_of (earlier_of a b) ≤ place_of a) × (place_of (earlier_of a b) ≤ place_of b)
+  both None b p q = (q, within b q, omega arith)
+  both (Some a) None p q = (p, omega arith, within (Some a) p)
+  both (Some a) (Some b) p q = by (nat_lt b.place a.place) refl
+    where
+      by : (t : Bool) → nat_lt b.place a.place ≡ t → IsStopOfSome ls (cond t (Some b) (Some a)) × (place_of (cond t (Some b) (Some a)) ≤ a.place) × (place_of (cond t (Some b) (Some a)) ≤ b.place)
+      by true e = let less : b.place < a.place = grind (arith, nat_tests) in (q, omega (arith, less), omega arith)
+      by false e = let more : a.place ≤ b.place = grind (arith, nat_tests) in (p, omega arith, more)
+
+  abbrev AreStops : RecordingEnd → Type 0
+  AreStops e = IsStopOfSome ls e.first.refused × IsStopOfSome ls e.second.refused
+
+  abbrev NotBefore : ℕ → RecordingEnd → Type 0
+  NotBefore n e = (n ≤ place_of e.first.refused) × (n ≤ place_of e.second.refused)
+
+  -- the first is one of them, or was known, and none of them is before it
+  first_is : (known : Option RefusedLine) (ends : List RecordingEnd) → IsStopOfSome ls known → All AreStops ends → IsStopOfSome ls (first_of known ends) × (place_of (first_of known ends) ≤ place_of known) × All (NotBefore (place_of (first_of known ends))) ends
+  first_is known [] h stops = (h, omega arith, All-nil (NotBefore (place_of known)))
+  first_is known (e ∷ ends) h stops =
+      let here = All-head AreStops e ends stops in
+      let pair = both e.first.refused e.second.refused here.0 here.1 in
+      let two = both known (earlier_of e.first.refused e.second.refused) h pair.0 in
+      let rest = first_is (earlier_of known (earlier_of e.first.refused e.second.refused)) ends two.0 (All-tail AreStops e ends stops) in (
+        rest.0,
+        omega (arith, rest.1, two.1),
+        All-cons (NotBefore (place_of (first_of known (e ∷ ends)))) e ends (omega (arith, rest.1, two.2, pair.1), omega (arith, rest.1, two.2, pair.2)) rest.2,
+      )
 
 module _ (ls : List Line) (ends : List RecordingEnd) (are : AreEnds ls ends) where
-  four : length ends ≡ 4
-  four = are.0
+  ended : (k : ℕ) → k < 8 → IsEnd ls k (end_at ends k)
+  ended = each_context (IsEnd ls) ends (λ p low. ((are.1 p low).first_is, (are.1 p low).second_is))
 
-  ended : (p : ℕ) → p < length ends → AreEnded ls p (pair_at ends p)
-  ended p few = are.1 p (omega (arith, few, four))
+  stop : (k : ℕ) → k < 8 → (s : Option RefusedLine) → IsStopOf ls k (length ls) s → IsStopOfSome ls s
+  stop k low None is = tt
+  stop k low (Some s) is = (k, low, is)
 
-  h : (k : ℕ) → k < 8 → IsEnd ls k (end_at ends k)
-  h = each_context (IsEnd ls) ends (λ p low. ((are.1 p low).first_is, (are.1 p low).second_is))
+  abbrev none : RecordingEnd
+  none = record { first = no_end; second = no_end }
+
+  stops : All (AreStops ls) ends
+  stops =
+      All-from_get_or (AreStops ls) ends none
+      (λ p few. let e = are.1 p (omega (arith, few, are.0)) in (stop p (omega (arith, few, are.0)) _ e.first_is.stop_is, stop (p + 4) (omega (arith, few, are.0)) _ e.second_is.stop_is))
 
   abbrev first : Option RefusedLine
   first = first_of None ends
 
-  none_before : (k : ℕ) → k < 8 → stop_or first (length ls) ≤ stop_or (end_at ends k).refused (length ls)
-  none_before =
-      each_context (λ k e. stop_or first (length ls) ≤ stop_or e.refused (length ls)) ends
-      (λ p low. (first_low None ends (length ls) (omega arith) (λ q few. (within ls q _ (ended q few).first_is, within ls (q + 4) _ (ended q few).second_is))).1 p (omega (arith, low, four)))
-
-  stop_is : IsStopOfSome ls first
-  stop_is =
-      first_is (IsStopOfSome ls) None ends tt
-      (λ p few. (some p (omega (arith, few, four)) _ (ended p few).first_is.stop_is, some (p + 4) (omega (arith, few, four)) _ (ended p few).second_is.stop_is))
-    where
-      some : (k : ℕ) → k < 8 → (s : Option RefusedLine) → IsStopOf ls k (length ls) s → IsStopOfSome ls s
-      some k low None is = tt
-      some k low (Some s) is = (k, low, is)
+  none_before : (k : ℕ) → k < 8 → place_of ls first ≤ place_of ls (end_at ends k).refused
+  none_before = each_context (λ k e. place_of ls first ≤ place_of ls e.refused) ends (λ p low. (first_is ls None ends tt stops).2 p none (omega (arith, low, are.0)))
 
   pub all_recorded : (missing : Option (ℕ × ℕ)) → MatchOption missing (Unit {0}) (λ name. name.0 < 8 → EndsLack ends name.0 name.1) → AreRecorded ls first missing
   all_recorded missing lacks = record {
-    accepted = λ k low. accepts_less ls k _ _ (none_before k low) (h k low).accepts;
-    stop_is = stop_is;
+    accepted = λ k low. accepts_less ls k _ _ (none_before k low) (ended k low).accepts;
+    stop_is = (first_is ls None ends tt stops).0;
     missing_is = match_more missing (λ name lack low. fewer name.0 name.1 low (lack low)) lacks;
   }
     where
       fewer : (k n : ℕ) → k < 8 → EndsLack ends k n → Lacks ls first k n
       fewer k n low lack =
-          let count = (h k low).counted in
-          let less = fewer_lists ls k (stop_or first (length ls)) (stop_or (end_at ends k).refused (length ls)) (none_before k low) in
-          omega (arith, lack, count, less)
+          let less = fewer_lists ls k (place_of ls first) (place_of ls (end_at ends k).refused) (none_before k low) in
+          omega (arith, lack, (ended k low).counted, less)
 
 -- ---- of four recorders
 

@@ -5,9 +5,9 @@ use Rattle.gfxspec.specs.declared.error.GfxError.TheVariants.{OutOfMemory}
 use Rattle.gfxspec.specs.Commands.{Command}
 use Rattle.gfxspec.specs.Refusals.{first_row}
 use Rattle.scenetext.specs.Scene.{Line, Immediate, Flush}
+use Rattle.scenetext.specs.Spelling.{is_deferred}
 use Rattle.recorders.specs.declared.ports.Recorded.{Recorded}
 use Rattle.recorders.specs.declared.refusal.RefusedLine.{RefusedLine}
-use Rattle.recorders.specs.Lists.{is_of}
 use Rattle.recorders.specs.Recording.{recording_of}
 use Rattle.recorders.specs.Calls.{deferred_rows}
 
@@ -39,7 +39,7 @@ refused_by ls k j = first_row (deferred_rows (recording_of k (take j ls)).curren
 
 -- the lines of context k among the first i are accepted
 abbrev pub AcceptsTo : List Line → ℕ → ℕ → Type 0
-AcceptsTo ls k i = (j : ℕ) → j < i → is_of k (line_at ls j).actor ≡ true → refused_by ls k j ≡ None
+AcceptsTo ls k i = (j : ℕ) → j < i → is_deferred k (line_at ls j).actor ≡ true → refused_by ls k j ≡ None
 
 -- a refusal has this cause, or memory was refused
 abbrev pub Cause : Option GfxError → GfxError → Type 0
@@ -53,4 +53,4 @@ stop_or (Some s) n = s.place
 -- context k refused a line among the first n, or memory was refused in it
 abbrev pub IsStopOf : List Line → ℕ → ℕ → Option RefusedLine → Type 0
 IsStopOf ls k n None = Unit {0}
-IsStopOf ls k n (Some s) = (s.place < n) × (is_of k (line_at ls s.place).actor ≡ true) × Cause (refused_by ls k s.place) s.refusal
+IsStopOf ls k n (Some s) = (s.place < n) × (is_deferred k (line_at ls s.place).actor ≡ true) × Cause (refused_by ls k s.place) s.refusal

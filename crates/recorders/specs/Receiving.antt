@@ -4,7 +4,7 @@ use Rattle.atomic_table.specs.Seated.{TableId}
 use Rattle.gfxspec.specs.Commands.{Command}
 use Rattle.scenetext.specs.Scene.{Line}
 use Rattle.port.specs.declared.submission.Submission.{Submission}
-use Rattle.port.specs.History.{PortHistory, of_port, port_history, drain_history, AreAll}
+use Rattle.port.specs.History.{PortHistory, port_history, drain_history, AreAll}
 use Rattle.recorders.specs.declared.ports.Passes.{Passes}
 use Rattle.recorders.specs.declared.ports.RecorderResults.{RecorderResults}
 use Rattle.recorders.specs.declared.ports.Returned.{Returned}
@@ -20,9 +20,9 @@ use Rattle.recorders.specs.Rows.{row}
 use Rattle.recorders.specs.Asking.{Asked}
 use Rattle.recorders.specs.Ending.{AreEnds, EndsLack}
 
--- what was taken of each port are the lists that their contexts and numbers name
+-- what was taken of the four ports are the lists that their contexts and numbers name
 abbrev pub TakenAgrees : List Line → List (Submission (Recorded (List Command))) → Type 0
-TakenAgrees ls taken = (p : ℕ) → p < 4 → All (IsListed ls) (lists_sent (of_port p taken))
+TakenAgrees ls taken = All (λ s. s.port < 4 → IsListed ls s.list) taken
 
 -- what ports sent are the lists that their contexts and numbers name
 abbrev pub SentAgrees : List Line → List (PortHistory (Recorded (List Command))) → Type 0

@@ -1,9 +1,9 @@
--- What a deferred context has recorded: its finished lists, and the list that it is recording; and what one more of its verbs changes. The definition (`Lists`) looks over all lines of the context; this goes along with them, and a law ties the two.
-use Rattle.std.specs.Prelude.{ℕ, List, [], ◌∷◌, ◌++◌, filter_map}
+-- What a deferred context records by its own lines: its finished lists, and the list that it is recording (Microsoft Learn, "Immediate and Deferred Rendering").
+use Rattle.std.specs.Prelude.{ℕ, List, [], ◌∷◌, ◌++◌, fold, if◌then◌else◌}
 use Rattle.gfxspec.specs.Commands.{Command}
 use Rattle.gfxspec.specs.Recorded.{after_finish}
 use Rattle.scenetext.specs.Scene.{Verb, Call, Finish, Line}
-use Rattle.recorders.specs.Lists.{verb_of}
+use Rattle.scenetext.specs.Spelling.{is_deferred}
 
 pub record Recording : Type 0 where
   pub lists : List (List Command)
@@ -12,16 +12,15 @@ pub record Recording : Type 0 where
 abbrev pub nothing_recorded : Recording
 nothing_recorded = record { lists = []; current = [] }
 
-abbrev pub recording_with : Verb → Recording → Recording
-recording_with (Call c) r = record { lists = r.lists; current = r.current ++ c ∷ [] }
-recording_with (Finish restore) r =
-    record { lists = r.lists ++ r.current ∷ []; current = after_finish restore r.current }
-recording_with v r = r
+abbrev pub with_verb : Recording → Verb → Recording
+with_verb r (Call c) = record { lists = r.lists; current = r.current ++ c ∷ [] }
+with_verb r (Finish restore) = record { lists = r.lists ++ r.current ∷ []; current = after_finish restore r.current }
+with_verb r v = r
 
-abbrev pub recording_after : Recording → List Verb → Recording
-recording_after r [] = r
-recording_after r (v ∷ vs) = recording_after (recording_with v r) vs
+-- of context k, behind one more line
+abbrev pub with_line : ℕ → Recording → Line → Recording
+with_line k r l = if is_deferred k l.actor then with_verb r l.verb else r
 
 -- of context k, behind some lines
 abbrev pub recording_of : ℕ → List Line → Recording
-recording_of k earlier = recording_after nothing_recorded (filter_map (verb_of k) earlier)
+recording_of k earlier = fold (with_line k) nothing_recorded earlier

@@ -2,7 +2,7 @@
 
 ghost use Rattle.std.specs.Prelude.{◌≡◌, ◌<◌, ◌+◌, ◌^◌, OnOk, IfErr, map};
 ghost use Rattle.scenetext.specs.Seen.{actor_value, verb_value, line_value};
-ghost use Rattle.recorders.specs.Lists.{is_of};
+ghost use Rattle.scenetext.specs.Spelling.{is_deferred};
 ghost use Rattle.recorders.specs.Taking.{starting, VerbTaken, VerbRefused, HasTaken};
 ghost use Rattle.recorders.specs.Recorders.{IsRecording};
 
@@ -34,7 +34,7 @@ impl<A: Allocator> Model for ContextRecorder<A> {
 
 /// Whether a line is one of this deferred context.
 fn is_line_of<A: Allocator>(line: &Line<A>, context: u32) -> bool
-    ensures { result ≡ is_of context (actor_value line.now.actor) }
+    ensures { result ≡ is_deferred context (actor_value line.now.actor) }
 {
     matches!(line.actor, Actor::Deferred(actor) if actor == context)
 }
@@ -114,8 +114,6 @@ pub(crate) fn record_lines<A: Allocator + Copy, S: ListSink<CommandList<A>>>(
         first.take(place, line, sink);
         second.take(place, line, sink);
     }
-    RecordingEnd {
-        first: first.end,
-        second: second.end,
-    }
+    let (first, second) = (first.end, second.end);
+    RecordingEnd { first, second }
 }

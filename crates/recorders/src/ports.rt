@@ -2,8 +2,7 @@
 
 ghost use Rattle.std.specs.Prelude.{◌≡◌, ◌<◌, ℕ, List, Option, IfOk, MatchOption};
 ghost use Rattle.scenetext.specs.Scene.{Line as PlainLine};
-ghost use Rattle.port.specs.History.{AreAll};
-ghost use Rattle.recorders.specs.Receiving.{AreNew, AreResults, TakenAgrees, SentAgrees, ResultsLack, AreBack};
+ghost use Rattle.recorders.specs.Receiving.{AreNew, AreResults, TakenAgrees, ResultsLack, AreBack};
 ghost use Rattle.recorders.specs.Ending.{AreRecorded};
 
 use crate::refusal::{RecordingEnd, RefusedLine, first_refused};
@@ -66,31 +65,6 @@ pub fn open_ports<A: Allocator + Copy>(alloc: A) -> Result<(ListPorts<A>, Passes
     Ok((made.0, Passes { recorders, drain }))
 }
 
-/// Takes out what nobody asked for, until all that was sent is taken, and settles the ports.
-fn settle_all<A: Allocator, R: Wait>(
-    rt: &R,
-    ports: ListPorts<A>,
-    passes: [ListPass<A>; 4],
-    drain: DrainPass<RecordedList<A>>,
-)
-    requires { AreAll ports.queue passes × (drain.queue ≡ ports.queue) }
-    ensures { (ls : List PlainLine) → SentAgrees ls passes → TakenAgrees ls drain.taken }
-{
-    let (mut ports, mut passes, mut drain) = (ports, passes, drain);
-    for _ in rt.forever() {
-        match ports.settle(passes, drain) {
-            Ok(_) => return,
-            Err(back) => {
-                ports = back.1;
-                passes = back.2;
-                drain = back.3;
-                ports.next(rt, &mut drain);
-            }
-        }
-    }
-    unreachable!()
-}
-
 /// Takes out what nobody asked for, settles the ports of joined recorders, and answers the first line that a deferred
 /// context refused. A list that was missing is not finished before it.
 pub fn settle<A: Allocator, R: Wait>(
@@ -106,6 +80,6 @@ pub fn settle<A: Allocator, R: Wait>(
     let Returned { results, drain } = returned;
     let RecorderResults { passes, ends } = results;
     let ByPort(zero, one, two, three) = passes;
-    settle_all(rt, ports, [zero, one, two, three], drain);
+    ports.drain_and_settle(rt, [zero, one, two, three], drain);
     first_refused(&ends)
 }

@@ -106,9 +106,7 @@ impl<'a, A: Allocator + Copy, R: Threads + Wait> ReceivedLists<'a, A, R> {
         self.rows.add_all(kept);
         end
     }
-}
 
-impl<'a, A: Allocator, R: Threads + Wait> ReceivedLists<'a, A, R> {
     /// Joins all recorders, and gives what they handed over.
     pub fn close(self) -> Returned<A>
         ensures results { AreResults self.entry.lines self.entry.queue result.results }
@@ -120,14 +118,10 @@ impl<'a, A: Allocator, R: Threads + Wait> ReceivedLists<'a, A, R> {
         let one = one.close(self.rt);
         let two = two.close(self.rt);
         let three = three.close(self.rt);
-        let results = RecorderResults {
-            passes: ByPort(zero.pass, one.pass, two.pass, three.pass),
-            ends: [zero.end, one.end, two.end, three.end],
-        };
-        Returned {
-            results,
-            drain: self.drain,
-        }
+        let passes = ByPort(zero.pass, one.pass, two.pass, three.pass);
+        let ends = [zero.end, one.end, two.end, three.end];
+        let (results, drain) = (RecorderResults { passes, ends }, self.drain);
+        Returned { results, drain }
     }
 }
 
@@ -146,9 +140,6 @@ impl<'a, A: Allocator + Copy, R: Threads + Wait> ListSource<CommandList<A>>
     ghost lacks = { ReceiptLacks };
 
     fn seek(&mut self, context: u32, number: u32) -> Result<bool, AllocError> {
-        if self.rows.has(context, number) {
-            return Ok(true);
-        }
         self.take_all();
         if self.rows.has(context, number) {
             return Ok(true);

@@ -41,7 +41,7 @@ pub struct RecorderResult<A: Allocator> {
 pub(crate) struct RecorderTask<'a, A: Allocator> {
     lines: &'a [Line<A>],
     ports: &'a ListPorts<A>,
-    number: u32,
+    port: u32,
 }
 
 impl<'a, A: Allocator> Promise<RecorderResult<A>> for RecorderTask<'a, A> {
@@ -49,7 +49,7 @@ impl<'a, A: Allocator> Promise<RecorderResult<A>> for RecorderTask<'a, A> {
     ghost use Rattle.scenetext.specs.Seen.{line_value};
     ghost use Rattle.recorders.specs.Receiving.{IsResultOf};
 
-    ghost kept_by = { λ p r. IsResultOf (map line_value p.lines.now) p.ports.now.queue p.number r };
+    ghost kept_by = { λ p r. IsResultOf (map line_value p.lines.now) p.ports.now.queue p.port r };
 }
 
 /// A recorder's thread, or what it handed over.
@@ -57,19 +57,19 @@ impl<'a, A: Allocator> Promise<RecorderResult<A>> for RecorderTask<'a, A> {
 pub(crate) struct Recorder<'a, A: Allocator> {
     task: RecorderTask<'a, A>,
     thread: Option<PromisedHandle<RecorderResult<A>, RecorderTask<'a, A>>>,
-    result: Option<RecorderResult<A>>,
+    done: Option<RecorderResult<A>>,
 }
 
 impl<'a, A: Allocator> Model for Recorder<'a, A> {
-    ghost use Rattle.std.specs.Prelude.{◌≡◌, map, MatchOption, IsSome};
+    ghost use Rattle.std.specs.Prelude.{◌≡◌, None, map, MatchOption, IsSome};
     ghost use Rattle.scenetext.specs.Seen.{line_value};
     ghost use Rattle.recorders.specs.Receiving.{RecorderSeen, IsResultOf};
 
     ghost Value = { RecorderSeen A };
 
-    ghost view = { λ d. record { task = record { lines = map line_value d.task.lines.now; queue = d.task.ports.now.queue; number = d.task.number }; result = d.result } };
+    ghost view = { λ d. record { task = record { lines = map line_value d.task.lines.now; queue = d.task.ports.now.queue; number = d.task.port }; result = d.done } };
 
-    ghost invariant = { λ d. MatchOption d.thread (IsSome d.result) (λ h. h.promise ≡ d.task) × MatchOption d.result (Unit {0}) (IsResultOf (map line_value d.task.lines.now) d.task.ports.now.queue d.task.number) };
+    ghost invariant = { λ d. MatchOption d.thread (IsSome d.done) (λ h. (h.promise ≡ d.task) × (d.done ≡ None)) × MatchOption d.done (Unit {0}) (IsResultOf (map line_value d.task.lines.now) d.task.ports.now.queue d.task.port) };
 }
 
 /// Takes the lines of contexts `number` and `number + 4`, and sends their lists.
@@ -85,11 +85,8 @@ fn record_and_send<A: Allocator + Copy, R: Wait, G: Gate>(
 {
     let mut sender = sender;
     let end = record_lines(alloc, lines, number, &mut sender);
-    RecorderResult {
-        pass: sender.pass,
-        kept: sender.kept,
-        end,
-    }
+    let ListSender { pass, kept, .. } = sender;
+    RecorderResult { pass, kept, end }
 }
 
 /// Whether a line is of one of the contexts of a recorder.
@@ -108,11 +105,11 @@ pub(crate) fn start<
     scope: &'s Scope<'s, E>,
     setup: &RecorderSetup<'s, A, R, G>,
     pass: ListPass<A>,
-    number: u32,
+    port: u32,
 ) -> Recorder<'s, A>
-    requires pass { pass ≡ port_history setup.now.ports.now.queue number [] }
-    requires number { number < 4 }
-    ensures { result.task ≡ record { lines = map line_value setup.now.lines.now; queue = setup.now.ports.now.queue; number = number } }
+    requires pass { pass ≡ port_history setup.now.ports.now.queue port [] }
+    requires port { port < 4 }
+    ensures { result.task ≡ record { lines = map line_value setup.now.lines.now; queue = setup.now.ports.now.queue; number = port } }
 {
     let (alloc, ports, lines) = (setup.alloc, setup.ports, setup.lines);
     let sender = ListSender {
@@ -122,38 +119,29 @@ pub(crate) fn start<
         pass,
         kept: Vec::new(alloc),
     };
-    let task = RecorderTask {
-        lines,
-        ports,
-        number,
-    };
+    let task = RecorderTask { lines, ports, port };
     let promise = RecorderTask { ..task };
-    if !has_lines(lines, number) {
-        return Recorder {
-            task,
-            thread: None,
-            result: Some(record_and_send(alloc, lines, sender, number)),
-        };
+    if !has_lines(lines, port) {
+        let done = Some(record_and_send(alloc, lines, sender, port));
+        let thread = None;
+        return Recorder { task, thread, done };
     }
-    let record = move || record_and_send(alloc, lines, sender, number);
-    let (thread, result) = match scope.spawn_with(promise, record) {
+    let record = move || record_and_send(alloc, lines, sender, port);
+    let (thread, done) = match scope.spawn_with(promise, record) {
         Ok(thread) => (Some(thread), None),
         Err(refused) => (None, Some((refused.value)())),
     };
-    Recorder {
-        task,
-        thread,
-        result,
-    }
+    Recorder { task, thread, done }
 }
 
 impl<'a, A: Allocator> Recorder<'a, A> {
     /// Joins the thread, if it was not joined.
     fn wait<R: Threads>(&mut self, rt: &R)
-        ensures { (self.new.task ≡ self.old.task) × IsSome self.new.result }
+        ensures joined { (self.new.task ≡ self.old.task) × IsSome self.new.result }
+        ensures stays { MatchOption self.old.result (Unit {0}) (λ r. self.new.result ≡ Some r) }
     {
         if let Some(thread) = self.thread.take() {
-            self.result = Some(thread.join(rt));
+            self.done = Some(thread.join(rt));
         }
     }
 
@@ -168,24 +156,22 @@ impl<'a, A: Allocator> Recorder<'a, A> {
         ensures end { EndsWith self.new.result result.1 }
     {
         self.wait(rt);
-        match &mut self.result {
+        match &mut self.done {
             None => unreachable!(),
             Some(result) => (mem::replace(&mut result.kept, Vec::new(alloc)), result.end),
         }
     }
 
     /// Joins the thread, if it was not joined, and gives what it handed over.
-    pub(crate) fn close<R: Threads>(self, rt: &R) -> RecorderResult<A>
+    pub(crate) fn close<R: Threads>(mut self, rt: &R) -> RecorderResult<A>
         ensures result { IsResultOf self.entry.task.lines self.entry.task.queue self.entry.task.number result }
         ensures same { MatchOption self.entry.result (Unit {0}) (λ r. result ≡ r) }
     {
-        let Recorder { thread, result, .. } = self;
-        if let Some(result) = result {
-            return result;
-        }
-        match thread {
-            Some(thread) => thread.join(rt),
+        self.wait(rt);
+        let Recorder { done, .. } = self;
+        match done {
             None => unreachable!(),
+            Some(result) => result,
         }
     }
 }

@@ -1,4 +1,4 @@
-use Rattle.std.proofs.Common.{◌≡◌, ◌≤◌, ◌+◌, map, length}
+use Rattle.std.proofs.Common.{◌≡◌, ◌+◌, map, length}
 use Rattle.std.specs.Prelude.{All}
 use Rattle.scenetext.specs.Seen.{line_value}
 use Rattle.recorders.specs.Apart.{IsListed}
@@ -12,5 +12,4 @@ invariant-loop-place g l = record {
   second : IsAt (map line_value l.lines) (l.number + 4) l.place l.second;
   listed : All (IsListed (map line_value l.lines)) (g.S.ListSink.put_lists l.fn.sink) → All (IsListed (map line_value l.lines)) (g.S.ListSink.put_lists l.sink);
   whole : length (g.S.ListSink.put_lists l.sink) ≡ length (g.S.ListSink.put_lists l.fn.sink) + l.first.end.lists + l.second.end.lists;
-  few : (l.first.end.lists ≤ l.place) × (l.second.end.lists ≤ l.place);
 }
