@@ -1,17 +1,16 @@
 -- A write for a blend state and a source colour, where bits of the stored colours are still to be flipped.
-use Rattle.std.proofs.Common.{◌≡◌, ◌∙◌, ap, sym, refl, arith, ℕ, zero, suc, ◌+◌, ◌%◌, ◌<◌, ◌≤◌, ◌^◌, List, length, get_or, min}
+use Rattle.std.proofs.Common.{◌≡◌, ◌∙◌, ap, sym, refl, arith, ℕ, zero, suc, ◌+◌, ◌%◌, ◌<◌, ◌^◌, List, length, get_or, min}
 use Rattle.std.specs.Prelude.{bit_and, bit_xor}
 use Rattle.std.specs.Int.{bit_at, to_le_bytes, from_le_bytes, w32}
 use Rattle.std.specs.Int.Bits.{xor_assoc, xor_zero_l, xor_zero_r, and_zero_r}
 use Rattle.std.proofs.lemmas.Nat.{and_le_l, and_mask, xor_lt, from_le_bytes-to_le_bytes_4, le_bytes_4}
 use Rattle.std.proofs.lemmas.Nat.Bits.{bit_at-lt, bit_at_and, bit_at_xor, same_from_bits}
-use Rattle.gfxspec.specs.declared.pixel.Pixel.{Pixel}
 use Rattle.gfxspec.specs.Color.{BlendSetting, written_color}
 use Rattle.logicop.specs.declared.color_write.ColorWrite.{ColorWrite}
 use Rattle.logicop.specs.Packed.{Writes}
 use Rattle.logicop.proofs.Steps.{written_bytes}
 use Rattle.tileblock.specs.Block.{Block, pixel_at, span_of, value_at}
-use Rattle.tileprog.specs.Painting.{painted_with, flipped_color, flipped, stands_for, written, PaintsAs}
+use Rattle.tileprog.specs.Painting.{painted_with, flipped_color, stands_for, written, PaintsAs}
 
 byte_small : (n k : ℕ) → get_or (to_le_bytes w32 n) k 0 < 256
 byte_small n zero = omega arith

@@ -1,5 +1,4 @@
 use Rattle.std.proofs.Common.{◌∙◌, ap, sym}
-use Rattle.tileblock.specs.Block.{pixel_at}
 use Rattle.tileprog.specs.Painting.{stands_for}
 use Rattle.tileprog.proofs.Painted.{stands_itself, flip_written}
 use Rattle.tileprog.proofs.paint.flip_tile.Goals as goal

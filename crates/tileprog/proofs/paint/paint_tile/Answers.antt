@@ -1,7 +1,6 @@
-use Rattle.std.proofs.Common.{◌≡◌, ◌∙◌, ap, sym, ◌%◌, ◌<◌, ◌^◌, ℕ, List, length, get_or, rules}
-use Rattle.std.specs.Prelude.{bit_xor}
+use Rattle.std.proofs.Common.{◌≡◌, ◌∙◌, ap, ◌%◌, ◌<◌, ℕ, List, length, get_or, rules}
 use Rattle.tileblock.specs.Block.{pixel_at, span_of, value_at}
-use Rattle.tileprog.specs.Painting.{flipped, stands_for, written}
+use Rattle.tileprog.specs.Painting.{flipped}
 use Rattle.tileprog.proofs.Painted.{flips_later, paints_all}
 use Rattle.tileprog.proofs.paint.paint_tile.Goals as goal
 

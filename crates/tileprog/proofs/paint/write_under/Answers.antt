@@ -1,4 +1,4 @@
-use Rattle.std.proofs.Common.{◌≡◌, ◌<◌, ◌^◌, ℕ, length, get_or, rules}
+use Rattle.std.proofs.Common.{◌≡◌, ◌<◌, ℕ, length, get_or, rules}
 use Rattle.tileprog.proofs.Painted.{paints_under}
 use Rattle.tileprog.proofs.paint.write_under.Goals as goal
 
