@@ -13,9 +13,9 @@ changed c v = bit_xor ((min (v + c.raise) 255 - c.lower + c.turn) % 256) c.flip
 pub record IsChange (c : ByteChange) (op : StencilOp) (reference : ℕ) : Type 0 where
   pub gives : (v : ℕ) → v < 256 → changed c v ≡ stencil_result op v reference
 
--- the same at value j of sixteen
+-- the same at value j of eight
 abbrev pub changed_at : ByteChanges → ℕ → ℕ → ℕ
 changed_at c j v = bit_xor ((min (v + slice_index c.raise j) 255 - slice_index c.lower j + slice_index c.turn j) % 256) (slice_index c.flip j)
 
 pub record AreChanges (c : ByteChanges) (op : StencilOp) (reference : ℕ) : Type 0 where
-  pub gives : (j v : ℕ) → j < 16 → v < 256 → changed_at c j v ≡ stencil_result op v reference
+  pub gives : (j v : ℕ) → j < 8 → v < 256 → changed_at c j v ≡ stencil_result op v reference

@@ -12,8 +12,8 @@ pub record IsTest (t : Inside) : Type 0 where
   pub func : t.func ≡ (rule_of t).face.func
   pub compared : t.compared ≡ replicate 8 (bit_and t.reference t.state.read_mask)
   pub read_mask : t.read_mask ≡ replicate 8 t.state.read_mask
-  pub write_mask : t.write_mask ≡ replicate 16 t.state.write_mask
-  pub kept_mask : t.kept_mask ≡ replicate 16 (255 - t.state.write_mask)
+  pub write_mask : t.write_mask ≡ replicate 8 t.state.write_mask
+  pub kept_mask : t.kept_mask ≡ replicate 8 (255 - t.state.write_mask)
   pub mask_fits : t.state.write_mask ≤ 255
   pub fail : AreChanges t.fail (rule_of t).face.fail t.reference
   pub depth_fail : AreChanges t.depth_fail (rule_of t).face.depth_fail t.reference

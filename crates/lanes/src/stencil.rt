@@ -1,6 +1,6 @@
 //! The stencil test of eight pixels, and of two rows of them.
 
-ghost use Rattle.std.specs.Prelude.{◌≡◌, ℕ, ◌<◌, ◌==◌, true, IsTrue, bit_and, bit_xor, slice_index, if◌then◌else◌, min, ◌+◌, ◌-◌, ◌%◌, ◌++◌};
+ghost use Rattle.std.specs.Prelude.{◌≡◌, ℕ, ◌<◌, ◌==◌, true, IsTrue, bit_and, bit_or, bit_xor, slice_index, if◌then◌else◌, min, ◌+◌, ◌-◌, ◌%◌, ◌++◌};
 ghost use Rattle.std.specs.Int.{bit_at};
 ghost use Rattle.gfxspec.specs.DepthStencil.{compares, masked};
 ghost use Rattle.lanes.specs.Stencil.{has, reference_passes, stencil_after};
@@ -45,14 +45,14 @@ impl ByteChange {
     }
 }
 
-/// A change of sixteen values side by side: each of its numbers stands there sixteen times, so that a loop over spans reads them as
+/// A change of eight values side by side: each of its numbers stands there eight times, so that a loop over spans reads them as
 /// they are.
 #[derive(Clone, Copy, Debug)]
 struct ByteChanges {
-    raise: [u8; 16],
-    lower: [u8; 16],
-    turn: [u8; 16],
-    flip: [u8; 16],
+    raise: [u8; 8],
+    lower: [u8; 8],
+    turn: [u8; 8],
+    flip: [u8; 8],
 }
 
 impl ByteChanges {
@@ -62,17 +62,17 @@ impl ByteChanges {
     {
         let change = ByteChange::of(op, reference);
         ByteChanges {
-            raise: [change.raise; 16],
-            lower: [change.lower; 16],
-            turn: [change.turn; 16],
-            flip: [change.flip; 16],
+            raise: [change.raise; 8],
+            lower: [change.lower; 8],
+            turn: [change.turn; 8],
+            flip: [change.flip; 8],
         }
     }
 
-    /// Sixteen values changed.
+    /// Eight values changed.
     #[inline(always)]
-    fn onto_each(&self, stored: &[u8; 16]) -> [u8; 16]
-        ensures { (j : ℕ) → j < 16 → slice_index result j ≡ changed_at self.now j (slice_index stored.now j) }
+    fn onto_each(&self, stored: &[u8; 8]) -> [u8; 8]
+        ensures { (j : ℕ) → j < 8 → slice_index result j ≡ changed_at self.now j (slice_index stored.now j) }
     {
         let ByteChanges {
             raise,
@@ -82,10 +82,21 @@ impl ByteChanges {
         } = *self;
         turned_each(lowered_each(raised_each(*stored, raise), lower), turn, flip)
     }
+
+    /// Sixteen values changed, as two rows of eight.
+    #[inline(always)]
+    fn onto_both(&self, stored: [u8; 16]) -> [u8; 16]
+        ensures { (j : ℕ) → j < 8 → (slice_index result j ≡ changed_at self.now j (slice_index stored j)) × (slice_index result (8 + j) ≡ changed_at self.now j (slice_index stored (8 + j))) }
+    {
+        let raised = raised_both(stored, joined(&self.raise, &self.raise));
+        let lowered = lowered_both(raised, joined(&self.lower, &self.lower));
+        let turn = joined(&self.turn, &self.turn);
+        turned_both(lowered, turn, joined(&self.flip, &self.flip))
+    }
 }
 
 /// The stencil test of a depth-stencil state, of one face and with one reference, made once for many pixels. Contracts
-/// see it as these three. Numbers that stand beside eight values or sixteen stand there as often.
+/// see it as these three. Numbers that stand beside eight values stand there eight times.
 #[derive(Debug, Drop)]
 pub struct StencilTest {
     state: DepthStencilState,
@@ -94,8 +105,8 @@ pub struct StencilTest {
     func: Compare,
     compared: [u8; 8],
     read_mask: [u8; 8],
-    write_mask: [u8; 16],
-    kept_mask: [u8; 16],
+    write_mask: [u8; 8],
+    kept_mask: [u8; 8],
     fail: ByteChanges,
     depth_fail: ByteChanges,
     pass: ByteChanges,
@@ -133,8 +144,8 @@ impl StencilTest {
             func: face.func,
             compared: [reference & state.read_mask(); 8],
             read_mask: [state.read_mask(); 8],
-            write_mask: [mask; 16],
-            kept_mask: [!mask; 16],
+            write_mask: [mask; 8],
+            kept_mask: [!mask; 8],
             fail: ByteChanges::of(face.fail, reference),
             depth_fail: ByteChanges::of(face.depth_fail, reference),
             pass: ByteChanges::of(face.pass, reference),
@@ -179,22 +190,20 @@ impl StencilTest {
         byte_mask(self.func, &self.compared, &under(self.read_mask, *stored))
     }
 
-    /// What one operation leaves of sixteen values, in the bits of the write mask.
+    /// What one operation leaves of eight values, in the bits of the write mask.
     #[inline(always)]
-    fn changed_by(&self, change: ByteChanges, stored: &[u8; 16]) -> [u8; 16]
-        ensures { (j : ℕ) → j < 16 → slice_index result j ≡ masked self.now.setting.write_mask (changed_at change j (slice_index stored.now j)) (slice_index stored.now j) }
+    fn changed_by(&self, change: ByteChanges, stored: &[u8; 8]) -> [u8; 8]
+        ensures { (j : ℕ) → j < 8 → slice_index result j ≡ masked self.now.setting.write_mask (changed_at change j (slice_index stored.now j)) (slice_index stored.now j) }
     {
         self.masked_each(&change.onto_each(stored), stored)
     }
 
     /// The bits of new values where the write mask has ones, and else those of the old.
     #[inline(always)]
-    fn masked_each(&self, new: &[u8; 16], old: &[u8; 16]) -> [u8; 16]
-        ensures { (j : ℕ) → j < 16 → slice_index result j ≡ masked self.now.setting.write_mask (slice_index new.now j) (slice_index old.now j) }
+    fn masked_each(&self, new: &[u8; 8], old: &[u8; 8]) -> [u8; 8]
+        ensures { (j : ℕ) → j < 8 → slice_index result j ≡ masked self.now.setting.write_mask (slice_index new.now j) (slice_index old.now j) }
     {
-        let written = u8x16::from_array(*new) & u8x16::from_array(self.write_mask);
-        let kept = u8x16::from_array(*old) & u8x16::from_array(self.kept_mask);
-        (written | kept).to_array()
+        either_each(under(self.write_mask, *new), under(self.kept_mask, *old))
     }
 
     /// What is stored after the tests, where bit j of `passing` says whether the stencil test passes at value j, and
@@ -204,43 +213,46 @@ impl StencilTest {
     pub fn after(&self, stored: &[u8; 8], passing: u8, deep: u8) -> [u8; 8]
         ensures { (j : ℕ) → j < 8 → slice_index result j ≡ stencil_after self.now (has passing j) (has deep j) (slice_index stored.now j) }
     {
-        let twice = joined(stored, stored);
         if passing == 255 && deep == 0 {
-            return front_of(&self.changed_by(self.depth_fail, &twice));
+            return self.changed_by(self.depth_fail, stored);
         }
         if passing == 255 && deep == 255 {
-            return front_of(&self.changed_by(self.pass, &twice));
+            return self.changed_by(self.pass, stored);
         }
         let passed = select_bytes8(
             deep,
-            &front_of(&self.pass.onto_each(&twice)),
-            &front_of(&self.depth_fail.onto_each(&twice)),
+            &self.pass.onto_each(stored),
+            &self.depth_fail.onto_each(stored),
         );
-        let failed = front_of(&self.fail.onto_each(&twice));
-        let new = select_bytes8(passing, &passed, &failed);
-        front_of(&self.masked_each(&joined(&new, &new), &twice))
+        let new = select_bytes8(passing, &passed, &self.fail.onto_each(stored));
+        self.masked_each(&new, stored)
     }
 
-    /// What is stored after the tests at sixteen values at each of which the stencil test passes, and the depth test has one
-    /// outcome.
-    #[inline(always)]
-    fn operated(&self, stored: &[u8; 16], deep: bool) -> [u8; 16]
-        ensures { (j : ℕ) → j < 16 → slice_index result j ≡ stencil_after self.now true deep (slice_index stored.now j) }
-    {
-        if deep {
-            self.changed_by(self.pass, stored)
-        } else {
-            self.changed_by(self.depth_fail, stored)
-        }
-    }
-
-    /// The same in two rows of eight values.
+    /// What is stored after the tests at two rows of eight values, at each of which the stencil test passes, and the depth test has
+    /// one outcome.
     #[inline(always)]
     pub fn after_rows(&self, first: &[u8; 8], second: &[u8; 8], deep: bool) -> ([u8; 8], [u8; 8])
         ensures first { (j : ℕ) → j < 8 → slice_index result.0 j ≡ stencil_after self.now true deep (slice_index first.now j) }
         ensures second { (j : ℕ) → j < 8 → slice_index result.1 j ≡ stencil_after self.now true deep (slice_index second.now j) }
     {
-        let both = self.operated(&joined(first, second), deep);
+        let both = joined(first, second);
+        if deep {
+            self.both_masked(self.pass.onto_both(both), both)
+        } else {
+            self.both_masked(self.depth_fail.onto_both(both), both)
+        }
+    }
+
+    /// The bits of new values where the write mask has ones, and else those of the old, of two rows.
+    #[inline(always)]
+    fn both_masked(&self, new: [u8; 16], old: [u8; 16]) -> ([u8; 8], [u8; 8])
+        ensures first { (j : ℕ) → j < 8 → slice_index result.0 j ≡ masked self.now.setting.write_mask (slice_index new j) (slice_index old j) }
+        ensures second { (j : ℕ) → j < 8 → slice_index result.1 j ≡ masked self.now.setting.write_mask (slice_index new (8 + j)) (slice_index old (8 + j)) }
+    {
+        let write = u8x16::from_array(joined(&self.write_mask, &self.write_mask));
+        let keep = u8x16::from_array(joined(&self.kept_mask, &self.kept_mask));
+        let stored = (u8x16::from_array(new) & write) | (u8x16::from_array(old) & keep);
+        let both = stored.to_array();
         (front_of(&both), back_of(&both))
     }
 }
@@ -276,7 +288,7 @@ fn back_of(values: &[u8; 16]) -> [u8; 8]
 
 /// Sixteen values, each of which goes up by a number, no further than 255.
 #[inline(always)]
-fn raised_each(values: [u8; 16], by: [u8; 16]) -> [u8; 16]
+fn raised_both(values: [u8; 16], by: [u8; 16]) -> [u8; 16]
     ensures { (j : ℕ) → j < 16 → slice_index result j ≡ min (slice_index values j + slice_index by j) 255 }
 {
     u8x16::from_array(values)
@@ -286,7 +298,7 @@ fn raised_each(values: [u8; 16], by: [u8; 16]) -> [u8; 16]
 
 /// Sixteen values, each of which goes down by a number, no further than 0.
 #[inline(always)]
-fn lowered_each(values: [u8; 16], by: [u8; 16]) -> [u8; 16]
+fn lowered_both(values: [u8; 16], by: [u8; 16]) -> [u8; 16]
     ensures { (j : ℕ) → j < 16 → slice_index result j ≡ slice_index values j - slice_index by j }
 {
     u8x16::from_array(values)
@@ -296,11 +308,40 @@ fn lowered_each(values: [u8; 16], by: [u8; 16]) -> [u8; 16]
 
 /// Sixteen values, each of which goes up by a number, round from 255 to 0, and then has bits turned over.
 #[inline(always)]
-fn turned_each(values: [u8; 16], by: [u8; 16], flip: [u8; 16]) -> [u8; 16]
+fn turned_both(values: [u8; 16], by: [u8; 16], flip: [u8; 16]) -> [u8; 16]
     ensures { (j : ℕ) → j < 16 → slice_index result j ≡ bit_xor ((slice_index values j + slice_index by j) % 256) (slice_index flip j) }
 {
     let turned = u8x16::from_array(values) + u8x16::from_array(by);
     (turned ^ u8x16::from_array(flip)).to_array()
+}
+
+/// Eight values, each of which goes up by a number, no further than 255.
+#[inline(always)]
+fn raised_each(values: [u8; 8], by: [u8; 8]) -> [u8; 8]
+    ensures { (j : ℕ) → j < 8 → slice_index result j ≡ min (slice_index values j + slice_index by j) 255 }
+{
+    u8x8::from_array(values)
+        .saturating_add(u8x8::from_array(by))
+        .to_array()
+}
+
+/// Eight values, each of which goes down by a number, no further than 0.
+#[inline(always)]
+fn lowered_each(values: [u8; 8], by: [u8; 8]) -> [u8; 8]
+    ensures { (j : ℕ) → j < 8 → slice_index result j ≡ slice_index values j - slice_index by j }
+{
+    u8x8::from_array(values)
+        .saturating_sub(u8x8::from_array(by))
+        .to_array()
+}
+
+/// Eight values, each of which goes up by a number, round from 255 to 0, and then has bits turned over.
+#[inline(always)]
+fn turned_each(values: [u8; 8], by: [u8; 8], flip: [u8; 8]) -> [u8; 8]
+    ensures { (j : ℕ) → j < 8 → slice_index result j ≡ bit_xor ((slice_index values j + slice_index by j) % 256) (slice_index flip j) }
+{
+    let turned = u8x8::from_array(values) + u8x8::from_array(by);
+    (turned ^ u8x8::from_array(flip)).to_array()
 }
 
 /// The bits of a mask in each of eight values.
@@ -309,6 +350,14 @@ fn under(mask: [u8; 8], values: [u8; 8]) -> [u8; 8]
     ensures { (j : ℕ) → j < 8 → slice_index result j ≡ bit_and (slice_index values j) (slice_index mask j) }
 {
     (u8x8::from_array(values) & u8x8::from_array(mask)).to_array()
+}
+
+/// The bits that either of two values has, of eight side by side.
+#[inline(always)]
+fn either_each(a: [u8; 8], b: [u8; 8]) -> [u8; 8]
+    ensures { (j : ℕ) → j < 8 → slice_index result j ≡ bit_or (slice_index a j) (slice_index b j) }
+{
+    (u8x8::from_array(a) | u8x8::from_array(b)).to_array()
 }
 
 /// Bit j is set where the comparison holds of new value j, on the left, and old value j.

@@ -8,10 +8,10 @@ returns c = λ j h.
     let by = c.args.by in
     let x = slice_index xs j in
     let y = slice_index by j in
-    let lx : length xs ≡ 16 = search rules in
-    let lb : length by ≡ 16 = search rules in
+    let lx : length xs ≡ 8 = search rules in
+    let lb : length by ≡ 8 = search rules in
     let small : x < 256 = search rules in
     let few : y < 256 = search rules in
-    lane_of_both 16 (λ a b. (a + (256 - b)) % 256) _ (long_by_less 16 xs by by xs lx lb lb lx) j h by lb
-    ∙ (λ i. (lane_by_less 16 xs by by xs lx lb lb lx j h i + (256 - y)) % 256)
+    lane_of_both 8 (λ a b. (a + (256 - b)) % 256) _ (long_by_less 8 xs by by xs lx lb lb lx) j h by lb
+    ∙ (λ i. (lane_by_less 8 xs by by xs lx lb lb lx j h i + (256 - y)) % 256)
     ∙ down_to_the_end x y small few

@@ -9,13 +9,13 @@ returns c = λ j h.
     let by = c.args.by in
     let x = slice_index xs j in
     let y = slice_index by j in
-    let lx : length xs ≡ 16 = search rules in
-    let lb : length by ≡ 16 = search rules in
+    let lx : length xs ≡ 8 = search rules in
+    let lb : length by ≡ 8 = search rules in
     let room = map (λ v. 255 - v) xs in
-    let lr : length room ≡ 16 = length-map xs (λ v. 255 - v) ∙ lx in
+    let lr : length room ≡ 8 = length-map xs (λ v. 255 - v) ∙ lx in
     let small : x < 256 = search rules in
     let few : y < 256 = search rules in
     let room_is = get_or-map (λ v. 255 - v) xs j 0 0 (omega (arith, lx)) in
-    lane_of_both 16 (λ a b. (a + b) % 256) xs lx j h _ (long_by_less 16 by room by room lb lr lb lr)
-    ∙ ap (λ n. (x + n) % 256) (lane_by_less 16 by room by room lb lr lb lr j h ∙ (λ i. cond (ltb y (room_is i)) y (room_is i)))
+    lane_of_both 8 (λ a b. (a + b) % 256) xs lx j h _ (long_by_less 8 by room by room lb lr lb lr)
+    ∙ ap (λ n. (x + n) % 256) (lane_by_less 8 by room by room lb lr lb lr j h ∙ (λ i. cond (ltb y (room_is i)) y (room_is i)))
     ∙ up_to_the_end x y small few

@@ -9,8 +9,8 @@ returns c = λ j h.
     let xs = c.args.values in
     let by = c.args.by in
     let flip = c.args.flip in
-    let lx : length xs ≡ 16 = search rules in
-    let lb : length by ≡ 16 = search rules in
-    let lf : length flip ≡ 16 = search rules in
-    lane_of_both 16 bit_xor _ (long_both 16 add xs by lx lb) j h flip lf
-    ∙ (λ i. bit_xor (lane_of_both 16 add xs lx j h by lb i) (slice_index flip j))
+    let lx : length xs ≡ 8 = search rules in
+    let lb : length by ≡ 8 = search rules in
+    let lf : length flip ≡ 8 = search rules in
+    lane_of_both 8 bit_xor _ (long_both 8 add xs by lx lb) j h flip lf
+    ∙ (λ i. bit_xor (lane_of_both 8 add xs lx j h by lb i) (slice_index flip j))

@@ -8,6 +8,6 @@ returns c =
     let one = c.of-change.result in
     record {
       gives = λ j v h small.
-          (λ i. bit_xor ((min (v + get_or-replicate 16 j one.raise 0 h i) 255 - get_or-replicate 16 j one.lower 0 h i + get_or-replicate 16 j one.turn 0 h i) % 256) (get_or-replicate 16 j one.flip 0 h i))
+          (λ i. bit_xor ((min (v + get_or-replicate 8 j one.raise 0 h i) 255 - get_or-replicate 8 j one.lower 0 h i + get_or-replicate 8 j one.turn 0 h i) % 256) (get_or-replicate 8 j one.flip 0 h i))
           ∙ c.of-change.ensures.gives v small;
     }
