@@ -84,10 +84,7 @@ impl<A: Allocator + Copy> ContextRecorder<A> {
         ensures way { S.way sink.new ≡ S.way sink.old }
         ensures taken { HasTaken place (line_value line.now) self.old self.new (S.put_lists sink.old) (S.put_lists sink.new) }
     {
-        if self.end.refused.is_some() {
-            return;
-        }
-        if !is_line_of(line, self.context) {
+        if self.end.refused.is_some() || !is_line_of(line, self.context) {
             return;
         }
         if let Err(refusal) = self.take_verb(&line.verb, sink) {

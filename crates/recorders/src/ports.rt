@@ -56,9 +56,7 @@ pub struct Returned<A: Allocator> {
 pub fn open_ports<A: Allocator + Copy>(alloc: A) -> Result<(ListPorts<A>, Passes<A>), AllocError>
     ensures { IfOk result (λ opened. AreNew opened.0.queue opened.1) }
 {
-    let Ok(made) = Ports::new(alloc) else {
-        return Err(AllocError);
-    };
+    let made = Ports::new(alloc).or(Err(AllocError))?;
     let [zero, one, two, three] = made.1;
     let recorders = ByPort(zero, one, two, three);
     let drain = made.2;
