@@ -19,18 +19,14 @@ use Rattle.immediate.specs.Held.{Held, context_of, outputs_of}
 use Rattle.immediate.specs.Outputs.{performed_over}
 use Rattle.immediate.specs.Batched.{HasExecuted, executed_items}
 use Rattle.immediate.proofs.Drawn.{none_open, answers_stay, run_behind}
-use Rattle.sessions.specs.declared.answers.Mark.{Mark}
 use Rattle.sessions.specs.Lists.{actor_steps, steps_of}
 use Rattle.sessions.specs.Answers.{answer_of, refusal}
-use Rattle.sessions.specs.Telling.{IsTold}
-use Rattle.sessions.specs.Playing.{ListsOf, ImmediateAccepts, HasReached}
+use Rattle.sessions.specs.Playing.{ListsOf, ImmediateAccepts, IsTold, HasReached}
 use Rattle.binner.specs.declared.compiling.Compiling.{Compiling}
 use Rattle.binner.specs.Compiling.{HasCompiled}
 use Rattle.sessions.specs.Gathering.{IsKept, with_items, Follows, AreGathered, HasGoneOn}
 use Rattle.sessions.proofs.Played.{steps_of-push}
-use Rattle.sessions.proofs.Reaching.{is_line}
-use Rattle.sessions.proofs.Steps.{IsNext, executed_list}
-use Rattle.sessions.proofs.Tellings.{told_none}
+use Rattle.sessions.proofs.Steps.{is_line, told_none, IsNext, executed_list}
 
 -- its list is one of the eight contexts'
 pub names_one : (ls : List Line) (i : ℕ) (l : Line) (k n : ℕ) → IsNext ls i l → l.verb ≡ Execute k n true → k < 8
@@ -41,9 +37,9 @@ turned l v a e = rw (a, e) refl
 
 -- ---- one more line
 
-module _ {agrees : Type 0} (size : Size) (ls : List Line) (i : ℕ) (h : Held) (text : List ℕ) (marks : List Mark) (w : ℕ → ℕ → List Command) (list : List Command) (sound : AreLines [] ls) (right : ListsOf ls w) (kept : IsKept agrees w ls i list) (ok : agrees) (accepted : ImmediateAccepts size ls i) (told : IsTold size ls i text marks) where
+module _ {agrees : Type 0} (size : Size) (ls : List Line) (i : ℕ) (h : Held) (text : List ℕ) (w : ℕ → ℕ → List Command) (list : List Command) (sound : AreLines [] ls) (right : ListsOf ls w) (kept : IsKept agrees w ls i list) (ok : agrees) (accepted : ImmediateAccepts size ls i) (told : IsTold size ls i text) where
   -- of a context that shows these items, drawn on what is held
-  pub one_follows : (c : Context) (js : List Item) → Stands size (steps_of (take i ls)) c → queries_open c.pending ≡ [] → after_finish true c.pending ≡ after_finish true h.pending → ((x y : ℕ) → shown c x y ≡ after_items js x y (pixel_of h.surface x y)) → ((q : ℕ) → answered size c q ≡ result_at h.results q) → issues list ≡ [] → Follows size ls (i + 1) h (js ++ items (performed_over (outputs_of h) list)) text marks
+  pub one_follows : (c : Context) (js : List Item) → Stands size (steps_of (take i ls)) c → queries_open c.pending ≡ [] → after_finish true c.pending ≡ after_finish true h.pending → ((x y : ℕ) → shown c x y ≡ after_items js x y (pixel_of h.surface x y)) → ((q : ℕ) → answered size c q ≡ result_at h.results q) → issues list ≡ [] → Follows size ls (i + 1) h (js ++ items (performed_over (outputs_of h) list)) text
   one_follows c js stands closed same shows_items answers none =
       let steps : List Step = steps_of (take i ls) in
       let next : IsNext ls i (line_at ls i) = record { here = refl; below = kept.inside; is = is_line ls i kept.inside sound } in
@@ -60,13 +56,13 @@ module _ {agrees : Type 0} (size : Size) (ls : List Line) (i : ℕ) (h : Held) (
         accepted =
             below_more (λ j. is_immediate_actor (line_at ls j).actor ≡ true → refusal size (take j ls) (line_at ls j) ≡ None) i accepted
             (λ o. ap (refusal size (take i ls)) kept.line ∙ ap (λ q. first_row (flush_rows q)) (sym (shows size steps c stands).queries ∙ closed));
-        told = told_none size ls i text marks kept.inside told (ap (λ (m : Line). answer_of size (take i ls) m.verb) kept.line);
+        told = told_none size ls i text kept.inside told (ap (λ (m : Line). answer_of size (take i ls) m.verb) kept.line);
       }
 
 -- ---- the run
 
-pub all_follow : (size : Size) (ls : List Line) (i : ℕ) (h d : Held) (text : List ℕ) (marks : List Mark) (is : List Item) → h.surface.size ≡ size → HasExecuted is h d → Follows size ls i h is text marks → HasReached size ls i d text marks
-all_follow size ls i h d text marks is same ran f = record {
+pub all_follow : (size : Size) (ls : List Line) (i : ℕ) (h d : Held) (text : List ℕ) (is : List Item) → h.surface.size ≡ size → HasExecuted is h d → Follows size ls i h is text → HasReached size ls i d text
+all_follow size ls i h d text is same ran f = record {
   played = record {
     size_is = ran.drawn.size ∙ same;
     stands = record {
@@ -99,8 +95,8 @@ module _ {A : Type 0} (agrees : Type 0) (ls : List Line) (from : ℕ) (h : Held)
     size = size;
     items = executed_items h list;
     compiled = means;
-    follows = λ ok size text marks r.
-        one_follows size ls from h text marks w list sound right kept ok r.accepted r.told (context_of h) (items (performed_over (outputs_of h) h.pending)) r.played.stands (none_open h.pending unissued) refl (λ x y. refl) (answers_stay size h unissued) none;
+    follows = λ ok size text r.
+        one_follows size ls from h text w list sound right kept ok r.accepted r.told (context_of h) (items (performed_over (outputs_of h) h.pending)) r.played.stands (none_open h.pending unissued) refl (λ x y. refl) (answers_stay size h unissued) none;
   }
 
   pub one_gathered : (i : ℕ) (list : List Command) (e f : Compiling A) → IsKept agrees w ls i list → issues list ≡ [] → AreGathered agrees ls from i h e → f.lists.size ≡ h.surface.size → ((is : List Item) → HasCompiled e is → HasCompiled f (is ++ items (performed_over (outputs_of h) list))) → AreGathered agrees ls from (i + 1) h f
@@ -110,9 +106,9 @@ module _ {A : Type 0} (agrees : Type 0) (ls : List Line) (from : ℕ) (h : Held)
     size = size;
     items = g.items ++ items (performed_over (outputs_of h) list);
     compiled = means g.items g.compiled;
-    follows = λ ok size text marks r.
-        let f = g.follows ok size text marks r in
-        one_follows size ls i h text marks w list sound right kept ok f.accepted f.told (with_items h g.items) g.items f.stands refl refl (λ x y. refl) (λ q. refl) none;
+    follows = λ ok size text r.
+        let f = g.follows ok size text r in
+        one_follows size ls i h text w list sound right kept ok f.accepted f.told (with_items h g.items) g.items f.stands refl refl (λ x y. refl) (λ q. refl) none;
   }
 
 -- they ran on what was held
@@ -120,13 +116,13 @@ pub gone_on : {A : Type 0} (agrees : Type 0) (ls : List Line) (from to : ℕ) (h
 gone_on agrees ls from to h d e g c same ran = record {
   start = g.start;
   end = λ p. g.end;
-  reached = λ ok size text marks r.
-      all_follow size ls to h d text marks g.items r.played.size_is (subst (λ (x : Held). HasExecuted g.items x d) same (ran g.items g.compiled)) (g.follows ok size text marks r);
+  reached = λ ok size text r.
+      all_follow size ls to h d text g.items r.played.size_is (subst (λ (x : Held). HasExecuted g.items x d) same (ran g.items g.compiled)) (g.follows ok size text r);
 }
 
 pub stays : (agrees : Type 0) (ls : List Line) (from : ℕ) (h d : Held) → d ≡ h → HasGoneOn agrees ls from from h d
 stays agrees ls from h d same = record {
   start = omega arith;
   end = λ p. p;
-  reached = λ ok size text marks r. subst (λ x. HasReached size ls from x text marks) (sym same) r;
+  reached = λ ok size text r. subst (λ x. HasReached size ls from x text) (sym same) r;
 }

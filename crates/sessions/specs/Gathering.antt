@@ -13,10 +13,8 @@ use Rattle.binner.specs.Compiling.{HasCompiled}
 use Rattle.scenetext.specs.Scene.{Immediate, Execute, Line}
 use Rattle.recorders.specs.Apart.{line_at}
 use Rattle.immediate.specs.Held.{Held}
-use Rattle.sessions.specs.declared.answers.Mark.{Mark}
 use Rattle.sessions.specs.Lists.{steps_of}
-use Rattle.sessions.specs.Telling.{IsTold}
-use Rattle.sessions.specs.Playing.{ImmediateAccepts, HasReached}
+use Rattle.sessions.specs.Playing.{ImmediateAccepts, IsTold, HasReached}
 
 -- the line is one of the immediate context that executes list n of context k and keeps the state
 abbrev pub ExecutesAndKeeps : Line → ℕ → ℕ → Type 0
@@ -38,10 +36,10 @@ with_items h is =
     record { stored = λ x y. after_items is x y (pixel_of h.surface x y); results = h.results; pending = after_finish true h.pending }
 
 -- the lines of the immediate context among the first i are taken, once these items are drawn
-pub record Follows (size : Size) (ls : List Line) (i : ℕ) (h : Held) (is : List Item) (text : List ℕ) (marks : List Mark) : Type 0 where
+pub record Follows (size : Size) (ls : List Line) (i : ℕ) (h : Held) (is : List Item) (text : List ℕ) : Type 0 where
   pub stands : Stands size (steps_of (take i ls)) (with_items h is)
   pub accepted : ImmediateAccepts size ls i
-  pub told : IsTold size ls i text marks
+  pub told : IsTold size ls i text
 
 -- executions wait that have the items of the lines from one place to another
 pub record AreGathered {A : Type 0} (agrees : Type 0) (ls : List Line) (from to : ℕ) (h : Held) (e : Compiling A) : Type 0 where
@@ -50,10 +48,10 @@ pub record AreGathered {A : Type 0} (agrees : Type 0) (ls : List Line) (from to 
   pub size : e.lists.size ≡ h.surface.size
   pub items : List Item
   pub compiled : HasCompiled e items
-  pub follows : agrees → (size : Size) (text : List ℕ) (marks : List Mark) → HasReached size ls from h text marks → Follows size ls to h items text marks
+  pub follows : agrees → (size : Size) (text : List ℕ) → HasReached size ls from h text → Follows size ls to h items text
 
 -- the lines from one place to another are taken, and answer nothing
 pub record HasGoneOn (agrees : Type 0) (ls : List Line) (from to : ℕ) (old new : Held) : Type 0 where
   pub start : from ≤ to
   pub end : from ≤ length ls → to ≤ length ls
-  pub reached : agrees → (size : Size) (text : List ℕ) (marks : List Mark) → HasReached size ls from old text marks → HasReached size ls to new text marks
+  pub reached : agrees → (size : Size) (text : List ℕ) → HasReached size ls from old text → HasReached size ls to new text

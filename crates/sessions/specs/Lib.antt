@@ -1,6 +1,5 @@
 pub mod Lists
 pub mod Answers
-pub mod Telling
 pub mod Taking
 pub mod Playing
 pub mod Writing

@@ -4,11 +4,11 @@ ghost use Rattle.std.specs.Prelude.{◌<◌, ◌≤◌, ◌^◌};
 ghost use Rattle.sessions.specs.Writing.{course, Answered, HasCause, Wrote};
 ghost use Rattle.sessions.specs.Performing.{output_by};
 
-use crate::answer_text::refused_line;
 use crate::ending::{Performance, stopped};
 use crate::outcome::{Ended, SessionFault};
 use crate::perform::perform_alone;
 use crate::threads::perform_in_threads;
+use answers::{Answer, answer_line};
 use gfxspec::{GatherError, Sink, Source, gather, put_all};
 use std::alloc::Allocator;
 use std::sync::Wait;
@@ -39,12 +39,15 @@ fn write_performance<A: Allocator + Copy + Send, I: Sink, L: Sink>(
             Ok(()) => Ok(Ended::Done),
             Err(fault) => Err(SessionFault::Image { taken: fault.taken }),
         },
-        Err((line, number)) => match put_all(lines, refused_line(line, number).as_bytes()) {
-            Ok(()) => Ok(Ended::Refused { line, number }),
-            Err(taken) => Err(SessionFault::Lines {
-                taken: answers.len() as u64 + taken as u64,
-            }),
-        },
+        Err((line, number)) => {
+            let refused = answer_line(Answer::Refused { line, number });
+            match put_all(lines, refused.as_bytes()) {
+                Ok(()) => Ok(Ended::Refused { line, number }),
+                Err(taken) => Err(SessionFault::Lines {
+                    taken: answers.len() as u64 + taken as u64,
+                }),
+            }
+        }
     }
 }
 

@@ -1,18 +1,23 @@
 //! How a scene ends: at the least refused line, or drawn.
 
-ghost use Rattle.std.specs.Prelude.{true, ◌≡◌, ◌≤◌, ◌+◌, [], length};
+ghost use Rattle.std.specs.Prelude.{true, ◌≡◌, ◌+◌, List, [], length, map, if◌then◌else◌};
+ghost use Rattle.gfxspec.specs.declared.geometry.Size.{Size};
 ghost use Rattle.gfxspec.specs.Limits.{is_size};
+ghost use Rattle.scenetext.specs.Seen.{verb_value, line_value};
 ghost use Rattle.scenetext.specs.SeenScene.{scene_value};
+ghost use Rattle.scenetext.specs.Scene.{Line as PlainLine};
 ghost use Rattle.scenetext.specs.Spelling.{IsScene};
 ghost use Rattle.recorders.specs.Ending.{AreRecorded};
+ghost use Rattle.sessions.specs.Answers.{answer_of, answers_behind};
 ghost use Rattle.sessions.specs.Playing.{HasPlayed, missing_in, refused_line};
 ghost use Rattle.sessions.specs.Writing.{Draws, stopped_output};
 ghost use Rattle.sessions.specs.Performing.{output_by};
 
 use crate::play::{Interruption, Played};
+use answers::first_lines;
 use immediate::ImmediateContext;
 use recorders::{RefusedLine, earlier};
-use scenetext::{Line, Scene};
+use scenetext::{Line, Scene, Verb};
 use std::alloc::Allocator;
 
 /// What a session will write: the answers, and then the image of a drawn context, or the refused line, counted from 1, and
@@ -43,13 +48,35 @@ fn refused_line(interruption: Option<(usize, Interruption)>) -> Option<RefusedLi
     }
 }
 
-/// The number of the line at a place, or behind the last. The target is line 1.
-fn line_number<A: Allocator>(lines: &[Line<A>], place: usize) -> u64
-    requires { place ≤ length lines.now }
-    ensures { result ≡ place + 2 }
+/// The number of the line behind these. The target is line 1.
+fn line_behind<A: Allocator>(before: &[Line<A>]) -> u64
+    ensures { result ≡ length before.now + 2 }
 {
-    let _ = lines.len();
-    place as u64 + 2
+    before.len() as u64 + 2
+}
+
+/// Whether a verb asks for an answer.
+fn asks<A: Allocator>(verb: &Verb<A>) -> bool
+    ensures { (size : Size) (earlier : List PlainLine) → length (answer_of size earlier (verb_value verb.now)) ≡ (if result then 1 else 0) }
+{
+    match verb {
+        Verb::Query(_) => true,
+        Verb::Pixel(_, _) => true,
+        _ => false,
+    }
+}
+
+/// How many answers these lines have, where they are accepted.
+fn asked<A: Allocator>(lines: &[Line<A>]) -> usize
+    ensures { (size : Size) → length (answers_behind size [] (map line_value lines.now)) ≡ result }
+{
+    let mut count = 0;
+    for line in lines {
+        if asks(&line.verb) {
+            count += 1;
+        }
+    }
+    count
 }
 
 /// Ends a scene at the first line that was refused, by a deferred context or by the immediate one: the answers of the lines
@@ -72,14 +99,15 @@ pub(crate) fn end<A: Allocator + Copy>(
     } = played;
     match earlier(deferred, refused_line(interruption)) {
         Some(stop) => {
-            let line = line_number(scene.lines.as_slice(), stop.place);
+            let before = &scene.lines.as_slice()[..stop.place];
+            let line = line_behind(before);
             Performance {
-                answers: answers.before(stop.place),
+                answers: first_lines(answers, asked(before)),
                 end: Err((line, stop.refusal.number())),
             }
         }
         None => Performance {
-            answers: answers.text,
+            answers,
             end: Ok(context),
         },
     }

@@ -5,7 +5,7 @@ ghost use Rattle.gfxspec.specs.Recorded.{queries_open};
 ghost use Rattle.gfxspec.specs.Refusals.{AreAccepted};
 ghost use Rattle.sessions.specs.Taking.{verb_of, IsHere, HasRun};
 
-use crate::answer_text::Reply;
+use answers::Answer;
 use cmdlist::CommandList;
 use gfxspec::GfxError;
 use immediate::{ImmediateContext, TileCrew};
@@ -69,7 +69,7 @@ pub(crate) fn run_alone<A: Allocator + Copy + Send, S: ListSource<CommandList<A>
     context: &mut ImmediateContext<A>,
     lists: &S,
     running: Running,
-) -> Result<Option<Reply>, GfxError>
+) -> Result<Option<Answer>, GfxError>
     requires { IsHere (S.holds lists.now) (verb_of running) }
     ensures { HasRun (S.agrees lists.now) (S.right lists.now) (verb_of running) context.old context.new result }
 {
@@ -85,11 +85,11 @@ pub(crate) fn run_alone<A: Allocator + Copy + Send, S: ListSource<CommandList<A>
         }
         Running::Query(query) => {
             let count = context.get_data_alone(query)?;
-            Ok(Some(Reply::Counted { query, count }))
+            Ok(Some(Answer::Counted { query, count }))
         }
         Running::Pixel(x, y) => {
             let value = context.pixel_alone(x, y)?;
-            Ok(Some(Reply::Shown { x, y, value }))
+            Ok(Some(Answer::Shown { x, y, value }))
         }
     }
 }
@@ -114,7 +114,7 @@ pub(crate) fn run_by_crew<
     context: &mut ImmediateContext<A>,
     lists: &S,
     running: Running,
-) -> Result<Option<Reply>, GfxError>
+) -> Result<Option<Answer>, GfxError>
     requires { IsHere (S.holds lists.now) (verb_of running) }
     ensures { HasRun (S.agrees lists.now) (S.right lists.now) (verb_of running) context.old context.new result }
 {
@@ -131,11 +131,11 @@ pub(crate) fn run_by_crew<
         }
         Running::Query(query) => {
             let count = context.get_data_by_crew(rt, query, crew, gate)?;
-            Ok(Some(Reply::Counted { query, count }))
+            Ok(Some(Answer::Counted { query, count }))
         }
         Running::Pixel(x, y) => {
             let value = context.pixel_by_crew(rt, x, y, crew, gate)?;
-            Ok(Some(Reply::Shown { x, y, value }))
+            Ok(Some(Answer::Shown { x, y, value }))
         }
     }
 }

@@ -5,7 +5,8 @@ use Rattle.tileblock.specs.Surface.{pixel_of}
 use Rattle.immediate.specs.Held.{Held}
 use Rattle.sessions.specs.declared.outcome.Ended.TheVariants as ended
 use Rattle.sessions.specs.declared.outcome.SessionFault.TheVariants as faults
-use Rattle.sessions.specs.Answers.{Refused, answer_line}
+use Rattle.answers.specs.declared.line.Answer.TheVariants.{Refused}
+use Rattle.answers.specs.Lines.{answer_line}
 use Rattle.sessions.specs.Writing.{course}
 use Rattle.sessions.proofs.Endings.{wrote_by, broke_off}
 use Rattle.sessions.proofs.bytes.write_performance.Goals as goal

@@ -9,7 +9,7 @@ invariant-loop-place g l = record {
   frame : g.S.ListSource.frame l.lists ≡ g.S.ListSource.frame l.fn.lists;
   right : g.S.ListSource.right l.lists ≡ g.S.ListSource.right l.fn.lists;
   agrees : g.S.ListSource.agrees l.lists → g.S.ListSource.agrees l.fn.lists;
-  reached : g.S.ListSource.agrees l.lists → HasReached (g.C.RecordsCalls.held l.fn.immediate).surface.size (map line_value l.fn.lines) l.place (g.C.RecordsCalls.held l.context) l.answers.text.items l.answers.marks.items;
+  reached : g.S.ListSource.agrees l.lists → HasReached (g.C.RecordsCalls.held l.fn.immediate).surface.size (map line_value l.fn.lines) l.place (g.C.RecordsCalls.held l.context) l.answers.items;
 }
 
 abbrev pub decreases-loop-place : goal.decreases-loop-place

@@ -1,10 +1,9 @@
-use Rattle.std.proofs.Common.{rules, arith, ◌∙◌, ◌≡◌, ◌≤◌, ◌+◌, ◌++◌, ap, sym, [], decimal, length}
+use Rattle.std.proofs.Common.{rules, ◌∙◌, ◌≤◌, ◌++◌, ap, sym, [], decimal, length}
 use Rattle.std.proofs.lemmas.List.{take_all}
-use Rattle.std.proofs.lemmas.List.{length-append}
 use Rattle.std.specs.List.{join_with_byte}
 use Rattle.std.specs.Prelude.{map, ◌∷◌}
-use Rattle.sessions.proofs.Spelled.{spelled, one_spelled}
-use Rattle.sessions.proofs.answer_text.line_of.Goals as goal
+use Rattle.answers.proofs.Spelled.{spelled, one_spelled}
+use Rattle.answers.proofs.line.line_of.Goals as goal
 
 pub loop-number-init : goal.loop-number-init
 loop-number-init c = record {

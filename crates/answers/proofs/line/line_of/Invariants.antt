@@ -1,6 +1,6 @@
 use Rattle.std.proofs.Common.{◌≡◌, ◌≤◌, ◌+◌, ◌*◌, length}
-use Rattle.sessions.proofs.Spelled.{spelled}
-use Rattle.sessions.proofs.answer_text.line_of.Given as goal
+use Rattle.answers.proofs.Spelled.{spelled}
+use Rattle.answers.proofs.line.line_of.Given as goal
 
 abbrev pub invariant-loop-number : goal.invariant-loop-number
 invariant-loop-number l = record {
