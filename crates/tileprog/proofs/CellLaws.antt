@@ -8,7 +8,7 @@ use Rattle.gfxspec.specs.declared.pixel.DepthStencil.{DepthStencil}
 use Rattle.gfxspec.specs.declared.geometry.PixelRect.{PixelRect}
 use Rattle.gfxspec.specs.DepthStencil.{DepthStencilSetting, compares, depth_passes}
 use Rattle.gfxspec.specs.Tiles.{IsIn}
-use Rattle.gfxspec.specs.Raster.{Triangle, Point, edge, edge_holds, covers, is_empty}
+use Rattle.gfxspec.specs.Raster.{Triangle, Point, centre, edge, edge_holds, covers, is_empty}
 use Rattle.tileprog.specs.Edges.{passes_edges}
 use Rattle.depthplane.specs.Height.{DeepTriangle}
 use Rattle.depthplane.specs.Place.{depth_of}
@@ -20,10 +20,11 @@ use Rattle.tileprog.specs.declared.brush.Brush.{Brush}
 use Rattle.tileprog.specs.declared.kind.Tests.TheVariants.{Stencil}
 use Rattle.tileprog.specs.Alike.{HasOutcome, operated}
 use Rattle.tileprog.specs.Brushes.{tested_by, drawn_by}
-use Rattle.tileprog.specs.Cells.{InRows, AllHave, AreCovered, IsStill, IsUnwritten}
-use Rattle.tileprog.specs.Columns.{RowDrew}
+use Rattle.tileprog.specs.Cells.{InRows, AllHave, AreCovered, IsCell, IsStill, IsUnwritten}
+use Rattle.tileprog.specs.declared.column.Column.{Column}
+use Rattle.tileprog.specs.Columns.{IsColumn, RowDrew}
 use Rattle.tileprog.specs.Kinds.{tests_of}
-use Rattle.tileprog.specs.Strokes.{Stroke, stroked}
+use Rattle.tileprog.specs.Strokes.{Stroke, IsNamed, stroked}
 use Rattle.tileprog.specs.Within.{in_box}
 use Rattle.tileprog.specs.Painting.{painted_with}
 use Rattle.tileprog.proofs.Lanes.{rule_of, deep_enough, stencil_lane, stencil_passes_both, both_lanes, lane_kept, lane_unpainted, kept_all}
@@ -45,6 +46,18 @@ cell_has deep s d b span cell x least greatest known x_is stored lie has = λ u 
     let Q : ℕ → ℕ → Type 0 = λ u v. (known.least ≤ (pixel_at b u v).ds.depth) × ((pixel_at b u v).ds.depth ≤ known.greatest) in
     let there : Q (b.rect.left + 8 * span + (u - x)) (b.rect.top + (8 * cell + k)) = stored k (u - x) (omega (arith, t, o)) (omega (arith, l, r)) in
     has (depth_of d u v) (pixel_at b u v).ds.depth between.0 between.1 (subst (λ w. Q u w) v_is (subst (λ w. Q w (b.rect.top + (8 * cell + k))) u_is there))
+
+-- a triangle covers the pixels of a cell that no edge cuts
+pub cell_covered : (k : Column) (d : DeepTriangle) (r : PixelRect) (row : ℕ) → IsColumn k r → IsNamed d k.mask r → IsCell k d.triangle r row → (u v : ℕ) → InRows r k.x row (row + 8) u v → IsTrue (covers d.triangle (centre u v))
+cell_covered k d r row column named cell u v here =
+    let x = column.x in
+    let right = cell.right in
+    let bottom = cell.bottom in
+    let l = here.left in
+    let m = here.right in
+    let t = here.top in
+    let o = here.bottom in
+    named.covered u v (record { left = omega (arith, x, l); right = omega (arith, right, m); top = omega (arith, t); bottom = omega (arith, bottom, o) }) (cell.holds u v here)
 
 -- where depth isn't tested
 pub untested_cell : (s : DepthStencilSetting) (d : DeepTriangle) (b : Block) (x row past : ℕ) → s.depth ≡ false → AllHave true s d b x row past

@@ -1,6 +1,6 @@
 -- A triangle that can't pass the depth test changes nothing and counts nothing.
 use Rattle.std.proofs.Common.{int_eq, ◌≡◌, ◌∙◌, ap, sym, subst, refl, arith, ℕ, zero, suc, ◌+◌, ◌*◌, ◌/◌, ◌<◌, ◌≤◌, ℤ, pos, Bool, true, false, ◌&&◌, ◌||◌, nat_lt, min, max, Option, Some, None}
-use Rattle.std.specs.Prelude.{negsuc, nat_le, not, ◌==◌, if◌then◌else◌, unsigned_abs, IfSome}
+use Rattle.std.specs.Prelude.{negsuc, nat_le, not, ◌==◌, if◌then◌else◌, unsigned_abs, IfSome, IsTrue}
 use Rattle.std.proofs.lemmas.Bool.{false≢true}
 use Rattle.std.proofs.lemmas.Bool.Decides.{nat_tests}
 use Rattle.std.proofs.lemmas.Nat.{le-div}
@@ -31,6 +31,7 @@ use Rattle.binner.specs.declared.setup.TriSetup.{TriSetup}
 use Rattle.binner.specs.Meaning.{IsBounded}
 use Rattle.binner.specs.Program as P
 use Rattle.binner.specs.Program.{lets_through, reaches_by, outcome, drawn, triangle_by}
+use Rattle.tileprog.specs.Cells.{LiesWithin}
 use Rattle.tileprog.specs.Counting.{one_if}
 use Rattle.tileprog.specs.Edges.{passes_edges}
 use Rattle.tileprog.specs.Hidden.{NonePasses, none_passes, greatest_after, DepthsLie, IsHidden, AreAfter, IsWhole}
@@ -103,6 +104,11 @@ module _ (t : TriSetup) (x y : ℕ) (c : covers t.edges (centre x y) ≡ true) w
 
 pub vertices_lie : (t : TriSetup) (r : PixelRect) → DepthsLie t r t.least_depth t.greatest_depth
 vertices_lie t r u v is c = (depth_least t u v c, depth_greatest t u v c)
+
+pub vertices_within : (t : TriSetup) → LiesWithin t.plane (record { least = t.least_depth; greatest = t.greatest_depth })
+vertices_within t u v c =
+    let here : IsTrue (covers t.edges (centre u v)) = (λ i. covers (sym t.same i) (centre u v)) ∙ c in
+    (depth_least t u v here, depth_greatest t u v here)
 
 -- ---- a stored depth
 

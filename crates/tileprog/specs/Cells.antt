@@ -1,5 +1,5 @@
 -- Cells of a column: eight rows of a span, whose depth test has one outcome.
-use Rattle.std.specs.Prelude.{ℕ, ◌≡◌, ◌+◌, ◌<◌, ◌≤◌, Bool, true, false, ◌&&◌, IfSome}
+use Rattle.std.specs.Prelude.{ℕ, ◌≡◌, ◌+◌, ◌<◌, ◌≤◌, Bool, true, false, ◌&&◌, IfSome, IsTrue}
 use Rattle.gfxspec.specs.declared.geometry.PixelRect.{PixelRect}
 use Rattle.gfxspec.specs.DepthStencil.{DepthStencilSetting, depth_passes}
 use Rattle.gfxspec.specs.Raster.{Triangle, edge, covers, centre}
@@ -10,6 +10,7 @@ use Rattle.gfxspec.specs.Tiles.{IsIn}
 use Rattle.depthplane.specs.Height.{DeepTriangle}
 use Rattle.depthplane.specs.Place.{depth_of}
 use Rattle.tileblock.specs.Block.{Block, pixel_at}
+use Rattle.tileblock.specs.declared.blocks.DepthBounds.{DepthBounds}
 use Rattle.tileprog.specs.declared.cells.Cell.{Cell}
 use Rattle.tileprog.specs.declared.column.Column.{Column}
 use Rattle.tileprog.specs.Edges.{passes_edges}
@@ -24,6 +25,10 @@ pub record InRows (r : PixelRect) (x from past u v : ℕ) : Type 0 where
 -- the depth test has one outcome at the pixels there
 abbrev pub AllHave : Bool → DepthStencilSetting → DeepTriangle → Block → ℕ → ℕ → ℕ → Type 0
 AllHave deep s d b x from past = (u v : ℕ) → IsIn b.rect u v → InRows b.rect x from past u v → depth_passes s (depth_of d u v) (pixel_at b u v).ds.depth ≡ deep
+
+-- the depths of a triangle lie between two wherever it covers
+abbrev pub LiesWithin : DeepTriangle → DepthBounds → Type 0
+LiesWithin d w = (u v : ℕ) → IsTrue (covers d.triangle (centre u v)) → (w.least ≤ depth_of d u v) × (depth_of d u v ≤ w.greatest)
 
 -- where depth passes everywhere, none is stored
 abbrev pub IsUnwritten : DepthStencilSetting → Bool → Type 0

@@ -1,9 +1,10 @@
 //! Cells of a column: eight rows of a span, whose depths are asked about together.
 
-ghost use Rattle.std.specs.Prelude.{◌≡◌, ◌<◌, ◌≤◌, ◌+◌, ◌*◌, ℕ, true, false, IsTrue, IfSome};
+ghost use Rattle.std.specs.Prelude.{◌≡◌, ◌<◌, ◌≤◌, ◌+◌, ◌*◌, ℕ, true, false, IsTrue, IfSome, Some};
 ghost use Rattle.classify.specs.Region.{IsReal};
 ghost use Rattle.depthplane.specs.Place.{depth_of};
-ghost use Rattle.tileprog.specs.Cells.{InRows, AllHave, AreCovered, EdgesAre, IsUnwritten, IsLong, Tells, IsCell};
+ghost use Rattle.tileprog.specs.Alike.{HasOutcome};
+ghost use Rattle.tileprog.specs.Cells.{InRows, AllHave, AreCovered, EdgesAre, IsUnwritten, IsLong, LiesWithin, Tells, IsCell};
 ghost use Rattle.tileprog.specs.Columns.{IsColumn};
 ghost use Rattle.tileprog.specs.Strokes.{IsNamed};
 
@@ -108,8 +109,29 @@ fn cell_range(plane: &Plane, rect: PixelRect, column: &Column, row: u32) -> Dept
     DepthBounds { least, greatest }
 }
 
+/// Whether the depth test of a brush passes at all depths between two, or at none, against all that may be stored between two.
+/// Where depths would be stored, that all pass is not told.
+#[inline(always)]
+fn outcome_between(range: DepthBounds, known: DepthBounds, brush: &Brush) -> Option<bool>
+    requires { brush.now.state.depth ≡ true }
+    ensures deep { IfSome result (HasOutcome brush.now.state range.least range.greatest (Some known)) }
+    ensures unwritten { IfSome result (IsUnwritten brush.now.state) }
+{
+    let func = brush.state.func();
+    let fails = none_passes(func, range.least, range.greatest, known);
+    if fails {
+        return Some(false);
+    }
+    if brush.state.write() {
+        return None;
+    }
+    let passes = none_passes(opposite(func), range.least, range.greatest, known);
+    if passes { Some(true) } else { None }
+}
+
 /// Whether the depth test of a brush passes at all pixels of a cell of a column, or at none, as far as what is known of the stored
-/// depths tells. Where depths would be stored, that all pass is not told.
+/// depths tells: by the triangle's corners, which decide most cells, and else by its plane. Where depths would be stored, that all pass is not
+/// told.
 #[inline(always)]
 fn deep_from<A: Allocator>(
     block: &TileBlock<A>,
@@ -121,6 +143,7 @@ fn deep_from<A: Allocator>(
     requires column { IsColumn column.now block.now.rect }
     requires cell { cell < 4 }
     requires named { IsNamed plane.now column.now.mask block.now.rect }
+    requires corners { LiesWithin plane.now column.now.corners }
     requires whole { IsCell column.now plane.now.triangle block.now.rect (8 * cell) }
     requires depth { brush.now.state.depth ≡ true }
     ensures deep { IfSome result (λ deep. AllHave deep brush.now.state plane.now block.now column.now.x (8 * cell) (8 * cell + 8)) }
@@ -129,18 +152,12 @@ fn deep_from<A: Allocator>(
     let Some(known) = block.cell_bounds(column.span, cell) else {
         return None;
     };
-    let rect = block.rect();
-    let range = cell_range(plane, rect, column, 8 * cell);
-    let func = brush.state.func();
-    let fails = none_passes(func, range.least, range.greatest, known);
-    if fails {
-        return Some(false);
+    let near = outcome_between(column.corners, known, brush);
+    if near.is_some() {
+        return near;
     }
-    if brush.state.write() {
-        return None;
-    }
-    let passes = none_passes(opposite(func), range.least, range.greatest, known);
-    if passes { Some(true) } else { None }
+    let range = cell_range(plane, block.rect(), column, 8 * cell);
+    outcome_between(range, known, brush)
 }
 
 /// Whether the depth test of a brush passes at all pixels of a cell of a column, or at none, if that is asked: where depth is tested,
@@ -158,6 +175,7 @@ fn depth_outcome<A: Allocator>(
     requires long { IsLong column.now block.now.rect }
     requires cell { cell < 4 }
     requires named { IsNamed plane.now column.now.mask block.now.rect }
+    requires corners { LiesWithin plane.now column.now.corners }
     requires covered { IfSome covered (λ all. AreCovered all column.now.mask plane.now.triangle block.now.rect column.now.x (8 * cell) (8 * cell + 8)) }
     ensures deep { IfSome result (λ deep. AllHave deep brush.now.state plane.now block.now column.now.x (8 * cell) (8 * cell + 8)) }
     ensures unwritten { IfSome result (IsUnwritten brush.now.state) }
@@ -218,6 +236,7 @@ pub(crate) fn cell_of<A: Allocator>(
     requires long { IsLong column.now block.old.rect }
     requires cell { cell < 4 }
     requires named { IsNamed plane.now column.now.mask block.old.rect }
+    requires corners { LiesWithin plane.now column.now.corners }
     ensures block { block.new ≡ block.old }
     ensures told { Tells result brush.now.state plane.now column.now.mask block.old column.now.x (8 * cell) }
 {

@@ -4,6 +4,7 @@ ghost use Rattle.std.specs.Prelude.{◌≡◌, ◌<◌, ◌≤◌, ◌+◌, ◌&
 ghost use Rattle.lanes.specs.Stencil.{has};
 
 use gfxspec::PixelRect;
+use tileblock::DepthBounds;
 
 /// A column of spans of a tile, eight pixels wide, of which a clip rectangle leaves a part.
 #[derive(Clone, Copy)]
@@ -17,6 +18,8 @@ pub(crate) struct Column {
     pub(crate) within: u8,
     /// The edges that are still to be tested, edge i as bit i.
     pub(crate) mask: u8,
+    /// What the depths of the triangle lie between wherever it covers.
+    pub(crate) corners: DepthBounds,
     pub(crate) ghost lanes: { (j : ℕ) → j < 8 → has within j ≡ (nat_le clip.left (x + j) && nat_lt (x + j) clip.right) },
 }
 
@@ -32,8 +35,14 @@ fn lanes_within(x: u32, left: u32, right: u32) -> u8
     ((1u32 << to) - (1u32 << from)) as u8
 }
 
-/// The column of a clip rectangle that begins at x.
-pub(crate) fn column_of(x: u32, span: u32, clip: PixelRect, mask: u8) -> Column
+/// The column of a clip rectangle that begins at x, of a triangle whose depths lie between two.
+pub(crate) fn column_of(
+    x: u32,
+    span: u32,
+    clip: PixelRect,
+    mask: u8,
+    corners: DepthBounds,
+) -> Column
     requires some { clip.left < clip.right }
     requires begun { clip.left < x + 8 }
     requires ended { x < clip.right }
@@ -41,6 +50,7 @@ pub(crate) fn column_of(x: u32, span: u32, clip: PixelRect, mask: u8) -> Column
     ensures span { result.span ≡ span }
     ensures clip { result.clip ≡ clip }
     ensures mask { result.mask ≡ mask }
+    ensures corners { result.corners ≡ corners }
 {
     Column {
         x,
@@ -48,5 +58,6 @@ pub(crate) fn column_of(x: u32, span: u32, clip: PixelRect, mask: u8) -> Column
         clip,
         within: lanes_within(x, clip.left, clip.right),
         mask,
+        corners,
     }
 }

@@ -5,6 +5,7 @@ ghost use Rattle.tileprog.specs.Edges.{BeganIn};
 ghost use Rattle.tileprog.specs.Strokes.{IsNamed};
 ghost use Rattle.tileprog.specs.Kinds.{tests_of};
 ghost use Rattle.tileprog.specs.declared.kind.Tests.TheVariants.{Open, Depth};
+ghost use Rattle.tileprog.specs.Cells.{LiesWithin};
 ghost use Rattle.tileprog.specs.Columns.{IsColumn, ColumnDrew};
 ghost use Rattle.tileprog.specs.Made.{AreOf};
 
@@ -205,6 +206,7 @@ pub(crate) fn draw_column<A: Allocator, W: Walks>(
     requires left { block.old.rect.left ≤ (W.place walk).left }
     requires top { block.old.rect.top ≤ (W.place walk).top }
     requires named { IsNamed plane.now column.now.mask block.old.rect }
+    requires corners { LiesWithin plane.now column.now.corners }
     requires tests { AreOf tests.now brush.now }
     ensures { ColumnDrew (record { brush = brush.now; plane = plane.now; mask = column.now.mask; clip = column.now.clip }) block.old block.new column.now.x result }
 {

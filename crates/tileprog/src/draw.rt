@@ -5,6 +5,7 @@ ghost use Rattle.gfxspec.specs.Limits.{side_bound};
 ghost use Rattle.gfxspec.specs.Tiles.{IsInTile};
 ghost use Rattle.meaning.specs.Over.{sum_over};
 ghost use Rattle.tileprog.specs.Counting.{stroke_count};
+ghost use Rattle.tileprog.specs.Cells.{LiesWithin};
 ghost use Rattle.tileprog.specs.Made.{AreOf};
 ghost use Rattle.tileprog.specs.Strokes.{IsWithin, IsNamed, Stroked};
 
@@ -18,7 +19,7 @@ use edges::{EdgeSet, EdgeWalk};
 use gfxspec::PixelRect;
 use lanes::StencilTest;
 use std::alloc::Allocator;
-use tileblock::TileBlock;
+use tileblock::{DepthBounds, TileBlock};
 
 /// A triangle over the pixels of a clip rectangle in a tile, from span `first` on and before span `past`, where its
 /// walks begin; the answer is how many pass.
@@ -29,6 +30,7 @@ fn draw_spans<A: Allocator, W: Walks>(
     mut edges: EdgeWalk<'_>,
     mut walk: W,
     mask: u8,
+    corners: DepthBounds,
     tests: &MadeTests<'_>,
     brush: &Brush,
     clip: PixelRect,
@@ -41,6 +43,7 @@ fn draw_spans<A: Allocator, W: Walks>(
     requires high { block.old.rect.top + 32 ≤ side_bound }
     requires set { set.now ≡ plane.now.triangle }
     requires named { IsNamed plane.now mask block.old.rect }
+    requires corners { LiesWithin plane.now corners }
     requires tests { AreOf tests.now brush.now }
     requires begun { block.old.rect.left + 8 * first ≤ clip.left }
     requires begins { clip.left < block.old.rect.left + 8 * first + 8 }
@@ -56,7 +59,7 @@ fn draw_spans<A: Allocator, W: Walks>(
     let rect = block.rect();
     let mut passed = 0u32;
     for span in first..past {
-        let column = column_of(rect.left + 8 * span, span, clip, mask);
+        let column = column_of(rect.left + 8 * span, span, clip, mask, corners);
         let more = draw_column(
             block,
             &column,
@@ -101,15 +104,19 @@ fn draw_tested<A: Allocator>(
     let set = triangle.edges.unpacked();
     let edges = set.walk(left, clip.top);
     let plane = &triangle.plane;
+    let corners = DepthBounds {
+        least: triangle.least_depth,
+        greatest: triangle.greatest_depth,
+    };
     if plane.is_biased() {
         let biased = plane.walk_eight_biased(left, clip.top);
         return draw_spans(
-            block, &set, plane, edges, biased, mask, tests, brush, clip, first, past,
+            block, &set, plane, edges, biased, mask, corners, tests, brush, clip, first, past,
         );
     }
     let walk = plane.walk_eight(left, clip.top);
     draw_spans(
-        block, &set, plane, edges, walk, mask, tests, brush, clip, first, past,
+        block, &set, plane, edges, walk, mask, corners, tests, brush, clip, first, past,
     )
 }
 

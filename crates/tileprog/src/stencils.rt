@@ -4,7 +4,7 @@ ghost use Rattle.std.specs.Prelude.{◌≡◌, ◌<◌, ◌≤◌, ◌+◌, ◌*
 ghost use Rattle.gfxspec.specs.Limits.{side_bound};
 ghost use Rattle.lanes.specs.Stencil.{reference_passes};
 ghost use Rattle.tileprog.specs.declared.kind.Tests.TheVariants.{Stencil};
-ghost use Rattle.tileprog.specs.Cells.{AllHave, AreCovered, IsLong, IsStill, IsUnwritten, Tells};
+ghost use Rattle.tileprog.specs.Cells.{AllHave, AreCovered, IsLong, IsStill, IsUnwritten, LiesWithin, Tells};
 ghost use Rattle.tileprog.specs.Columns.{IsColumn, ColumnDrew, Continues};
 ghost use Rattle.tileprog.specs.Edges.{BeganIn};
 ghost use Rattle.tileprog.specs.Kinds.{tests_of};
@@ -104,7 +104,7 @@ fn alike_rows<A: Allocator>(
 }
 
 /// The same where the stencil test passes always and no colour changes, two rows at a time.
-#[inline(always)]
+#[inline(never)]
 fn paired_rows<A: Allocator>(
     block: &mut TileBlock<A>,
     column: &Column,
@@ -312,6 +312,7 @@ fn each_cell<A: Allocator, W: Walks>(
     requires left { block.old.rect.left ≤ (W.place walk).left }
     requires top { block.old.rect.top ≤ (W.place walk).top }
     requires named { IsNamed plane.now column.now.mask block.old.rect }
+    requires corners { LiesWithin plane.now column.now.corners }
     requires kind { tests_of brush.now.state ≡ Stencil }
     requires test { test.now ≡ record { setting = brush.now.state; face = if brush.now.front then brush.now.state.front else brush.now.state.back; reference = brush.now.reference } }
     ensures { ColumnDrew (record { brush = brush.now; plane = plane.now; mask = column.now.mask; clip = column.now.clip }) block.old block.new column.now.x result }
@@ -403,6 +404,7 @@ pub(crate) fn stencil_column<A: Allocator, W: Walks>(
     requires left { block.old.rect.left ≤ (W.place walk).left }
     requires top { block.old.rect.top ≤ (W.place walk).top }
     requires named { IsNamed plane.now column.now.mask block.old.rect }
+    requires corners { LiesWithin plane.now column.now.corners }
     requires kind { tests_of brush.now.state ≡ Stencil }
     requires test { test.now ≡ record { setting = brush.now.state; face = if brush.now.front then brush.now.state.front else brush.now.state.back; reference = brush.now.reference } }
     ensures { ColumnDrew (record { brush = brush.now; plane = plane.now; mask = column.now.mask; clip = column.now.clip }) block.old block.new column.now.x result }

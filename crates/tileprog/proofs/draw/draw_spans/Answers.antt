@@ -1,5 +1,7 @@
-use Rattle.std.proofs.Common.{◌∙◌, ap, rules, arith, ◌+◌, ◌*◌, ◌≤◌, ◌-◌}
+use Rattle.std.proofs.Common.{◌∙◌, ap, sym, subst, rules, arith, ◌+◌, ◌*◌, ◌≤◌, ◌-◌}
 use Rattle.gfxspec.specs.declared.geometry.PixelRect.{PixelRect}
+use Rattle.tileblock.specs.declared.blocks.DepthBounds.{DepthBounds}
+use Rattle.tileprog.specs.Cells.{LiesWithin}
 use Rattle.tileprog.specs.Strokes.{Stroke}
 use Rattle.tileprog.specs.Counting.{column_sum, stroke_count}
 use Rattle.tileprog.proofs.Columning.{column_is, column_more, column_adds}
@@ -42,6 +44,9 @@ loop-span-preserved g c =
       count = column_adds s old mid new start x c.loop-span.passed (span - c.args.first) (span + 1 - c.args.first) more c.requires.within inv.drew column inv.count (search rules) (search rules);
       few = let most = c.draw_column-more.ensures.few in let was = inv.few in omega arith;
     }
+
+pub draw_column-more-requires-clause-corners : goal.draw_column-more-requires-clause-corners
+draw_column-more-requires-clause-corners g c = subst (λ (w : DepthBounds). LiesWithin c.args.plane.now w) (sym c.column_of-column.ensures.corners) c.requires.corners
 
 pub returns-clause-count : goal.returns-clause-count
 returns-clause-count g c =
