@@ -207,6 +207,20 @@ impl<A: Allocator> TileBlock<A> {
         self.spans.stencils[(32 * span + row) as usize]
     }
 
+    /// The stencil values of such eight pixels in two rows, of which the second is the next: they stand side by side.
+    #[inline]
+    pub fn stencil_rows(&self, span: u32, row: u32) -> ([u8; 8], [u8; 8])
+        requires span { span < 4 }
+        requires row { row + 1 < 32 }
+        ensures first { (j : ℕ) → j < 8 → slice_index result.0 j
+            ≡ (pixel_at self.now (self.now.rect.left + 8 * span + j) (self.now.rect.top + row)).ds.stencil }
+        ensures second { (j : ℕ) → j < 8 → slice_index result.1 j
+            ≡ (pixel_at self.now (self.now.rect.left + 8 * span + j) (self.now.rect.top + (row + 1))).ds.stencil }
+    {
+        let at = (32 * span + row) as usize;
+        (self.spans.stencils[at], self.spans.stencils[at + 1])
+    }
+
     /// Stores the colours of such eight pixels.
     #[inline]
     pub fn set_color_span(&mut self, span: u32, row: u32, colors: [u32; 8])

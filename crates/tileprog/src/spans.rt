@@ -344,9 +344,8 @@ pub(crate) fn operate_rows<A: Allocator>(
     requires row { row + 1 < 32 }
     ensures { RowsStored block.old block.new span row (operated test.now deep) }
 {
-    let first = block.stencil_span(span, row);
-    let second = block.stencil_span(span, row + 1);
-    let after = test.after_rows(&first, &second, deep);
+    let stored = block.stencil_rows(span, row);
+    let after = test.after_rows(&stored.0, &stored.1, deep);
     block.set_stencil_span(span, row, after.0);
     block.set_stencil_span(span, row + 1, after.1);
 }

@@ -18,12 +18,12 @@ returns g c =
       mid = mid;
       first = changed _ _ _ _ _ _ c.set_stencil_span.ensures.stored (λ j h.
           let p = lane_pixel old span row j in
-          let after = c.after_rows-after.ensures.first j h ∙ ap (λ v. stencil_after test true deep v) (c.stencil_span-first.ensures j h) in
+          let after = c.after_rows-after.ensures.first j h ∙ ap (λ v. stencil_after test true deep v) (c.stencil_rows-stored.ensures.first j h) in
           λ i. record { rgba = p.rgba; ds = record { depth = p.ds.depth; stencil = after i } });
       waits = waits;
       second = changed _ _ _ _ _ _ c.set_stencil_span-2.ensures.stored (λ j h.
           let p = lane_pixel mid span (row + 1) j in
-          let after = c.after_rows-after.ensures.second j h ∙ ap (λ v. stencil_after test true deep v) (c.stencil_span-second.ensures j h) in
+          let after = c.after_rows-after.ensures.second j h ∙ ap (λ v. stencil_after test true deep v) (c.stencil_rows-stored.ensures.second j h) in
           (λ i. record { rgba = p.rgba; ds = record { depth = p.ds.depth; stencil = after i } })
           ∙ (λ i. record { rgba = p.rgba; ds = record { depth = p.ds.depth; stencil = stencil_after test true deep (sym (waits j h) i).ds.stencil } }));
     }
