@@ -188,8 +188,9 @@ pub(crate) fn alike_row<A: Allocator>(
 
 /// Two rows of a span of which all pixels are covered, under a brush whose stencil test passes always, and whose depth test passes at all
 /// of them or at none and changes neither colours nor depths; the answer is how many pixels of each row pass. The colours that are
-/// read aren't used, so nothing is left of it when it is compiled.
-#[inline(always)]
+/// read aren't used, so nothing is left of it when it is compiled. Two rows become one load where the loop over pairs isn't unrolled round
+/// them.
+#[inline(never)]
 pub(crate) fn operated_rows<A: Allocator>(
     block: &mut TileBlock<A>,
     column: &Column,
