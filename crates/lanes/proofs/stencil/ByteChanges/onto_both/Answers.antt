@@ -1,4 +1,4 @@
-use Rattle.std.proofs.Common.{◌≡◌, ◌∙◌, ap, rules, arith, ◌+◌, ◌-◌, ◌%◌, ◌<◌, ℕ, List, length, slice_index, min, ◌++◌}
+use Rattle.std.proofs.Common.{◌≡◌, ◌∙◌, ap, rules, arith, ◌+◌, ◌-◌, ◌%◌, ◌<◌, ℕ, length, slice_index, min}
 use Rattle.std.specs.Prelude.{bit_xor}
 use Rattle.lanes.proofs.Masks.{lane_of_front, lane_of_back}
 use Rattle.lanes.proofs.stencil.ByteChanges.onto_both.Goals as goal

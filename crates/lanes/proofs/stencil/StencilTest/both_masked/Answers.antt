@@ -4,7 +4,6 @@ use Rattle.std.specs.Simd.Lanes.{zip2}
 use Rattle.std.proofs.lemmas.List.{get_or-replicate, length-replicate}
 use Rattle.gfxspec.specs.DepthStencil.{masked}
 use Rattle.lanes.specs.Stencil.{StencilRule}
-use Rattle.lanes.specs.StencilInside.{rule_of}
 use Rattle.lanes.proofs.Masks.{lane_of_both, long_both, lane_of_front, lane_of_back}
 use Rattle.lanes.proofs.stencil.StencilTest.both_masked.Goals as goal
 
