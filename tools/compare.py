@@ -1,13 +1,14 @@
 #!/usr/bin/env python3
 """Draws random scenes with the built program and with tools/plain_device.py, and tells the first that differ.
 
-    tools/compare.py [SCENES [SEED]] [--workers N ..] [--kinds KIND ..] [--program FILE] [--without WORD ..]
+    tools/compare.py [SCENES [SEED]] [--workers N ..] [--kinds KIND ..] [--program FILE ..] [--without WORD ..]
 
-tools/random_scenes.py says what the scenes are. With several numbers of workers each scene is drawn once with each. A scene
-that differs is left in differs.txt.
+tools/random_scenes.py says what the scenes are. With several numbers of workers, or several programs, each scene is drawn once with
+each. A scene that differs is left in differs.txt.
 """
 
 import argparse
+import itertools
 import pathlib
 import random
 import sys
@@ -27,7 +28,7 @@ def parsed():
     parser.add_argument("seed", metavar="SEED", nargs="?", type=int, default=1, help="of the random numbers (1)")
     parser.add_argument("--workers", metavar="N", nargs="+", type=whole_number(0, WORKERS), default=[0], help=f"how many workers draw beside the caller, 0 to {WORKERS} (0)")
     parser.add_argument("--kinds", metavar="KIND", nargs="+", default=random_scenes.KINDS, choices=random_scenes.KINDS, help="of the scenes, in turn (all)")
-    parser.add_argument("--program", metavar="FILE", help="the built program, if it isn't this clone's")
+    parser.add_argument("--program", metavar="FILE", nargs="+", default=[None], help="the built program, if it isn't this clone's, or several builds of it")
     parser.add_argument("--without", metavar="WORD", nargs="*", default=[], choices=list(WORDS), help="words of scripts to leave out")
     return parser.parse_args()
 
@@ -44,11 +45,12 @@ def compare(given):
         scene = without(random_scenes.random_scene(chance, number, kinds=given.kinds), given.without)
         text = scene.script()
         answers, image = plain_device.evaluate(text)
-        for workers in given.workers:
-            result = run(scene, workers=workers, program=given.program, check=False)
+        for program, workers in itertools.product(given.program, given.workers):
+            result = run(scene, workers=workers, program=program, check=False)
             if result.text != answers or result.tga != image:
                 pathlib.Path("differs.txt").write_text(text, encoding="ascii")
-                sys.exit(f"scene {number} differs with {workers} workers: it is in differs.txt")
+                by = f" by {program}" if program else ""
+                sys.exit(f"scene {number} differs{by} with {workers} workers: it is in differs.txt")
         refused += "refused" in answers
     print(f"{given.scenes} scenes agree, of which {refused} end in a refusal")
 

@@ -1,12 +1,13 @@
 """Random scenes, on which the program, tools/plain_device.py and the package are held against each other.
 
 Targets are up to 70 by 70, and now and then as long as a target may be, up to 4,096 by 3. Corners lie on centres, on edges of
-pixels, at ties of 1/512 pixel, anywhere near the target, and as far outside as corners may lie. There are three kinds of scenes:
+pixels, at ties of 1/512 pixel, anywhere near the target, and as far outside as corners may lie. There are four kinds of scenes:
 
 - triangles: a hundred triangles under one state;
 - states: lists, strips, indices, cull modes, scissors, depth biases, both faces of the stencil, logic operations under masks,
   queries, predicates and restore flags, and some of the lines are refused;
-- large: triangles that cover all or most of the target, under all functions of depth and stencil.
+- large: triangles that cover all or most of the target, under all functions of depth and stencil;
+- logic: such triangles and small ones under all logic operations and write masks, mostly without tests, with clears between them.
 """
 
 import package_path  # noqa: F401
@@ -204,23 +205,44 @@ class StatesScene:
         self.close("i")
 
 
+def far_corners(chance):
+    """The corners of a triangle that goes far beyond the target, each with a depth of its own."""
+    corners = []
+    for x, y in ((-1, -1), (2, -1), (-1, 2)):
+        far = [chance.randrange(1, FARTHEST_PIXEL // 2) * SUBPIXELS + chance.randrange(SUBPIXELS) for _ in range(2)]
+        depth = chance.choice([chance.randrange(DEEPEST + 1), chance.randrange(100), 8_000_000 + chance.randrange(5)])
+        corners += [max(x * far[0], -FARTHEST), max(y * far[1], -FARTHEST), depth, *(chance.randrange(256) for _ in range(4))]
+    return corners
+
+
 def add_large(chance, scene):
     """Triangles that go far beyond the target, each under tests of its own, with biases and counts."""
     scene.add("i", "topology", 4)
     for number in range(12):
         scene.add("i", "raster", chance.choice([1, 1, 2, 3]), chance.randrange(2), 0, *bias(chance))
         scene.add("i", "ds", *depth_stencil(chance))
-        corners = []
-        for x, y in ((-1, -1), (2, -1), (-1, 2)):
-            far = [chance.randrange(1, FARTHEST_PIXEL // 2) * SUBPIXELS + chance.randrange(SUBPIXELS) for _ in range(2)]
-            depth = chance.choice([chance.randrange(DEEPEST + 1), chance.randrange(100), 8_000_000 + chance.randrange(5)])
-            corners += [max(x * far[0], -FARTHEST), max(y * far[1], -FARTHEST), depth, *(chance.randrange(256) for _ in range(4))]
-        scene.add("i", "vb", *corners)
+        scene.add("i", "vb", *far_corners(chance))
         scene.add("i", "begin", number % len(QUERIES))
         scene.add("i", "draw", 3, 0)
         scene.add("i", "end", number % len(QUERIES))
     for query in QUERIES:
         scene.add("i", "query", query)
+
+
+def add_logic(chance, scene):
+    """Triangles under logic operations, of which many cover all of the target and few are tested, and clears of colours."""
+    scene.add("i", "topology", 4)
+    scene.add("i", "raster", 1, 0, 0)
+    for _ in range(16):
+        kind = chance.randrange(8)
+        if kind == 0:
+            scene.add("i", "clearc", *(chance.randrange(256) for _ in range(4)))
+            continue
+        scene.add("i", "ds", *(depth_stencil(chance) if kind == 1 else [0, 0, 8, 0, 255, 255, *[1, 1, 1, 8] * 2, 0]))
+        operation = chance.choice([chance.randrange(16), 5, 10])
+        scene.add("i", "blend", int(chance.randrange(6) != 0), operation, chance.choice([15, 15, chance.randrange(16)]))
+        scene.add("i", "vb", *(vertices(chance, scene, 3) if kind < 4 else far_corners(chance)))
+        scene.add("i", "draw", 3, 0)
 
 
 def target(chance):
@@ -232,7 +254,7 @@ def target(chance):
     return sides
 
 
-KINDS = ("triangles", "states", "large")
+KINDS = ("triangles", "states", "large", "logic")
 
 
 def random_scene(chance, number, asked=20, kinds=KINDS[:2]):
@@ -243,6 +265,8 @@ def random_scene(chance, number, asked=20, kinds=KINDS[:2]):
         StatesScene(chance, scene).fill()
     elif kind == "large":
         add_large(chance, scene)
+    elif kind == "logic":
+        add_logic(chance, scene)
     else:
         add_triangles(chance, scene)
     for _ in range(asked):
