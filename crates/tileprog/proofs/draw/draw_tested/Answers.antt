@@ -1,5 +1,3 @@
-use Rattle.std.proofs.Common.{subst, sym, ◌∙◌}
-use Rattle.gfxspec.specs.Raster.{centre, covers}
 use Rattle.tileprog.proofs.Hiding.{vertices_within}
 use Rattle.tileprog.proofs.draw.draw_tested.Goals as goal
 
