@@ -104,8 +104,8 @@ def test_the_plain_evaluation_stands_in_for_the_program(tmp_path: Path) -> None:
 
 
 def test_random_scenes_agree(program: Path) -> None:
-    ran = run_tool("tools/compare.py", "3", "3", "--program", str(program))
-    assert ran.stdout.startswith("3 scenes agree"), ran.stderr
+    ran = run_tool("tools/compare.py", "4", "3", "--program", str(program))
+    assert ran.stdout.startswith("4 scenes agree"), ran.stderr
 
 
 def test_the_examples_of_the_gallery_are_as_they_are_made(tmp_path: Path) -> None:
