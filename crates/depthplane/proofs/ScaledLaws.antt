@@ -4,14 +4,15 @@ use Rattle.std.specs.Prelude.{ℤ, unsigned_abs, pos, negsuc, ◌+ℤ◌, ◌-�
 use Rattle.std.specs.Int.{int_div_euclid, int_rem_euclid}
 use Rattle.std.proofs.lemmas.Nat.{div-add-mod', mod_below, div-mul-add}
 use Rattle.std.proofs.lemmas.Int.{ints}
-use Rattle.std.proofs.Math.Nat.{mul-le-mul_left, mul-le-mul_right, add-mul, mul_right_comm}
+use Rattle.std.proofs.Math.Nat.{mul-le-mul_left, mul-le-mul_right, add-mul, mul-add, mul_right_comm}
 use Rattle.gfxspec.proofs.Integers.{spread, mul_assoc, mul_left_comm}
 use Rattle.depthplane.specs.declared.division.Divided.{Divided}
 use Rattle.depthplane.specs.declared.height.Linear.{Linear}
 use Rattle.depthplane.specs.declared.scaled.Scaled.{Scaled}
+use Rattle.depthplane.specs.declared.start.Start.{Start}
 use Rattle.depthplane.specs.Division.{IsDivision, IsDivisor, IsRest}
 use Rattle.depthplane.specs.Linear.{value_at}
-use Rattle.depthplane.specs.Scaled.{IsScaled, IsScaledLinear, excess_at}
+use Rattle.depthplane.specs.Scaled.{IsScaled, IsScaledLinear, excess_at, scaled_at}
 use Rattle.depthplane.proofs.DivisionLaws.{splits, only_split}
 
 -- what v is more than the scaled number, in parts of the divisor, and how many multiples of 2^64 it left out
@@ -171,7 +172,7 @@ by_error n d zero v l near exact = exact refl
 by_error n d (suc zero) v l near exact = near
 by_error n d (suc (suc e)) v l near exact = absurd (omega (arith, l))
 
--- the value at a pixel, by steps from the first
+-- the excess behind some steps
 excess_is : (e x y : ℕ) → e ≤ 1 → (e + x * e) + y * e ≡ excess_at e x y
 excess_is zero x y l = omega arith
 excess_is (suc zero) x y l = omega arith
@@ -182,50 +183,78 @@ small_times zero x l = omega arith
 small_times (suc zero) x l = omega arith
 small_times (suc (suc e)) x l = absurd (omega (arith, l))
 
-pub at_pixel : (f : Linear) (d : ℤ) (s : Scaled) (x y : ℕ) → IsDivisor d → IsScaledLinear f d s → x < 4294967296 → y < 4294967296
-    → IsScaled (value_at f x y) d (excess_at s.error x y) (((s.origin + s.right * x % 18446744073709551616) % 18446744073709551616 + s.down * y % 18446744073709551616) % 18446744073709551616)
-at_pixel f d s x y p h few_x few_y =
+-- the value so many steps to the right and down
+steps_add : (a r d x y i j : ℕ) → (((a + r * x + d * y) % 18446744073709551616 + r * i % 18446744073709551616) % 18446744073709551616 + d * j % 18446744073709551616) % 18446744073709551616 ≡ (a + r * (x + i) + d * (y + j)) % 18446744073709551616
+steps_add a r d x y i j = let p = mul-add r x i in let q = mul-add d y j in by (r * x) (d * y) (r * i) (d * j) (r * (x + i)) (d * (y + j)) p q
+  where
+    by : (rx dy ri dj right down : ℕ) → right ≡ rx + ri → down ≡ dy + dj → (((a + rx + dy) % 18446744073709551616 + ri % 18446744073709551616) % 18446744073709551616 + dj % 18446744073709551616) % 18446744073709551616 ≡ (a + right + down) % 18446744073709551616
+    by rx dy ri dj right down e f = omega (arith, e, f)
+
+value_steps : (f : Linear) (x y i j : ℕ) → value_at f x y +ℤ pos i *ℤ f.step_x +ℤ pos j *ℤ f.step_y ≡ value_at f (x + i) (y + j)
+value_steps f x y i j = by f.origin f.step_x f.step_y
+  where
+    by : (o s t : ℤ) → (o +ℤ pos x *ℤ s +ℤ pos y *ℤ t) +ℤ pos i *ℤ s +ℤ pos j *ℤ t ≡ o +ℤ pos (x + i) *ℤ s +ℤ pos (y + j) *ℤ t
+    by o s t = omega (arith, ints)
+
+at_steps : (f : Linear) (d : ℤ) (start : Start) (s : Scaled) (i j : ℕ) → IsDivisor d → IsScaledLinear f d start s → i < 4294967296 → j < 4294967296
+    → IsScaled (value_at f (start.left + i) (start.top + j)) d (excess_at s.error i j) (scaled_at s (start.left + i) (start.top + j))
+at_steps f d start s i j p h few_i few_j =
     let e = s.error in
     let l = h.error in
-    let sx = small_times e x l in
-    let sy = small_times e y l in
-    let along = times_scaled f.step_x d e s.right x p.positive (omega (arith, sx)) h.right in
-    let below = times_scaled f.step_y d e s.down y p.positive (omega (arith, sy)) h.down in
-    let first = sum_scaled f.origin (pos x *ℤ f.step_x) d e (x * e) s.origin (s.right * x % 18446744073709551616) p.positive (omega (arith, sx, l)) h.origin along in
-    let both = sum_scaled (f.origin +ℤ pos x *ℤ f.step_x) (pos y *ℤ f.step_y) d (e + x * e) (y * e) ((s.origin + s.right * x % 18446744073709551616) % 18446744073709551616) (s.down * y % 18446744073709551616) p.positive (omega (arith, sx, sy, l)) first below in
-    subst (λ k. IsScaled (value_at f x y) d k (((s.origin + s.right * x % 18446744073709551616) % 18446744073709551616 + s.down * y % 18446744073709551616) % 18446744073709551616)) (excess_is e x y l) both
+    let first_value = scaled_at s start.left start.top in
+    let right_value = s.right * i % 18446744073709551616 in
+    let down_value = s.down * j % 18446744073709551616 in
+    let si = small_times e i l in
+    let sj = small_times e j l in
+    let along = times_scaled f.step_x d e s.right i p.positive (omega (arith, si, few_i)) h.right in
+    let below = times_scaled f.step_y d e s.down j p.positive (omega (arith, sj, few_j)) h.down in
+    let first = sum_scaled (value_at f start.left start.top) (pos i *ℤ f.step_x) d e (i * e) first_value right_value p.positive (omega (arith, si, l, few_i)) h.begins along in
+    let both = sum_scaled (value_at f start.left start.top +ℤ pos i *ℤ f.step_x) (pos j *ℤ f.step_y) d (e + i * e) (j * e) ((first_value + right_value) % 18446744073709551616) down_value p.positive (omega (arith, si, sj, l, few_i, few_j)) first below in
+    let P : ℕ → Type 0 = λ k. IsScaled (value_at f start.left start.top +ℤ pos i *ℤ f.step_x +ℤ pos j *ℤ f.step_y) d k (((first_value + right_value) % 18446744073709551616 + down_value) % 18446744073709551616) in
+    let Q : ℕ → Type 0 = λ v. IsScaled (value_at f start.left start.top +ℤ pos i *ℤ f.step_x +ℤ pos j *ℤ f.step_y) d (excess_at e i j) v in
+    let R : ℤ → Type 0 = λ n. IsScaled n d (excess_at e i j) (scaled_at s (start.left + i) (start.top + j)) in
+    subst R (value_steps f start.left start.top i j) (subst Q (steps_add s.origin s.right s.down start.left start.top i j) (subst P (excess_is e i j l) both))
 
--- the excess after steps
-pub excess_right : (e x y : ℕ) → e ≤ 1 → excess_at e x y + 8 * e ≡ excess_at e (x + 8) y
-excess_right zero x y l = omega arith
-excess_right (suc zero) x y l = omega arith
-excess_right (suc (suc e)) x y l = absurd (omega (arith, l))
+-- the value at a pixel from where the triangle begins
+pub at_pixel : (f : Linear) (d : ℤ) (start : Start) (s : Scaled) (x y : ℕ) → IsDivisor d → IsScaledLinear f d start s → start.left ≤ x → start.top ≤ y → x < 4294967296 → y < 4294967296
+    → IsScaled (value_at f x y) d (excess_at s.error (x - start.left) (y - start.top)) (scaled_at s x y)
+at_pixel f d start s x y p h right down few_x few_y =
+    let i = x - start.left in
+    let j = y - start.top in
+    let x_is : start.left + i ≡ x = omega (arith, right) in
+    let y_is : start.top + j ≡ y = omega (arith, down) in
+    let P : ℕ → Type 0 = λ u. IsScaled (value_at f u (start.top + j)) d (excess_at s.error i j) (scaled_at s u (start.top + j)) in
+    let Q : ℕ → Type 0 = λ v. IsScaled (value_at f x v) d (excess_at s.error i j) (scaled_at s x v) in
+    subst Q y_is (subst P x_is (at_steps f d start s i j p h (omega (arith, few_x)) (omega (arith, few_y))))
 
-pub excess_down : (e x y : ℕ) → e ≤ 1 → excess_at e x y + e ≡ excess_at e x (y + 1)
-excess_down zero x y l = omega arith
-excess_down (suc zero) x y l = omega arith
-excess_down (suc (suc e)) x y l = absurd (omega (arith, l))
+-- the values that a step leads to
+pub lanes_right : (s : Scaled) (x y j across v w : ℕ) → across ≡ s.right * 8 % 18446744073709551616 → v ≡ scaled_at s (x + j) y → w ≡ (v + across) % 18446744073709551616 → w ≡ scaled_at s (x + 8 + j) y
+lanes_right s x y j across v w step here is =
+    let p = mul-add s.right (x + j) 8 in
+    let q : s.right * (x + j + 8) ≡ s.right * (x + 8 + j) = ap (λ n. s.right * n) (omega arith) in
+    by s.origin (s.down * y) (s.right * (x + j)) (s.right * 8) (s.right * (x + 8 + j)) (omega (arith, p, q)) step here
+  where
+    by : (o d r e t : ℕ) → t ≡ r + e → across ≡ e % 18446744073709551616 → v ≡ (o + r + d) % 18446744073709551616 → w ≡ (o + t + d) % 18446744073709551616
+    by o d r e t sum eight before = omega (arith, sum, eight, before, is)
 
-pub excess_bound : (a e x y : ℕ) → e ≤ 1 → x ≤ 8191 → y ≤ 8191 → a * (e * 16384) < 4294967296 → a * excess_at e x y < 4294967296
-excess_bound a zero x y l p q s = omega (arith, s)
-excess_bound a (suc zero) x y l p q s = let few : excess_at 1 x y ≤ 16384 = omega (arith, p, q) in let w = mul-le-mul_left a few in omega (arith, s, w)
-excess_bound a (suc (suc e)) x y l p q s = absurd (omega (arith, l))
+pub lanes_down : (s : Scaled) (x y down v w : ℕ) → down ≡ s.down → v ≡ scaled_at s x y → w ≡ (v + down) % 18446744073709551616 → w ≡ scaled_at s x (y + 1)
+lanes_down s x y down v w step here is =
+    let p = mul-add s.down y 1 in
+    by s.origin (s.right * x) (s.down * y) (s.down * (y + 1)) (omega (arith, p, step)) here
+  where
+    by : (o r d t : ℕ) → t ≡ d + down → v ≡ (o + r + d) % 18446744073709551616 → w ≡ (o + r + t) % 18446744073709551616
+    by o r d t sum before = omega (arith, sum, before, is)
+
+-- the excess where a triangle lies
+pub excess_bound : (a e i j n : ℕ) → e ≤ 1 → i + j ≤ n → a * (e * (1 + n)) < 4294967296 → a * excess_at e i j < 4294967296
+excess_bound a zero i j n l q s = omega (arith, s)
+excess_bound a (suc zero) i j n l q s = let few : excess_at 1 i j ≤ 1 * (1 + n) = omega (arith, q) in let w = mul-le-mul_left a few in omega (arith, s, w)
+excess_bound a (suc (suc e)) i j n l q s = absurd (omega (arith, l))
 
 pub excess_few : (e x y : ℕ) → e ≤ 1 → x ≤ 8191 → y ≤ 8191 → excess_at e x y ≤ 16384
 excess_few zero x y l p q = omega arith
 excess_few (suc zero) x y l p q = omega arith
 excess_few (suc (suc e)) x y l p q = absurd (omega (arith, l))
-
--- the value after a step, which adds the difference of what it leads to and from
-pub step_scaled : (n m d : ℤ) (e f g v w r : ℕ) → pos 0 <ℤ d → e + f ≡ g → g < 18446744073709551616 → r ≡ (v + w) % 18446744073709551616 → IsScaled n d e v → IsScaled (m -ℤ n) d f w → IsScaled m d g r
-step_scaled n m d e f g v w r p sum few is h k =
-    let P : ℤ → Type 0 = λ z. IsScaled z d (e + f) ((v + w) % 18446744073709551616) in
-    let Q : ℕ → Type 0 = λ x. IsScaled m d x ((v + w) % 18446744073709551616) in
-    let R : ℕ → Type 0 = λ x. IsScaled m d g x in
-    subst R (sym is) (subst Q sum (subst P (there n m) (sum_scaled n (m -ℤ n) d e f v w p (omega (arith, sum, few)) h k)))
-  where
-    there : (n m : ℤ) → n +ℤ (m -ℤ n) ≡ m
-    there n m = omega (arith, ints)
 
 -- a natural number that is scaled and small left nothing out
 turned_none : (h a v : ℕ) (o t : ℤ) (e : ℕ) → v < 18446744073709551616 → h ≤ a * 16777215 → e ≤ 16384 → 0 < a → pos v *ℤ pos a ≡ pos 4294967296 *ℤ pos h +ℤ o +ℤ t *ℤ (pos 18446744073709551616 *ℤ pos a) → pos 0 ≤ℤ o → o ≤ℤ (pos a *ℤ pos e) → t ≡ pos 0

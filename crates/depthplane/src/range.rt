@@ -11,7 +11,7 @@ ghost use Rattle.depthplane.specs.Range.{far_end, greatest_corner, least_corner,
 use crate::bias::both_with_bias;
 use crate::plane::Plane;
 use crate::scaled::UNIT;
-use crate::walks_scaled::{NEAR, is_sure, mended};
+use crate::walks_scaled::{NEAR, mended};
 use gfxspec::PixelRect;
 
 /// Of the first and the last place of a line, the one where a number is least, and the one where it is greatest: the number rises along
@@ -35,7 +35,7 @@ impl Plane {
         ensures { IsTrue (covers self.now.triangle (centre x y)) → result ≡ depth_of (without_bias self.now) x y }
     {
         let whole = (self.scaled.at(x, y) / UNIT) as u32;
-        if is_sure(self.area, self.scaled.error) {
+        if self.scaled.sure {
             return whole;
         }
         let height = self.height().at(x, y);

@@ -1,13 +1,14 @@
 //! Heights divided by the area, in 2^32nds: a step is one addition of 64 bits, and the depth is the high half.
 
-ghost use Rattle.std.specs.Prelude.{◌≡◌, ℤ, ◌≤◌, ◌<◌, ◌+◌, ◌*◌, pos, unsigned_abs, ℕ, slice_index};
+ghost use Rattle.std.specs.Prelude.{◌≡◌, ℤ, ◌≤◌, ◌<◌, ◌+◌, ◌*◌, ◌%◌, pos, unsigned_abs, ℕ, slice_index, IsTrue};
 ghost use Rattle.gfxspec.specs.Limits.{side_bound};
 ghost use Rattle.depthplane.specs.Division.{IsDivision, IsDivisor, IsRest};
-ghost use Rattle.depthplane.specs.Linear.{IsHeight, value_at};
-ghost use Rattle.depthplane.specs.Scaled.{IsScaled, IsScaledLinear, excess_at};
+ghost use Rattle.depthplane.specs.Linear.{IsHeight};
+ghost use Rattle.depthplane.specs.Scaled.{IsScaled, IsScaledLinear, scaled_at};
 
 use crate::division::{Divided, divide, divide_wide};
 use crate::height::Linear;
+use crate::start::Start;
 
 /// One unit of depth, in 2^32nds.
 pub(crate) const UNIT: u64 = 4_294_967_296;
@@ -15,8 +16,9 @@ pub(crate) const UNIT: u64 = 4_294_967_296;
 /// A unit is this times itself: a rest is scaled in two steps, so that each division is one of 64 bits.
 const HALF: u64 = 65_536;
 
-/// A number that is linear over the target, times 2^32 and divided by the area: its value at the centre of pixel (0, 0),
-/// and what a pixel to the right or down adds to it. Each is rounded up, and multiples of 2^64 are left out.
+/// A number that is linear over the target, times 2^32 and divided by the area: its value at the centre of a pixel, and what
+/// a pixel to the right or down adds to it. Each is rounded up, and multiples of 2^64 are left out. The value is kept as what
+/// leads to it from pixel (0, 0), by steps that are rounded already: so it's exact where a triangle begins, and each step from there adds an error.
 #[derive(Clone, Copy, Debug)]
 pub(crate) struct Scaled {
     pub(crate) origin: u64,
@@ -27,6 +29,8 @@ pub(crate) struct Scaled {
     /// Whether a pixel to the right adds nothing below 0, and a pixel down.
     pub(crate) rises_right: bool,
     pub(crate) rises_down: bool,
+    /// Whether no value between the triangle's corners may be too great by so much that its whole part is.
+    pub(crate) sure: bool,
 }
 
 /// A rest in 2^32nds of its divisor, rounded up.
@@ -68,31 +72,66 @@ fn error_of(origin: Divided, right: Divided, down: Divided) -> u8
     }
 }
 
+/// Whether values that may be too great by so many 2^32nds, and by as many more for each of so many steps, still have the right whole parts: the least that
+/// a quotient lacks to the next whole number is 1 divided by the divisor.
+#[inline(always)]
+fn is_sure(divisor: i64, error: u8, steps: u32) -> bool
+    requires divisor { IsDivisor divisor }
+    requires error { error ≤ 1 }
+    requires steps { steps ≤ 16384 }
+    ensures { IsTrue result → unsigned_abs divisor * (error * (1 + steps)) < 4294967296 }
+{
+    error == 0 || divisor.unsigned_abs() * u64::from(1 + steps) < UNIT
+}
+
+/// What leads to a value at (x, y) from pixel (0, 0).
+#[inline(always)]
+fn led_back(value: u64, right: u64, down: u64, x: u32, y: u32) -> u64
+    ensures { (result + right * x + down * y) % 18446744073709551616 ≡ value }
+{
+    value
+        .wrapping_sub(right.wrapping_mul(u64::from(x)))
+        .wrapping_sub(down.wrapping_mul(u64::from(y)))
+}
+
 impl Scaled {
-    /// A linear number's value at pixel (0, 0) and its steps, divided, in 2^32nds.
+    /// A linear number's value where a triangle begins and its steps, divided, in 2^32nds.
     #[inline(always)]
-    pub(crate) fn of(number: Linear, divisor: i64) -> Scaled
+    pub(crate) fn of(number: Linear, divisor: i64, start: Start) -> Scaled
         requires divisor { IsDivisor divisor }
         requires small { IsHeight number }
-        ensures { IsScaledLinear number divisor result }
+        requires left { start.left ≤ 4096 }
+        requires top { start.top ≤ 4096 }
+        requires steps { start.steps ≤ 16384 }
+        ensures { IsScaledLinear number divisor start result }
     {
-        let origin = divide_wide(number.origin, divisor);
-        let right = divide(number.step_x, divisor);
-        let down = divide(number.step_y, divisor);
+        let begins = divide_wide(number.at(start.left, start.top), divisor);
+        let across = divide(number.step_x, divisor);
+        let below = divide(number.step_y, divisor);
+        let right = parts_of(across, divisor);
+        let down = parts_of(below, divisor);
+        let error = error_of(begins, across, below);
         Scaled {
-            origin: parts_of(origin, divisor),
-            right: parts_of(right, divisor),
-            down: parts_of(down, divisor),
-            error: error_of(origin, right, down),
+            origin: led_back(
+                parts_of(begins, divisor),
+                right,
+                down,
+                start.left,
+                start.top,
+            ),
+            right,
+            down,
+            error,
             rises_right: number.step_x >= 0,
             rises_down: number.step_y >= 0,
+            sure: is_sure(divisor, error, start.steps),
         }
     }
 
     /// The value at pixel (x, y).
     #[inline]
     pub(crate) fn at(self, x: u32, y: u32) -> u64
-        ensures { (f : Linear) (divisor : ℤ) → IsDivisor divisor → IsScaledLinear f divisor self → IsScaled (value_at f x y) divisor (excess_at self.error x y) result }
+        ensures { result ≡ scaled_at self x y }
     {
         let along = self.right.wrapping_mul(u64::from(x));
         let below = self.down.wrapping_mul(u64::from(y));
@@ -102,9 +141,7 @@ impl Scaled {
     /// The values at pixel (x, y) and the seven to its right.
     pub(crate) fn eight_at(self, x: u32, y: u32) -> [u64; 8]
         requires x { x < side_bound }
-        ensures near { (f : Linear) (divisor : ℤ) → IsDivisor divisor → IsScaledLinear f divisor self → (j : ℕ) → j < 8
-            → IsScaled (value_at f (x + j) y) divisor (excess_at self.error (x + j) y) (slice_index result j) }
-        ensures fits { (j : ℕ) → j < 8 → slice_index result j < 18446744073709551616 }
+        ensures { (j : ℕ) → j < 8 → slice_index result j ≡ scaled_at self (x + j) y }
     {
         let mut values = [0; 8];
         for j in 0..8u32 {

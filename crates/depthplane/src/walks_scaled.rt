@@ -26,11 +26,9 @@ pub struct ScaledWalks<'a> {
     top: u32,
     x: u32,
     y: u32,
-    area: i64,
     across: u64,
     down: u64,
-    error: u8,
-    /// Whether every depth is sure: nothing was rounded, or the area is so small that no value can be too near.
+    /// Whether every depth is sure, since no value can be too near above a whole number.
     sure: bool,
     lanes: [u64; 8],
 }
@@ -123,15 +121,6 @@ fn mend(plane: &Plane, x: u32, y: u32, depths: [u32; 8]) -> [u32; 8]
     exact
 }
 
-/// Whether an area is so small, or nothing was rounded, that each depth is sure.
-pub(crate) fn is_sure(area: i64, error: u8) -> bool
-    requires divisor { IsDivisor area }
-    requires error { error ≤ 1 }
-    ensures { IsTrue result → unsigned_abs area * (error * 16384) < 4294967296 }
-{
-    error == 0 || area < 262_144
-}
-
 impl Plane {
     /// Eight walks that begin at pixel (x, y) and the seven to its right, over the depths before any bias.
     pub fn walk_eight(&self, x: u32, y: u32) -> ScaledWalks<'_>
@@ -146,11 +135,9 @@ impl Plane {
             top: y,
             x,
             y,
-            area: self.area,
             across: scaled.right.wrapping_mul(8),
             down: scaled.down,
-            error: scaled.error,
-            sure: is_sure(self.area, scaled.error),
+            sure: scaled.sure,
             lanes: scaled.eight_at(x, y),
         }
     }
@@ -193,10 +180,8 @@ impl<'a> Walks for ScaledWalks<'a> {
             top: self.top,
             x: self.x,
             y: self.y,
-            area: self.area,
             across: self.across,
             down: self.down,
-            error: self.error,
             sure: self.sure,
             lanes: self.lanes,
         }

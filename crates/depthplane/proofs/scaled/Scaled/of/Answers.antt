@@ -1,8 +1,10 @@
-use Rattle.std.proofs.Common.{rules, ◌∙◌, ap, w64, FitsSigned}
-use Rattle.std.specs.Prelude.{pos}
+use Rattle.std.proofs.Common.{rules, ◌∙◌, ap, sym, subst, ℕ, w64, FitsSigned}
+use Rattle.std.specs.Prelude.{ℤ, pos}
 use Rattle.std.specs.Int.{w128}
 use Rattle.std.specs.Int.Signed.{le_z}
 use Rattle.std.proofs.lemmas.Int.{to_z-of_z}
+use Rattle.depthplane.specs.Linear.{value_at}
+use Rattle.depthplane.specs.Scaled.{IsScaled}
 use Rattle.depthplane.proofs.HeightLaws.{rises_is}
 use Rattle.depthplane.proofs.ScaledLaws.{by_error}
 use Rattle.depthplane.proofs.scaled.Scaled.of.Goals as goal
@@ -14,20 +16,24 @@ returns c =
     let f : FitsSigned w64 d = search rules in
     let g : FitsSigned w64 n.step_x = search rules in
     let h : FitsSigned w64 n.step_y = search rules in
-    let k : FitsSigned w128 n.origin = search rules in
-    let e = c.error_of.result in
-    let origin = simp to_z-of_z at c.divide_wide-origin.ensures.exact in
-    let right = simp to_z-of_z at c.divide-right.ensures.exact in
-    let down = simp to_z-of_z at c.divide-down.ensures.exact in
+    let k : FitsSigned w128 c.at.result = search rules in
+    let e = c.error_of-error.result in
+    let begins = simp to_z-of_z at c.divide_wide-begins.ensures.exact in
+    let right = simp to_z-of_z at c.divide-across.ensures.exact in
+    let down = simp to_z-of_z at c.divide-below.ensures.exact in
     let p0 = simp to_z-of_z at c.parts_of.ensures in
-    let p1 = simp to_z-of_z at c.parts_of-2.ensures in
-    let p2 = simp to_z-of_z at c.parts_of-3.ensures in
-    let x = c.error_of.ensures in
+    let p1 = simp to_z-of_z at c.parts_of-right.ensures in
+    let p2 = simp to_z-of_z at c.parts_of-down.ensures in
+    let x = c.error_of-error.ensures in
+    let P : ℤ → Type 0 = λ m. IsScaled m d e c.parts_of.result in
+    let Q : ℕ → Type 0 = λ v. IsScaled (value_at n c.args.start.left c.args.start.top) d e v in
+    let first = by_error c.at.result d e c.parts_of.result x.small (p0.near c.at.result begins) (λ i. p0.exact c.at.result (x.origin i) begins) in
     record {
       error = x.small;
-      origin = by_error n.origin d e c.parts_of.result x.small (p0.near n.origin origin) (λ i. p0.exact n.origin (x.origin i) origin);
-      right = by_error n.step_x d e c.parts_of-2.result x.small (p1.near n.step_x right) (λ i. p1.exact n.step_x (x.right i) right);
-      down = by_error n.step_y d e c.parts_of-3.result x.small (p2.near n.step_y down) (λ i. p2.exact n.step_y (x.down i) down);
+      begins = subst Q (sym c.led_back.ensures) (subst P c.at.ensures.value first);
+      right = by_error n.step_x d e c.parts_of-right.result x.small (p1.near n.step_x right) (λ i. p1.exact n.step_x (x.right i) right);
+      down = by_error n.step_y d e c.parts_of-down.result x.small (p2.near n.step_y down) (λ i. p2.exact n.step_y (x.down i) down);
       rises_right = ap (le_z (pos 0)) (to_z-of_z w64 n.step_x g) ∙ rises_is n.step_x;
       rises_down = ap (le_z (pos 0)) (to_z-of_z w64 n.step_y h) ∙ rises_is n.step_y;
+      sure = simp to_z-of_z at c.is_sure.ensures;
     }
