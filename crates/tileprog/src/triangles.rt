@@ -96,7 +96,9 @@ fn depth_range(triangle: &TriSetup, rect: PixelRect, all: bool) -> (u32, u32)
 }
 
 /// A triangle under a state entry over a tile, of whose colours bits may still have to be flipped; the answer is how many pixels pass.
-pub(crate) fn run_triangle<A: Allocator>(
+/// It stands by itself, so that a word whose triangle is hidden pays for none of what it keeps.
+#[inline(never)]
+fn run_triangle<A: Allocator>(
     block: &mut TileBlock<A>,
     flip: &mut u32,
     triangle: &TriSetup,
@@ -136,4 +138,30 @@ pub(crate) fn run_triangle<A: Allocator>(
     let passed = draw_under(block, triangle, mask, entry, clip, *flip);
     keep_after(block, after, passed);
     passed
+}
+
+/// A triangle under a state entry over a tile, of whose colours bits may still have to be flipped; the answer is how many pixels pass.
+/// Nothing else is asked where the depths of its vertices tell that it is hidden.
+#[inline(always)]
+pub(crate) fn run_unless_hidden<A: Allocator>(
+    block: &mut TileBlock<A>,
+    flip: &mut u32,
+    triangle: &TriSetup,
+    mask: EdgeMask,
+    entry: &StateEntry,
+) -> u32
+    requires tile { IsTile block.old.rect }
+    requires class { IsClassOf (Cut (edge_bits mask)) triangle.now.edges block.old.rect }
+    requires bounded { IsBounded triangle.now entry.now }
+    ensures rect { block.new.rect ≡ block.old.rect }
+    ensures pixels { (u v : ℕ) → IsIn block.old.rect u v → stands_for flip.new block.new u v ≡ triangle_by mask (Some triangle.now) (Some entry.now) u v (stands_for flip.old block.old u v) }
+    ensures count { result ≡ sum_over block.old.rect (triangle_count mask triangle.now entry.now block.old) }
+    ensures few { result ≤ 1024 }
+{
+    let stored = block.depth_bounds();
+    let hidden = is_hidden(entry, triangle.least_depth, triangle.greatest_depth, stored);
+    if hidden {
+        return 0;
+    }
+    run_triangle(block, flip, triangle, mask, entry)
 }

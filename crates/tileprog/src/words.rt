@@ -11,7 +11,7 @@ ghost use Rattle.tileprog.specs.Passing.{shown, word_passed, is_open, NamesState
 ghost use Rattle.tileprog.specs.Runs.{RunsTo};
 
 use crate::paint::flip_tile;
-use crate::triangles::run_triangle;
+use crate::triangles::run_unless_hidden;
 use binner::{Compiled, StateEntry};
 use std::alloc::Allocator;
 use tileblock::TileBlock;
@@ -68,7 +68,7 @@ fn next_force<'a, A: Allocator + Copy>(
 }
 
 /// Runs one word on a block, of whose colours bits may still have to be flipped; the answer is how many pixels pass.
-#[inline]
+#[inline(always)]
 fn run_word<A: Allocator + Copy>(
     compiled: &Compiled<A>,
     force: Option<&StateEntry>,
@@ -85,7 +85,7 @@ fn run_word<A: Allocator + Copy>(
     match word {
         Word::State(_) => 0,
         Word::Tri(number, mask) => match force {
-            Some(entry) => run_triangle(block, flip, compiled.tri(number), mask, entry),
+            Some(entry) => run_unless_hidden(block, flip, compiled.tri(number), mask, entry),
             None => unreachable!(),
         },
         Word::ClearC(number) => {

@@ -4,8 +4,8 @@ use Rattle.tileprog.specs.Passing.{shown}
 use Rattle.tileprog.proofs.Totals.{state_passed, color_passed, depth_passed, tri_passed, names_color, names_depth, names_class}
 use Rattle.tileprog.proofs.words.run_word.Goals as goal
 
-pub run_triangle-requires-clause-class : goal.run_triangle-requires-clause-class
-run_triangle-requires-clause-class g c =
+pub run_unless_hidden-requires-clause-class : goal.run_unless_hidden-requires-clause-class
+run_unless_hidden-requires-clause-class g c =
     names_class c.args.compiled.now.tables c.args.block.now.rect (shown c.args.force) c.args.word c.requires.fits c.in-Tri.number c.in-Tri.mask c.tri.result.now c.in-Tri.is c.tri.ensures
 
 pub color-requires : goal.color-requires
@@ -26,5 +26,5 @@ returns-in-ClearDs-clause-passed g c = depth_passed c.args.compiled.now.tables (
 pub returns-in-Some-clause-passed : goal.returns-in-Some-clause-passed
 returns-in-Some-clause-passed g c =
     let force : shown c.args.force ≡ Some c.in-Some.entry.now = search rules in
-    tri_passed c.args.compiled.now.tables (shown c.args.force) c.args.word c.args.block.now.rect (stands_for c.args.flip.now c.args.block.now) c.in-Tri.number c.run_triangle.result c.in-Tri.mask c.tri.result.now c.in-Some.entry.now c.in-Tri.is c.tri.ensures force
-    c.run_triangle.ensures.count
+    tri_passed c.args.compiled.now.tables (shown c.args.force) c.args.word c.args.block.now.rect (stands_for c.args.flip.now c.args.block.now) c.in-Tri.number c.run_unless_hidden.result c.in-Tri.mask c.tri.result.now c.in-Some.entry.now c.in-Tri.is c.tri.ensures force
+    c.run_unless_hidden.ensures.count
