@@ -228,7 +228,7 @@ step_scaled n m d e f g v w r p sum few is h k =
     there n m = omega (arith, ints)
 
 -- a natural number that is scaled and small left nothing out
-turned_none : (h a v : ℕ) (o t : ℤ) (e : ℕ) → v < 18446744073709551616 → h ≤ a * 16777215 → e ≤ 16384 → 0 < a → pos v *ℤ pos a ≡ pos 4294967296 *ℤ pos h +ℤ o +ℤ t *ℤ (pos 18446744073709551616 *ℤ pos a) → pos 0 ≤ℤ o → o ≤ℤ (pos a *ℤ pos e) → t ≡ pos 0
+turned_none : (h a v : ℕ) (o t : ℤ) (e : ℕ) → v < 18446744073709551616 → h ≤ a * 4294967294 → e ≤ 32768 → 0 < a → pos v *ℤ pos a ≡ pos 4294967296 *ℤ pos h +ℤ o +ℤ t *ℤ (pos 18446744073709551616 *ℤ pos a) → pos 0 ≤ℤ o → o ≤ℤ (pos a *ℤ pos e) → t ≡ pos 0
 turned_none h a v o (pos zero) e l m few some x low high = refl
 turned_none h a v o (pos (suc k)) e l m few some x low high = absurd (let y = mul-le-mul_left a l in omega (arith, ints, x, y))
 turned_none h a v o (negsuc k) e l m few some x low high = absurd (let y = mul-le-mul_left a few in omega (arith, ints, x, y))
@@ -238,7 +238,7 @@ pub record IsAbove (h a e v : ℕ) : Type 0 where
   pub least : 4294967296 * h ≤ v * a
   pub most : v * a ≤ 4294967296 * h + a * e
 
-pub above : (h a e v : ℕ) → v < 18446744073709551616 → h ≤ a * 16777215 → e ≤ 16384 → 0 < a → IsScaled (pos h) (pos a) e v → IsAbove h a e v
+pub above : (h a e v : ℕ) → v < 18446744073709551616 → h ≤ a * 4294967294 → e ≤ 32768 → 0 < a → IsScaled (pos h) (pos a) e v → IsAbove h a e v
 above h a e v l m few some s =
     let p : pos 0 <ℤ pos a = omega (arith, ints) in
     let b = lies (pos h) (pos a) e v p s in

@@ -1,10 +1,10 @@
 //! Heights divided by the area, in 2^32nds: a step is one addition of 64 bits, and the depth is the high half.
 
-ghost use Rattle.std.specs.Prelude.{◌≡◌, ℤ, ◌≤◌, ◌<◌, ◌+◌, ◌*◌, pos, unsigned_abs, ℕ, slice_index};
+ghost use Rattle.std.specs.Prelude.{◌≡◌, ℤ, ◌≤◌, ◌<◌, ◌+◌, ◌*◌, pos, unsigned_abs, ℕ, slice_index, IsTrue};
 ghost use Rattle.gfxspec.specs.Limits.{side_bound};
 ghost use Rattle.depthplane.specs.Division.{IsDivision, IsDivisor, IsRest};
 ghost use Rattle.depthplane.specs.Linear.{IsHeight, value_at};
-ghost use Rattle.depthplane.specs.Scaled.{IsScaled, IsScaledLinear, excess_at};
+ghost use Rattle.depthplane.specs.Scaled.{IsGentle, IsScaled, IsScaledLinear, excess_at};
 
 use crate::division::{Divided, divide, divide_wide};
 use crate::height::Linear;
@@ -27,6 +27,8 @@ pub(crate) struct Scaled {
     /// Whether a pixel to the right adds nothing below 0, and a pixel down.
     pub(crate) rises_right: bool,
     pub(crate) rises_down: bool,
+    /// Whether a pixel to the right or down changes the number by fewer than 2^24 units.
+    pub(crate) gentle: bool,
 }
 
 /// A rest in 2^32nds of its divisor, rounded up.
@@ -68,6 +70,22 @@ fn error_of(origin: Divided, right: Divided, down: Divided) -> u8
     }
 }
 
+/// A step changes a number by fewer than this many units where it is gentle.
+const GENTLE: u64 = 16_777_216;
+
+/// Whether the steps of a linear number are gentle, once they are divided.
+#[inline(always)]
+fn is_gentle(number: Linear, divisor: i64) -> bool
+    requires divisor { IsDivisor divisor }
+    ensures { IsTrue result → IsGentle number divisor }
+{
+    let steepest = number
+        .step_x
+        .unsigned_abs()
+        .max(number.step_y.unsigned_abs());
+    steepest / GENTLE < divisor.unsigned_abs()
+}
+
 impl Scaled {
     /// A linear number's value at pixel (0, 0) and its steps, divided, in 2^32nds.
     #[inline(always)]
@@ -86,6 +104,7 @@ impl Scaled {
             error: error_of(origin, right, down),
             rises_right: number.step_x >= 0,
             rises_down: number.step_y >= 0,
+            gentle: is_gentle(number, divisor),
         }
     }
 

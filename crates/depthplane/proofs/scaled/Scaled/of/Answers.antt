@@ -30,4 +30,5 @@ returns c =
       down = by_error n.step_y d e c.parts_of-3.result x.small (p2.near n.step_y down) (λ i. p2.exact n.step_y (x.down i) down);
       rises_right = ap (le_z (pos 0)) (to_z-of_z w64 n.step_x g) ∙ rises_is n.step_x;
       rises_down = ap (le_z (pos 0)) (to_z-of_z w64 n.step_y h) ∙ rises_is n.step_y;
+      gentle = simp to_z-of_z at c.is_gentle.ensures;
     }
