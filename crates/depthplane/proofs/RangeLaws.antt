@@ -15,15 +15,15 @@ use Rattle.depthplane.specs.Range.{near_end, far_end, least_corner, greatest_cor
 use Rattle.depthplane.proofs.Biases.{biased_order, deep_without, depth_small, moved_depth, plain_depth}
 use Rattle.depthplane.proofs.DepthLaws.{depth_order}
 
-low_steps : (s : ℤ) (first x last : ℕ) → first ≤ x → x ≤ last → (pos (near_end (rises s) first last) *ℤ s) ≤ℤ (pos x *ℤ s)
+pub low_steps : (s : ℤ) (first x last : ℕ) → first ≤ x → x ≤ last → (pos (near_end (rises s) first last) *ℤ s) ≤ℤ (pos x *ℤ s)
 low_steps (pos n) first x last h k = let m = mul-le-mul_right n h in omega (arith, ints, m)
 low_steps (negsuc n) first x last h k = let m = mul-le-mul_right (suc n) k in omega (arith, ints, m)
 
-high_steps : (s : ℤ) (first x last : ℕ) → first ≤ x → x ≤ last → (pos x *ℤ s) ≤ℤ (pos (far_end (rises s) first last) *ℤ s)
+pub high_steps : (s : ℤ) (first x last : ℕ) → first ≤ x → x ≤ last → (pos x *ℤ s) ≤ℤ (pos (far_end (rises s) first last) *ℤ s)
 high_steps (pos n) first x last h k = let m = mul-le-mul_right n k in omega (arith, ints, m)
 high_steps (negsuc n) first x last h k = let m = mul-le-mul_right (suc n) h in omega (arith, ints, m)
 
-sums : (o a b c d : ℤ) → a ≤ℤ b → c ≤ℤ d → (o +ℤ a +ℤ c) ≤ℤ (o +ℤ b +ℤ d)
+pub sums : (o a b c d : ℤ) → a ≤ℤ b → c ≤ℤ d → (o +ℤ a +ℤ c) ≤ℤ (o +ℤ b +ℤ d)
 sums o a b c d h k = omega (arith, ints, h, k)
 
 -- one of four that is no greater than any is their least, and one that is no less than any their greatest
@@ -41,11 +41,11 @@ greatest_is true false f left right top bottom n is a b c d = omega (arith, is, 
 greatest_is false true f left right top bottom n is a b c d = omega (arith, is, a, b, c, d)
 greatest_is false false f left right top bottom n is a b c d = omega (arith, is, a, b, c, d)
 
-near_within : (s : Bool) (first last : ℕ) → first < last → (first ≤ near_end s first (last - 1)) × (near_end s first (last - 1) < last)
+pub near_within : (s : Bool) (first last : ℕ) → first < last → (first ≤ near_end s first (last - 1)) × (near_end s first (last - 1) < last)
 near_within true first last h = (omega arith, omega (arith, h))
 near_within false first last h = (omega (arith, h), omega (arith, h))
 
-far_within : (s : Bool) (first last : ℕ) → first < last → (first ≤ far_end s first (last - 1)) × (far_end s first (last - 1) < last)
+pub far_within : (s : Bool) (first last : ℕ) → first < last → (first ≤ far_end s first (last - 1)) × (far_end s first (last - 1) < last)
 far_within true first last h = (omega (arith, h), omega (arith, h))
 far_within false first last h = (omega arith, omega (arith, h))
 

@@ -52,7 +52,7 @@ is_scaled n d e v over turns p few h =
     within (negsuc d) e over p few h = absurd (omega (arith, ints))
 
 -- what 64 bits keep of a number
-wraps : (n : ℕ) → pos (n % 18446744073709551616) ≡ pos n -ℤ pos (n / 18446744073709551616) *ℤ pos 18446744073709551616
+pub wraps : (n : ℕ) → pos (n % 18446744073709551616) ≡ pos n -ℤ pos (n / 18446744073709551616) *ℤ pos 18446744073709551616
 wraps n = let z = div-add-mod' n 18446744073709551616 in omega (arith, ints, z)
 
 -- the sum of two scaled numbers
@@ -178,7 +178,7 @@ excess_is zero x y l = omega arith
 excess_is (suc zero) x y l = omega arith
 excess_is (suc (suc e)) x y l = absurd (omega (arith, l))
 
-small_times : (e x : ℕ) → e ≤ 1 → x * e ≤ x
+pub small_times : (e x : ℕ) → e ≤ 1 → x * e ≤ x
 small_times zero x l = omega arith
 small_times (suc zero) x l = omega arith
 small_times (suc (suc e)) x l = absurd (omega (arith, l))
@@ -257,7 +257,7 @@ excess_few (suc zero) x y l p q = omega arith
 excess_few (suc (suc e)) x y l p q = absurd (omega (arith, l))
 
 -- a natural number that is scaled and small left nothing out
-turned_none : (h a v : ℕ) (o t : ℤ) (e : ℕ) → v < 18446744073709551616 → h ≤ a * 16777215 → e ≤ 16384 → 0 < a → pos v *ℤ pos a ≡ pos 4294967296 *ℤ pos h +ℤ o +ℤ t *ℤ (pos 18446744073709551616 *ℤ pos a) → pos 0 ≤ℤ o → o ≤ℤ (pos a *ℤ pos e) → t ≡ pos 0
+turned_none : (h a v : ℕ) (o t : ℤ) (e : ℕ) → v < 18446744073709551616 → h ≤ a * 4294967294 → e ≤ 32768 → 0 < a → pos v *ℤ pos a ≡ pos 4294967296 *ℤ pos h +ℤ o +ℤ t *ℤ (pos 18446744073709551616 *ℤ pos a) → pos 0 ≤ℤ o → o ≤ℤ (pos a *ℤ pos e) → t ≡ pos 0
 turned_none h a v o (pos zero) e l m few some x low high = refl
 turned_none h a v o (pos (suc k)) e l m few some x low high = absurd (let y = mul-le-mul_left a l in omega (arith, ints, x, y))
 turned_none h a v o (negsuc k) e l m few some x low high = absurd (let y = mul-le-mul_left a few in omega (arith, ints, x, y))
@@ -267,7 +267,7 @@ pub record IsAbove (h a e v : ℕ) : Type 0 where
   pub least : 4294967296 * h ≤ v * a
   pub most : v * a ≤ 4294967296 * h + a * e
 
-pub above : (h a e v : ℕ) → v < 18446744073709551616 → h ≤ a * 16777215 → e ≤ 16384 → 0 < a → IsScaled (pos h) (pos a) e v → IsAbove h a e v
+pub above : (h a e v : ℕ) → v < 18446744073709551616 → h ≤ a * 4294967294 → e ≤ 32768 → 0 < a → IsScaled (pos h) (pos a) e v → IsAbove h a e v
 above h a e v l m few some s =
     let p : pos 0 <ℤ pos a = omega (arith, ints) in
     let b = lies (pos h) (pos a) e v p s in

@@ -10,6 +10,11 @@ use Rattle.depthplane.specs.Linear.{rises, value_at}
 pub record IsScaled (n divisor : ℤ) (excess v : ℕ) : Type 0 where
   pub close : int_rem_euclid (pos v *ℤ divisor -ℤ pos 4294967296 *ℤ n) (pos 18446744073709551616 *ℤ divisor) ≤ℤ (divisor *ℤ pos excess)
 
+-- a pixel to the right or down changes the number, divided, by no more than 2^24
+pub record IsGentle (f : Linear) (divisor : ℤ) : Type 0 where
+  pub right : unsigned_abs f.step_x ≤ 16777216 * unsigned_abs divisor
+  pub down : unsigned_abs f.step_y ≤ 16777216 * unsigned_abs divisor
+
 -- the value at pixel (x, y), but for multiples of 2^64
 abbrev pub scaled_at : Scaled → ℕ → ℕ → ℕ
 scaled_at s x y = (s.origin + s.right * x + s.down * y) % 18446744073709551616
@@ -23,6 +28,7 @@ pub record IsScaledLinear (f : Linear) (divisor : ℤ) (start : Start) (s : Scal
   pub rises_right : s.rises_right ≡ rises f.step_x
   pub rises_down : s.rises_down ≡ rises f.step_y
   pub sure : IsTrue s.sure → unsigned_abs divisor * (s.error * (1 + start.steps)) < 4294967296
+  pub gentle : IsTrue s.gentle → IsGentle f divisor
 
 -- by how much the value may be too great x pixels to the right of where the triangle begins and y down
 abbrev pub excess_at : ℕ → ℕ → ℕ → ℕ

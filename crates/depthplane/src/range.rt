@@ -17,7 +17,7 @@ use gfxspec::PixelRect;
 /// Of the first and the last place of a line, the one where a number is least, and the one where it is greatest: the number rises along
 /// the line, or it falls.
 #[inline(always)]
-fn ends(rises: bool, first: u32, last: u32) -> (u32, u32)
+pub(crate) fn ends(rises: bool, first: u32, last: u32) -> (u32, u32)
     ensures near { result.0 ≡ near_end rises first last }
     ensures far { result.1 ≡ far_end rises first last }
 {

@@ -4,7 +4,7 @@ ghost use Rattle.std.specs.Prelude.{◌≡◌, ℤ, ◌≤◌, ◌<◌, ◌+◌,
 ghost use Rattle.gfxspec.specs.Limits.{side_bound};
 ghost use Rattle.depthplane.specs.Division.{IsDivision, IsDivisor, IsRest};
 ghost use Rattle.depthplane.specs.Linear.{IsHeight};
-ghost use Rattle.depthplane.specs.Scaled.{IsScaled, IsScaledLinear, scaled_at};
+ghost use Rattle.depthplane.specs.Scaled.{IsGentle, IsScaled, IsScaledLinear, scaled_at};
 
 use crate::division::{Divided, divide, divide_wide};
 use crate::height::Linear;
@@ -31,6 +31,8 @@ pub(crate) struct Scaled {
     pub(crate) rises_down: bool,
     /// Whether no value between the triangle's corners may be too great by so much that its whole part is.
     pub(crate) sure: bool,
+    /// Whether a pixel to the right or down changes the number by fewer than 2^24 units.
+    pub(crate) gentle: bool,
 }
 
 /// A rest in 2^32nds of its divisor, rounded up.
@@ -94,6 +96,22 @@ fn led_back(value: u64, right: u64, down: u64, x: u32, y: u32) -> u64
         .wrapping_sub(down.wrapping_mul(u64::from(y)))
 }
 
+/// A step changes a number by fewer than this many units where it is gentle.
+const GENTLE: u64 = 16_777_216;
+
+/// Whether the steps of a linear number are gentle, once they are divided.
+#[inline(always)]
+fn is_gentle(number: Linear, divisor: i64) -> bool
+    requires divisor { IsDivisor divisor }
+    ensures { IsTrue result → IsGentle number divisor }
+{
+    let steepest = number
+        .step_x
+        .unsigned_abs()
+        .max(number.step_y.unsigned_abs());
+    steepest / GENTLE < divisor.unsigned_abs()
+}
+
 impl Scaled {
     /// A linear number's value where a triangle begins and its steps, divided, in 2^32nds.
     #[inline(always)]
@@ -125,6 +143,7 @@ impl Scaled {
             rises_right: number.step_x >= 0,
             rises_down: number.step_y >= 0,
             sure: is_sure(divisor, error, start.steps),
+            gentle: is_gentle(number, divisor),
         }
     }
 

@@ -36,4 +36,5 @@ returns c =
       rises_right = ap (le_z (pos 0)) (to_z-of_z w64 n.step_x g) ∙ rises_is n.step_x;
       rises_down = ap (le_z (pos 0)) (to_z-of_z w64 n.step_y h) ∙ rises_is n.step_y;
       sure = simp to_z-of_z at c.is_sure.ensures;
+      gentle = simp to_z-of_z at c.is_gentle.ensures;
     }
