@@ -52,8 +52,9 @@ fn depth_above(value: u64) -> u32
 }
 
 impl Plane {
-    /// What the depths lie between at the pixels of a rectangle of at most 32 by 32 that the triangle covers. Depth is linear on the whole target, so the ends are those of two
-    /// opposite corner pixels, covered or not; where it changes too fast from one pixel to the next nothing is told.
+    /// What the depths lie between at the pixels of a rectangle of at most 32 by 32 that the triangle covers. Depth is linear on the
+    /// whole target, so the ends are those of two opposite corner pixels, covered or not; where it changes too fast from one pixel to the
+    /// next nothing is told.
     #[inline(always)]
     pub fn range_about(&self, rect: PixelRect) -> Option<(u32, u32)>
         requires wide { rect.left < rect.right }

@@ -9,12 +9,10 @@ use gfxspec::Compare;
 use std::alloc::Allocator;
 use tileblock::{DepthBounds, TileBlock};
 
-/// Whether a triangle's plane is asked what its depths lie between: where it reaches a whole tile, depth is tested, and
-/// something is known of the stored depths.
-pub(crate) fn asks_plane(entry: &StateEntry, stored: Option<DepthBounds>, whole: bool) -> bool
-    ensures { IsTrue result → IsTrue whole }
-{
-    whole && entry.depth_stencil.depth() && stored.is_some()
+/// Whether a triangle's plane is asked what its depths lie between: where depth is tested, and something is known of the stored
+/// depths.
+pub(crate) fn asks_plane(entry: &StateEntry, stored: Option<DepthBounds>) -> bool {
+    entry.depth_stencil.depth() && stored.is_some()
 }
 
 /// No depth from `least` to `greatest` passes against any of the stored ones.

@@ -81,18 +81,39 @@ fn is_whole(rect: PixelRect, clip: PixelRect, mask: EdgeMask) -> bool
         && rect.bottom <= clip.bottom
 }
 
-/// What the depths of a triangle lie between at the pixels of a tile that it covers: by its plane where it is known to
-/// cover them all, and else by its vertices.
-fn depth_range(triangle: &TriSetup, rect: PixelRect, all: bool) -> (u32, u32)
+/// Whether a triangle's bounds are wider or higher than a tile. The vertices of a smaller one tell about as much of its depths as its
+/// plane does.
+fn is_large(bounds: PixelRect) -> bool {
+    bounds.right.saturating_sub(bounds.left) > 32 || bounds.bottom.saturating_sub(bounds.top) > 32
+}
+
+/// What the depths of a triangle lie between at the pixels of a tile that it covers, where an edge may cut the tile: by its vertices, and
+/// by its plane over the whole tile.
+fn cut_range(triangle: &TriSetup, rect: PixelRect) -> (u32, u32)
     requires tile { IsTile rect }
-    requires all { IsTrue all → (u v : ℕ) → IsIn rect u v → IsTrue (covers triangle.now.edges (centre u v)) }
     ensures { DepthsLie triangle.now rect result.0 result.1 }
 {
-    if all {
-        triangle.plane.range(rect)
-    } else {
-        (triangle.least_depth, triangle.greatest_depth)
+    let (least, greatest) = (triangle.least_depth, triangle.greatest_depth);
+    let Some((near, far)) = triangle.plane.range_about(rect) else {
+        return (least, greatest);
+    };
+    (least.max(near), greatest.min(far))
+}
+
+/// What the depths of a triangle lie between at the pixels of a tile that it covers: by its vertices, and, if that is asked, by its
+/// plane.
+fn depth_range(triangle: &TriSetup, rect: PixelRect, asked: bool, whole: bool) -> (u32, u32)
+    requires tile { IsTile rect }
+    requires whole { IsTrue whole → (u v : ℕ) → IsIn rect u v → IsTrue (covers triangle.now.edges (centre u v)) }
+    ensures { DepthsLie triangle.now rect result.0 result.1 }
+{
+    if !asked || !is_large(triangle.bounds) {
+        return (triangle.least_depth, triangle.greatest_depth);
     }
+    if whole {
+        return triangle.plane.range(rect);
+    }
+    cut_range(triangle, rect)
 }
 
 /// A triangle under a state entry over a tile, of whose colours bits may still have to be flipped; the answer is how many pixels pass.
@@ -124,8 +145,8 @@ fn run_triangle<A: Allocator>(
         return run_open(block, flip, triangle, entry);
     }
     let stored = block.depth_bounds();
-    let by_plane = asks_plane(entry, stored, whole);
-    let (least, greatest) = depth_range(triangle, rect, by_plane);
+    let asked = asks_plane(entry, stored);
+    let (least, greatest) = depth_range(triangle, rect, asked, whole);
     let hidden = is_hidden(entry, least, greatest, stored);
     if hidden {
         return 0;

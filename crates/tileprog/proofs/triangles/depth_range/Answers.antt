@@ -5,10 +5,10 @@ use Rattle.tileprog.proofs.triangles.depth_range.Goals as goal
 
 pub range-requires-clause-covered : goal.range-requires-clause-covered
 range-requires-clause-covered c = λ x y is.
-    (λ i. covers (c.args.triangle.now.same i) (centre x y)) ∙ c.requires.all c.if-all.true x y is
+    (λ i. covers (c.args.triangle.now.same i) (centre x y)) ∙ c.requires.whole c.if-whole.true x y is
 
-pub returns-then-all : goal.returns-then-all
-returns-then-all c = λ u v is covered. c.range.ensures.between u v is
+pub returns-then-whole : goal.returns-then-whole
+returns-then-whole c = λ u v is covered. c.range.ensures.between u v is
 
-pub returns-else-all : goal.returns-else-all
-returns-else-all c = vertices_lie c.args.triangle.now c.args.rect
+pub returns-then-not-asked : goal.returns-then-not-asked
+returns-then-not-asked c = vertices_lie c.args.triangle.now c.args.rect

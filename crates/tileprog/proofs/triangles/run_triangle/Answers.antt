@@ -24,12 +24,12 @@ held o deep whole is h =
     let P : Option Bool → Type 0 = λ o. IfSome o (λ d. whole ≡ true) in
     subst P is h
 
-pub depth_range-least-requires-clause-all : goal.depth_range-least-requires-clause-all
-depth_range-least-requires-clause-all g c = λ both.
+pub depth_range-least-requires-clause-whole : goal.depth_range-least-requires-clause-whole
+depth_range-least-requires-clause-whole g c = λ both.
     let t = c.args.triangle.now in
     let r = c.rect-rect.result in
     let class = subst (λ r. IsClassOf (Cut (edge_bits c.args.mask)) t.edges r) (sym c.rect-rect.ensures) c.requires.class in
-    whole_covered t c.args.mask c.clipped-clip.result r class (c.is_whole-whole.ensures (c.asks_plane-by_plane.ensures both))
+    whole_covered t c.args.mask c.clipped-clip.result r class (c.is_whole-whole.ensures both)
 
 pub returns-then-clip-clause-pixels : goal.returns-then-clip-clause-pixels
 returns-then-clip-clause-pixels g c = λ u v is.
