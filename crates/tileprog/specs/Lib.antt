@@ -6,6 +6,7 @@ pub mod Painting
 pub mod Brushes
 pub mod SpanDrawn
 pub mod Strokes
+pub mod Spreads
 pub mod Within
 pub mod Counting
 pub mod Sums

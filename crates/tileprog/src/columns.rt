@@ -27,14 +27,14 @@ fn open_rows<A: Allocator>(
     block: &mut TileBlock<A>,
     column: &Column,
     mask: u8,
-    edges: EdgeWalk<'_>,
+    edges: &EdgeWalk<'_>,
     plane: &Plane,
     brush: Brush,
 ) -> u32
     requires same { mask ≡ column.now.mask }
     requires column { IsColumn column.now block.old.rect }
-    requires edges { edges ≡ record edges { triangle = plane.now.triangle; x = column.now.x; y = column.now.clip.top } }
-    requires begun { BeganIn edges block.old.rect }
+    requires edges { edges.now ≡ record edges.now { triangle = plane.now.triangle; x = column.now.x; y = column.now.clip.top } }
+    requires begun { BeganIn edges.now block.old.rect }
     requires named { IsNamed plane.now column.now.mask block.old.rect }
     requires kind { tests_of brush.state ≡ Open }
     ensures { ColumnDrew (record { brush = brush; plane = plane.now; mask = column.now.mask; clip = column.now.clip }) block.old block.new column.now.x result }
@@ -56,13 +56,13 @@ fn open_rows<A: Allocator>(
 fn open_column<A: Allocator>(
     block: &mut TileBlock<A>,
     column: &Column,
-    edges: EdgeWalk<'_>,
+    edges: &EdgeWalk<'_>,
     plane: &Plane,
     brush: Brush,
 ) -> u32
     requires column { IsColumn column.now block.old.rect }
-    requires edges { edges ≡ record edges { triangle = plane.now.triangle; x = column.now.x; y = column.now.clip.top } }
-    requires begun { BeganIn edges block.old.rect }
+    requires edges { edges.now ≡ record edges.now { triangle = plane.now.triangle; x = column.now.x; y = column.now.clip.top } }
+    requires begun { BeganIn edges.now block.old.rect }
     requires named { IsNamed plane.now column.now.mask block.old.rect }
     requires kind { tests_of brush.state ≡ Open }
     ensures { ColumnDrew (record { brush = brush; plane = plane.now; mask = column.now.mask; clip = column.now.clip }) block.old block.new column.now.x result }
@@ -80,25 +80,26 @@ fn depth_spans<A: Allocator, W: Walks>(
     block: &mut TileBlock<A>,
     column: &Column,
     mask: u8,
-    edges: EdgeWalk<'_>,
-    mut walk: W,
+    edges: &EdgeWalk<'_>,
+    walk: &W,
     func: Compare,
     write: bool,
     brush: Brush,
 ) -> u32
     requires same { mask ≡ column.now.mask }
     requires column { IsColumn column.now block.old.rect }
-    requires edges { edges ≡ record edges { triangle = (W.place walk).plane.triangle; x = column.now.x; y = column.now.clip.top } }
-    requires begun { BeganIn edges block.old.rect }
-    requires walk { W.place walk ≡ record (W.place walk) { x = column.now.x; y = column.now.clip.top } }
-    requires left { block.old.rect.left ≤ (W.place walk).left }
-    requires top { block.old.rect.top ≤ (W.place walk).top }
-    requires named { IsNamed (W.place walk).plane column.now.mask block.old.rect }
+    requires edges { edges.now ≡ record edges.now { triangle = (W.place walk.now).plane.triangle; x = column.now.x; y = column.now.clip.top } }
+    requires begun { BeganIn edges.now block.old.rect }
+    requires walk { W.place walk.now ≡ record (W.place walk.now) { x = column.now.x; y = column.now.clip.top } }
+    requires left { block.old.rect.left ≤ (W.place walk.now).left }
+    requires top { block.old.rect.top ≤ (W.place walk.now).top }
+    requires named { IsNamed (W.place walk.now).plane column.now.mask block.old.rect }
     requires kind { tests_of brush.state ≡ Depth func write }
-    ensures { ColumnDrew (record { brush = brush; plane = (W.place walk).plane; mask = column.now.mask; clip = column.now.clip }) block.old block.new column.now.x result }
+    ensures { ColumnDrew (record { brush = brush; plane = (W.place walk.now).plane; mask = column.now.mask; clip = column.now.clip }) block.old block.new column.now.x result }
 {
     let column = *column;
     let mut edges = edges.copied();
+    let mut walk = walk.copied();
     let rect = block.rect();
     let mut passed = 0u32;
     for row in column.clip.top - rect.top..column.clip.bottom - rect.top {
@@ -114,24 +115,24 @@ fn depth_spans<A: Allocator, W: Walks>(
 
 /// A column under a brush that tests depth alone; the answer is how many pixels pass.
 #[inline(always)]
-fn depth_rows<A: Allocator, W: Walks>(
+fn depth_column<A: Allocator, W: Walks>(
     block: &mut TileBlock<A>,
     column: &Column,
-    edges: EdgeWalk<'_>,
-    walk: W,
+    edges: &EdgeWalk<'_>,
+    walk: &W,
     func: Compare,
     write: bool,
     brush: Brush,
 ) -> u32
     requires column { IsColumn column.now block.old.rect }
-    requires edges { edges ≡ record edges { triangle = (W.place walk).plane.triangle; x = column.now.x; y = column.now.clip.top } }
-    requires begun { BeganIn edges block.old.rect }
-    requires walk { W.place walk ≡ record (W.place walk) { x = column.now.x; y = column.now.clip.top } }
-    requires left { block.old.rect.left ≤ (W.place walk).left }
-    requires top { block.old.rect.top ≤ (W.place walk).top }
-    requires named { IsNamed (W.place walk).plane column.now.mask block.old.rect }
+    requires edges { edges.now ≡ record edges.now { triangle = (W.place walk.now).plane.triangle; x = column.now.x; y = column.now.clip.top } }
+    requires begun { BeganIn edges.now block.old.rect }
+    requires walk { W.place walk.now ≡ record (W.place walk.now) { x = column.now.x; y = column.now.clip.top } }
+    requires left { block.old.rect.left ≤ (W.place walk.now).left }
+    requires top { block.old.rect.top ≤ (W.place walk.now).top }
+    requires named { IsNamed (W.place walk.now).plane column.now.mask block.old.rect }
     requires kind { tests_of brush.state ≡ Depth func write }
-    ensures { ColumnDrew (record { brush = brush; plane = (W.place walk).plane; mask = column.now.mask; clip = column.now.clip }) block.old block.new column.now.x result }
+    ensures { ColumnDrew (record { brush = brush; plane = (W.place walk.now).plane; mask = column.now.mask; clip = column.now.clip }) block.old block.new column.now.x result }
 {
     if column.mask == 0 {
         depth_spans(block, column, 0, edges, walk, func, write, brush)
@@ -140,71 +141,25 @@ fn depth_rows<A: Allocator, W: Walks>(
     }
 }
 
-/// The same, with the comparison known to each of the loops.
-#[inline(never)]
-fn depth_column<A: Allocator, W: Walks>(
-    block: &mut TileBlock<A>,
-    column: &Column,
-    edges: EdgeWalk<'_>,
-    walk: W,
-    func: Compare,
-    write: bool,
-    brush: Brush,
-) -> u32
-    requires column { IsColumn column.now block.old.rect }
-    requires edges { edges ≡ record edges { triangle = (W.place walk).plane.triangle; x = column.now.x; y = column.now.clip.top } }
-    requires begun { BeganIn edges block.old.rect }
-    requires walk { W.place walk ≡ record (W.place walk) { x = column.now.x; y = column.now.clip.top } }
-    requires left { block.old.rect.left ≤ (W.place walk).left }
-    requires top { block.old.rect.top ≤ (W.place walk).top }
-    requires named { IsNamed (W.place walk).plane column.now.mask block.old.rect }
-    requires kind { tests_of brush.state ≡ Depth func write }
-    ensures { ColumnDrew (record { brush = brush; plane = (W.place walk).plane; mask = column.now.mask; clip = column.now.clip }) block.old block.new column.now.x result }
-{
-    match func {
-        Compare::Never => depth_rows(block, column, edges, walk, Compare::Never, write, brush),
-        Compare::Less => depth_rows(block, column, edges, walk, Compare::Less, write, brush),
-        Compare::Equal => depth_rows(block, column, edges, walk, Compare::Equal, write, brush),
-        Compare::LessEqual => {
-            depth_rows(block, column, edges, walk, Compare::LessEqual, write, brush)
-        }
-        Compare::Greater => depth_rows(block, column, edges, walk, Compare::Greater, write, brush),
-        Compare::NotEqual => {
-            depth_rows(block, column, edges, walk, Compare::NotEqual, write, brush)
-        }
-        Compare::GreaterEqual => {
-            depth_rows(
-                block,
-                column,
-                edges,
-                walk,
-                Compare::GreaterEqual,
-                write,
-                brush,
-            )
-        }
-        Compare::Always => depth_rows(block, column, edges, walk, Compare::Always, write, brush),
-    }
-}
-
 /// One column of spans, in the rows of the clip rectangle.
+#[inline(always)]
 pub(crate) fn draw_column<A: Allocator, W: Walks>(
     block: &mut TileBlock<A>,
     column: &Column,
     set: &EdgeSet,
-    edges: EdgeWalk<'_>,
+    edges: &EdgeWalk<'_>,
     plane: &Plane,
-    walk: W,
+    walk: &W,
     tests: &MadeTests<'_>,
     brush: &Brush,
 ) -> u32
     requires column { IsColumn column.now block.old.rect }
-    requires edges { edges ≡ record edges { triangle = plane.now.triangle; x = column.now.x; y = column.now.clip.top } }
-    requires begun { BeganIn edges block.old.rect }
-    requires walk { W.place walk ≡ record (W.place walk) { plane = plane.now; x = column.now.x; y = column.now.clip.top } }
+    requires edges { edges.now ≡ record edges.now { triangle = plane.now.triangle; x = column.now.x; y = column.now.clip.top } }
+    requires begun { BeganIn edges.now block.old.rect }
+    requires walk { W.place walk.now ≡ record (W.place walk.now) { plane = plane.now; x = column.now.x; y = column.now.clip.top } }
     requires set { set.now ≡ plane.now.triangle }
-    requires left { block.old.rect.left ≤ (W.place walk).left }
-    requires top { block.old.rect.top ≤ (W.place walk).top }
+    requires left { block.old.rect.left ≤ (W.place walk.now).left }
+    requires top { block.old.rect.top ≤ (W.place walk.now).top }
     requires named { IsNamed plane.now column.now.mask block.old.rect }
     requires corners { LiesWithin plane.now column.now.corners }
     requires tests { AreOf tests.now brush.now }
@@ -216,7 +171,8 @@ pub(crate) fn draw_column<A: Allocator, W: Walks>(
             depth_column(block, column, edges, walk, *func, *write, *brush)
         }
         MadeTests::Both(test) => {
-            stencil_column(block, column, set, plane, edges, walk, test, brush)
+            let edges = edges.copied();
+            stencil_column(block, column, set, plane, edges, walk.copied(), test, brush)
         }
     }
 }

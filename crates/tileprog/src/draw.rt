@@ -1,12 +1,13 @@
 //! A triangle over a tile.
 
-ghost use Rattle.std.specs.Prelude.{◌≡◌, ◌<◌, ◌≤◌, ◌+◌, ◌*◌};
+ghost use Rattle.std.specs.Prelude.{◌≡◌, ◌≤◌, ◌+◌};
 ghost use Rattle.gfxspec.specs.Limits.{side_bound};
 ghost use Rattle.gfxspec.specs.Tiles.{IsInTile};
 ghost use Rattle.meaning.specs.Over.{sum_over};
 ghost use Rattle.tileprog.specs.Counting.{stroke_count};
-ghost use Rattle.tileprog.specs.Cells.{LiesWithin};
+ghost use Rattle.tileprog.specs.declared.kind.MadeTests.TheVariants.{DepthAlone};
 ghost use Rattle.tileprog.specs.Made.{AreOf};
+ghost use Rattle.tileprog.specs.Spreads.{IsOver, SpreadDrew, edges_begin, stroke_of, walk_begins};
 ghost use Rattle.tileprog.specs.Strokes.{IsWithin, IsNamed, Stroked};
 
 use crate::brush::Brush;
@@ -16,65 +17,148 @@ use crate::kind::{MadeTests, Tests};
 use binner::TriSetup;
 use depthplane::{Plane, Walks};
 use edges::{EdgeSet, EdgeWalk};
-use gfxspec::PixelRect;
+use gfxspec::{Compare, PixelRect};
 use lanes::StencilTest;
 use std::alloc::Allocator;
 use tileblock::{DepthBounds, TileBlock};
 
-/// A triangle over the pixels of a clip rectangle in a tile, from span `first` on and before span `past`, where its
-/// walks begin; the answer is how many pass.
-fn draw_spans<A: Allocator, W: Walks>(
-    block: &mut TileBlock<A>,
-    set: &EdgeSet,
-    plane: &Plane,
-    mut edges: EdgeWalk<'_>,
-    mut walk: W,
+/// A triangle over the pixels of a clip rectangle in a tile, with what is the same for all its columns of spans.
+#[derive(Drop)]
+struct TileTriangle<'a> {
+    set: &'a EdgeSet,
+    plane: &'a Plane,
+    /// The edges that are still to be tested, edge i as bit i.
     mask: u8,
+    /// What the depths of the triangle lie between wherever it covers.
     corners: DepthBounds,
-    tests: &MadeTests<'_>,
-    brush: &Brush,
+    brush: &'a Brush,
     clip: PixelRect,
+    /// The first of its spans in a row of the tile, and the one past the last.
     first: u32,
     past: u32,
+}
+
+/// A triangle in columns of spans, from where its walks begin; the answer is how many pixels pass. It stands where its tests are known, so
+/// that they are decided before the loops.
+#[inline(always)]
+fn draw_spans<A: Allocator, W: Walks>(
+    block: &mut TileBlock<A>,
+    triangle: &TileTriangle<'_>,
+    mut edges: EdgeWalk<'_>,
+    mut walk: W,
+    tests: &MadeTests<'_>,
 ) -> u32
-    requires within { IsWithin clip block.old.rect }
-    requires tile { IsInTile block.old.rect }
-    requires wide { block.old.rect.left + 32 ≤ side_bound }
-    requires high { block.old.rect.top + 32 ≤ side_bound }
-    requires set { set.now ≡ plane.now.triangle }
-    requires named { IsNamed plane.now mask block.old.rect }
-    requires corners { LiesWithin plane.now corners }
-    requires tests { AreOf tests.now brush.now }
-    requires begun { block.old.rect.left + 8 * first ≤ clip.left }
-    requires begins { clip.left < block.old.rect.left + 8 * first + 8 }
-    requires ends { block.old.rect.left + 8 * past < clip.right + 8 }
-    requires ended { clip.right ≤ block.old.rect.left + 8 * past }
-    requires few { past ≤ 4 }
-    requires edges { edges ≡ record { triangle = plane.now.triangle; left = block.old.rect.left + 8 * first; top = clip.top; x = block.old.rect.left + 8 * first; y = clip.top } }
-    requires walk { W.place walk ≡ record { plane = plane.now; left = block.old.rect.left + 8 * first; top = clip.top; x = block.old.rect.left + 8 * first; y = clip.top } }
-    ensures drew { Stroked (record { brush = brush.now; plane = plane.now; mask = mask; clip = clip }) block.old block.new }
-    ensures count { result ≡ sum_over block.old.rect (stroke_count (record { brush = brush.now; plane = plane.now; mask = mask; clip = clip }) block.old) }
-    ensures few { result ≤ 1024 }
+    requires over { IsOver triangle.now block.old.rect }
+    requires tests { AreOf tests.now triangle.now.brush.now }
+    requires edges { edges ≡ edges_begin triangle.now block.old.rect }
+    requires walk { W.place walk ≡ walk_begins triangle.now block.old.rect }
+    ensures { SpreadDrew (stroke_of triangle.now) block.old block.new result }
 {
     let rect = block.rect();
+    let plane = triangle.plane;
+    let brush = triangle.brush;
     let mut passed = 0u32;
-    for span in first..past {
-        let column = column_of(rect.left + 8 * span, span, clip, mask, corners);
+    for span in triangle.first..triangle.past {
+        let column = column_of(
+            rect.left + 8 * span,
+            span,
+            triangle.clip,
+            triangle.mask,
+            triangle.corners,
+        );
         let more = draw_column(
             block,
             &column,
-            set,
-            edges.copied(),
+            triangle.set,
+            &edges,
             plane,
-            walk.copied(),
+            &walk,
             tests,
             brush,
         );
         passed += more;
+        if span + 1 == triangle.past {
+            return passed;
+        }
         edges.eight_right();
         walk.eight_right();
     }
     passed
+}
+
+/// The same under a brush that tests depth alone, with the comparison known to each of the loops.
+#[inline(never)]
+fn draw_compared<A: Allocator, W: Walks>(
+    block: &mut TileBlock<A>,
+    triangle: &TileTriangle<'_>,
+    edges: EdgeWalk<'_>,
+    walk: W,
+    func: Compare,
+    write: bool,
+) -> u32
+    requires over { IsOver triangle.now block.old.rect }
+    requires tests { AreOf (DepthAlone func write) triangle.now.brush.now }
+    requires edges { edges ≡ edges_begin triangle.now block.old.rect }
+    requires walk { W.place walk ≡ walk_begins triangle.now block.old.rect }
+    ensures { SpreadDrew (stroke_of triangle.now) block.old block.new result }
+{
+    match func {
+        Compare::Never => {
+            let tests = MadeTests::DepthAlone(Compare::Never, write);
+            draw_spans(block, triangle, edges, walk, &tests)
+        }
+        Compare::Less => {
+            let tests = MadeTests::DepthAlone(Compare::Less, write);
+            draw_spans(block, triangle, edges, walk, &tests)
+        }
+        Compare::Equal => {
+            let tests = MadeTests::DepthAlone(Compare::Equal, write);
+            draw_spans(block, triangle, edges, walk, &tests)
+        }
+        Compare::LessEqual => {
+            let tests = MadeTests::DepthAlone(Compare::LessEqual, write);
+            draw_spans(block, triangle, edges, walk, &tests)
+        }
+        Compare::Greater => {
+            let tests = MadeTests::DepthAlone(Compare::Greater, write);
+            draw_spans(block, triangle, edges, walk, &tests)
+        }
+        Compare::NotEqual => {
+            let tests = MadeTests::DepthAlone(Compare::NotEqual, write);
+            draw_spans(block, triangle, edges, walk, &tests)
+        }
+        Compare::GreaterEqual => {
+            let tests = MadeTests::DepthAlone(Compare::GreaterEqual, write);
+            draw_spans(block, triangle, edges, walk, &tests)
+        }
+        Compare::Always => {
+            let tests = MadeTests::DepthAlone(Compare::Always, write);
+            draw_spans(block, triangle, edges, walk, &tests)
+        }
+    }
+}
+
+/// A triangle under tests that are made, from where its walks begin; the answer is how many pixels pass.
+#[inline(always)]
+fn draw_walked<A: Allocator, W: Walks>(
+    block: &mut TileBlock<A>,
+    triangle: &TileTriangle<'_>,
+    edges: EdgeWalk<'_>,
+    walk: W,
+    tests: &MadeTests<'_>,
+) -> u32
+    requires over { IsOver triangle.now block.old.rect }
+    requires tests { AreOf tests.now triangle.now.brush.now }
+    requires edges { edges ≡ edges_begin triangle.now block.old.rect }
+    requires walk { W.place walk ≡ walk_begins triangle.now block.old.rect }
+    ensures { SpreadDrew (stroke_of triangle.now) block.old block.new result }
+{
+    match tests {
+        MadeTests::DepthAlone(func, write) => {
+            draw_compared(block, triangle, edges, walk, *func, *write)
+        }
+        MadeTests::Nothing | MadeTests::Both(_) => draw_spans(block, triangle, edges, walk, tests),
+    }
 }
 
 /// A triangle over the pixels of a clip rectangle in a tile, under tests that are made; the answer is how many pass.
@@ -99,25 +183,29 @@ fn draw_tested<A: Allocator>(
 {
     let rect = block.rect();
     let first = (clip.left - rect.left) / 8;
-    let past = (clip.right - rect.left + 7) / 8;
     let left = rect.left + 8 * first;
     let set = triangle.edges.unpacked();
     let edges = set.walk(left, clip.top);
     let plane = &triangle.plane;
-    let corners = DepthBounds {
-        least: triangle.least_depth,
-        greatest: triangle.greatest_depth,
+    let over = TileTriangle {
+        set: &set,
+        plane,
+        mask,
+        corners: DepthBounds {
+            least: triangle.least_depth,
+            greatest: triangle.greatest_depth,
+        },
+        brush,
+        clip,
+        first,
+        past: (clip.right - rect.left + 7) / 8,
     };
     if plane.is_biased() {
         let biased = plane.walk_eight_biased(left, clip.top);
-        return draw_spans(
-            block, &set, plane, edges, biased, mask, corners, tests, brush, clip, first, past,
-        );
+        return draw_walked(block, &over, edges, biased, tests);
     }
     let walk = plane.walk_eight(left, clip.top);
-    draw_spans(
-        block, &set, plane, edges, walk, mask, corners, tests, brush, clip, first, past,
-    )
+    draw_walked(block, &over, edges, walk, tests)
 }
 
 /// A triangle over the pixels of a clip rectangle in a tile; the answer is how many pass.

@@ -8,7 +8,7 @@ use Rattle.tileprog.proofs.columns.depth_spans.Goals as goal
 pub loop-row-preserved : goal.loop-row-preserved
 loop-row-preserved g c =
     let k = c.args.column.now in
-    let s : Stroke = record { brush = c.args.brush; plane = (g.W.Walks.place c.args.walk).plane; mask = k.mask; clip = k.clip } in
+    let s : Stroke = record { brush = c.args.brush; plane = (g.W.Walks.place c.args.walk.now).plane; mask = k.mask; clip = k.clip } in
     let old = c.args.block.now in
     let mid = c.loop-row.block in
     let row = c.loop-row.row in
@@ -26,7 +26,7 @@ loop-row-preserved g c =
 pub returns : goal.returns
 returns g c =
     let k = c.args.column.now in
-    let s : Stroke = record { brush = c.args.brush; plane = (g.W.Walks.place c.args.walk).plane; mask = k.mask; clip = k.clip } in
+    let s : Stroke = record { brush = c.args.brush; plane = (g.W.Walks.place c.args.walk.now).plane; mask = k.mask; clip = k.clip } in
     let old = c.args.block.now in
     all_rows s old c.loop-row.block k.x (old.rect.top + c.loop-row.row) c.loop-row.passed (search rules) c.loop-row.invariant.so_far (search rules)
 
@@ -39,7 +39,7 @@ overflow_sub-row-end g c = search rules
 pub loop-row-init : goal.loop-row-init
 loop-row-init g c =
     let k = c.args.column.now in
-    let start = g.W.Walks.place c.args.walk in
+    let start = g.W.Walks.place c.args.walk.now in
     let s : Stroke = record { brush = c.args.brush; plane = start.plane; mask = k.mask; clip = k.clip } in
     let old = c.args.block.now in
     let row = k.clip.top - c.rect-rect.result.top in
@@ -47,8 +47,8 @@ loop-row-init g c =
     let within = c.requires.column.within.top in
     let first : k.clip.top ≡ old.rect.top + row = omega (arith, top_is, within) in
     record {
-      edges = c.copied-edges.ensures ∙ c.requires.edges ∙ (λ i. record c.args.edges { triangle = start.plane.triangle; x = k.x; y = first i });
-      walk = λ i. record start { x = ap (λ (p : Places). p.x) c.requires.walk i; y = (ap (λ (p : Places). p.y) c.requires.walk ∙ first) i };
+      edges = c.copied-edges.ensures ∙ c.requires.edges ∙ (λ i. record c.args.edges.now { triangle = start.plane.triangle; x = k.x; y = first i });
+      walk = c.copied-walk.ensures ∙ (λ i. record start { x = ap (λ (p : Places). p.x) c.requires.walk i; y = (ap (λ (p : Places). p.y) c.requires.walk ∙ first) i });
       so_far = no_row s old k.x (old.rect.top + row) (sym first);
       few = omega arith;
     }

@@ -38,7 +38,7 @@ loop-row-init g c =
     let within = c.requires.column.within.top in
     let first : k.clip.top ≡ old.rect.top + row = omega (arith, top_is, within) in
     record {
-      edges = c.copied-edges.ensures ∙ c.requires.edges ∙ (λ i. record c.args.edges { triangle = c.args.plane.now.triangle; x = k.x; y = first i });
+      edges = c.copied-edges.ensures ∙ c.requires.edges ∙ (λ i. record c.args.edges.now { triangle = c.args.plane.now.triangle; x = k.x; y = first i });
       so_far = no_row s old k.x (old.rect.top + row) (sym first);
       few = omega arith;
     }
