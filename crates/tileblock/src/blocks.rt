@@ -376,6 +376,7 @@ impl<A: Allocator> TileBlock<A> {
     }
 
     /// Looks at all depths, and keeps what those of the rectangle lie between, until one is stored.
+    #[inline(never)]
     pub fn measure_bounds(&mut self)
         ensures { self.new ≡ self.old }
     {

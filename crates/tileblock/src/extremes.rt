@@ -1,22 +1,24 @@
 //! What many values lie between, eight lanes side by side.
 
-ghost use Rattle.std.specs.Prelude.{◌≡◌, ℕ, ◌<◌, ◌≤◌, min, max, slice_index};
+ghost use Rattle.std.specs.Prelude.{◌≡◌, ℕ, ◌<◌, ◌≤◌, length, min, max, slice_index};
 
-use lanes::{greater8, lesser8};
+use std::simd::prelude::*;
 
 /// What the values that were looked at lie between, lane by lane.
 #[derive(Clone, Copy)]
 pub(crate) struct Extremes {
-    pub(crate) least: [u32; 8],
-    pub(crate) greatest: [u32; 8],
+    pub(crate) least: u32x8,
+    pub(crate) greatest: u32x8,
+    pub(crate) ghost least_lanes: { length least ≡ 8 },
+    pub(crate) ghost greatest_lanes: { length greatest ≡ 8 },
 }
 
 impl Extremes {
     /// Of no value.
     pub(crate) fn none() -> Extremes {
         Extremes {
-            least: [u32::MAX; 8],
-            greatest: [0; 8],
+            least: u32x8::splat(u32::MAX),
+            greatest: u32x8::splat(0),
         }
     }
 
@@ -26,9 +28,10 @@ impl Extremes {
         ensures least { (j : ℕ) → j < 8 → slice_index result.least j ≡ min (slice_index self.least j) (slice_index values.now j) }
         ensures greatest { (j : ℕ) → j < 8 → slice_index result.greatest j ≡ max (slice_index self.greatest j) (slice_index values.now j) }
     {
+        let more = u32x8::from_array(*values);
         Extremes {
-            least: lesser8(&self.least, values),
-            greatest: greater8(&self.greatest, values),
+            least: self.least.simd_min(more),
+            greatest: self.greatest.simd_max(more),
         }
     }
 
@@ -36,9 +39,10 @@ impl Extremes {
     pub(crate) fn least_of_all(&self) -> u32
         ensures { (j : ℕ) → j < 8 → result ≤ slice_index self.now.least j }
     {
+        let lanes = self.least.to_array();
         let mut least = u32::MAX;
         for j in 0..8usize {
-            least = least.min(self.least[j]);
+            least = least.min(lanes[j]);
         }
         least
     }
@@ -47,9 +51,10 @@ impl Extremes {
     pub(crate) fn greatest_of_all(&self) -> u32
         ensures { (j : ℕ) → j < 8 → slice_index self.now.greatest j ≤ result }
     {
+        let lanes = self.greatest.to_array();
         let mut greatest = 0;
         for j in 0..8usize {
-            greatest = greatest.max(self.greatest[j]);
+            greatest = greatest.max(lanes[j]);
         }
         greatest
     }

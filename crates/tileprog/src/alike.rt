@@ -169,6 +169,7 @@ fn pixels_in(rect: PixelRect) -> u32
 }
 
 /// A triangle that does the same at each pixel of a tile, all of which it reaches; the answer is how many pass.
+#[inline(never)]
 pub(crate) fn run_alike<A: Allocator>(
     block: &mut TileBlock<A>,
     triangle: &TriSetup,
@@ -207,6 +208,7 @@ pub(crate) fn is_open(entry: &StateEntry, whole: bool) -> bool
 }
 
 /// A triangle that tests nothing over a tile, all pixels of which it reaches; the answer is how many there are.
+#[inline(never)]
 pub(crate) fn run_open<A: Allocator>(
     block: &mut TileBlock<A>,
     flip: &mut u32,

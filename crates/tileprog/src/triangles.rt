@@ -44,6 +44,7 @@ fn clipped(rect: PixelRect, bounds: PixelRect) -> PixelRect
 
 /// A triangle under a state entry over the pixels of a clip rectangle in a tile, of whose colours these bits are still to be flipped; the
 /// answer is how many pass.
+#[inline(never)]
 fn draw_under<A: Allocator>(
     block: &mut TileBlock<A>,
     triangle: &TriSetup,
