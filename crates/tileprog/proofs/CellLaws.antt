@@ -20,11 +20,10 @@ use Rattle.tileprog.specs.declared.brush.Brush.{Brush}
 use Rattle.tileprog.specs.declared.kind.Tests.TheVariants.{Stencil}
 use Rattle.tileprog.specs.Alike.{HasOutcome, operated}
 use Rattle.tileprog.specs.Brushes.{tested_by, drawn_by}
-use Rattle.tileprog.specs.Cells.{InRows, AllHave, AreCovered, IsCell, IsStill, IsUnwritten}
-use Rattle.tileprog.specs.declared.column.Column.{Column}
-use Rattle.tileprog.specs.Columns.{IsColumn, RowDrew}
+use Rattle.tileprog.specs.Cells.{InRows, AllHave, AreCovered, IsStill, IsUnwritten}
+use Rattle.tileprog.specs.Columns.{RowDrew}
 use Rattle.tileprog.specs.Kinds.{tests_of}
-use Rattle.tileprog.specs.Strokes.{Stroke, IsNamed, stroked}
+use Rattle.tileprog.specs.Strokes.{Stroke, stroked}
 use Rattle.tileprog.specs.Within.{in_box}
 use Rattle.tileprog.specs.Painting.{painted_with}
 use Rattle.tileprog.proofs.Lanes.{rule_of, deep_enough, stencil_lane, stencil_passes_both, both_lanes, lane_kept, lane_unpainted, kept_all}
@@ -33,13 +32,13 @@ use Rattle.tileprog.proofs.Lanes.{rule_of, deep_enough, stencil_lane, stencil_pa
 
 -- depths that lie between two have one outcome against all that may be stored in a cell
 pub cell_has : (deep : Bool) (s : DepthStencilSetting) (d : DeepTriangle) (b : Block) (span cell x least greatest : ℕ) (known : DepthBounds) → x ≡ b.rect.left + 8 * span → CellLies b span cell known.least known.greatest
-    → ((u v : ℕ) → InRows b.rect x (8 * cell) (8 * cell + 8) u v → (least ≤ depth_of d u v) × (depth_of d u v ≤ greatest)) → HasOutcome s least greatest (Some known) deep → AllHave deep s d b x (8 * cell) (8 * cell + 8)
-cell_has deep s d b span cell x least greatest known x_is stored lie has = λ u v is here.
+    → ((u v : ℕ) → InRows b.rect x (8 * cell) (8 * cell + 8) u v → IsTrue (covers d.triangle (centre u v)) → (least ≤ depth_of d u v) × (depth_of d u v ≤ greatest)) → HasOutcome s least greatest (Some known) deep → AllHave deep s d b x (8 * cell) (8 * cell + 8)
+cell_has deep s d b span cell x least greatest known x_is stored lie has = λ u v is here covered.
     let l = here.left in
     let r = here.right in
     let t = here.top in
     let o = here.bottom in
-    let between = lie u v here in
+    let between = lie u v here covered in
     let k = v - (b.rect.top + 8 * cell) in
     let u_is : b.rect.left + 8 * span + (u - x) ≡ u = omega (arith, x_is, l) in
     let v_is : b.rect.top + (8 * cell + k) ≡ v = omega (arith, t) in
@@ -47,21 +46,9 @@ cell_has deep s d b span cell x least greatest known x_is stored lie has = λ u 
     let there : Q (b.rect.left + 8 * span + (u - x)) (b.rect.top + (8 * cell + k)) = stored k (u - x) (omega (arith, t, o)) (omega (arith, l, r)) in
     has (depth_of d u v) (pixel_at b u v).ds.depth between.0 between.1 (subst (λ w. Q u w) v_is (subst (λ w. Q w (b.rect.top + (8 * cell + k))) u_is there))
 
--- a triangle covers the pixels of a cell that no edge cuts
-pub cell_covered : (k : Column) (d : DeepTriangle) (r : PixelRect) (row : ℕ) → IsColumn k r → IsNamed d k.mask r → IsCell k d.triangle r row → (u v : ℕ) → InRows r k.x row (row + 8) u v → IsTrue (covers d.triangle (centre u v))
-cell_covered k d r row column named cell u v here =
-    let x = column.x in
-    let right = cell.right in
-    let bottom = cell.bottom in
-    let l = here.left in
-    let m = here.right in
-    let t = here.top in
-    let o = here.bottom in
-    named.covered u v (record { left = omega (arith, x, l); right = omega (arith, right, m); top = omega (arith, t); bottom = omega (arith, bottom, o) }) (cell.holds u v here)
-
 -- where depth isn't tested
 pub untested_cell : (s : DepthStencilSetting) (d : DeepTriangle) (b : Block) (x row past : ℕ) → s.depth ≡ false → AllHave true s d b x row past
-untested_cell s d b x row past off = λ u v is here. ap (λ t. not t || compares s.func (depth_of d u v) (pixel_at b u v).ds.depth) off
+untested_cell s d b x row past off = λ u v is here covered. ap (λ t. not t || compares s.func (depth_of d u v) (pixel_at b u v).ds.depth) off
 
 -- ---- row by row
 
@@ -70,16 +57,16 @@ mapped None P Q f h = h
 mapped (Some b) P Q f h = f b h
 
 pub first_have : (deep : Bool) (s : DepthStencilSetting) (d : DeepTriangle) (b : Block) (x row past : ℕ) → row < past → AllHave deep s d b x row past → AllHave deep s d b x row (row + 1)
-first_have deep s d b x row past more all = λ u v is here.
+first_have deep s d b x row past more all = λ u v is here covered.
     let o = here.bottom in
-    all u v is (record { left = here.left; right = here.right; top = here.top; bottom = omega (arith, o, more) })
+    all u v is (record { left = here.left; right = here.right; top = here.top; bottom = omega (arith, o, more) }) covered
 
 -- some of them
 pub part_have : (deep : Bool) (s : DepthStencilSetting) (d : DeepTriangle) (b : Block) (x from at past to : ℕ) → from ≤ at → past ≤ to → AllHave deep s d b x from to → AllHave deep s d b x at past
-part_have deep s d b x from at past to more less all = λ u v is here.
+part_have deep s d b x from at past to more less all = λ u v is here covered.
     let t = here.top in
     let o = here.bottom in
-    all u v is (record { left = here.left; right = here.right; top = omega (arith, t, more); bottom = omega (arith, o, less) })
+    all u v is (record { left = here.left; right = here.right; top = omega (arith, t, more); bottom = omega (arith, o, less) }) covered
 
 pub part_covered : (mask : ℕ) (t : Triangle) (r q : PixelRect) (x from at past to : ℕ) → from ≤ at → past ≤ to → q ≡ r → AreCovered true mask t r x from to → AreCovered true mask t q x at past
 part_covered mask t r q x from at past to more less same all =
@@ -102,7 +89,7 @@ row_covered mask t r x row at past more less all = λ u v here.
 
 -- a drawn row leaves those below it
 pub rest_have : (deep : Bool) (s : DepthStencilSetting) (d : DeepTriangle) (k : Stroke) (old new : Block) (x row past y n : ℕ) → AllHave deep s d old x row past → RowDrew k old new x y n → y ≡ old.rect.top + row → AllHave deep s d new x (row + 1) past
-rest_have deep s d k old new x row past y n all drew y_is = λ u v is here.
+rest_have deep s d k old new x row past y n all drew y_is = λ u v is here covered.
     let top_is = ap (λ (r : PixelRect). r.top) drew.drew.rect in
     let t = here.top in
     let o = here.bottom in
@@ -110,7 +97,7 @@ rest_have deep s d k old new x row past y n all drew y_is = λ u v is here.
     let beside : in_box x (x + 8) y (y + 1) u v ≡ false = outside u v (omega (arith, t, y_is, top_is)) in
     let same : pixel_at new u v ≡ pixel_at old u v = drew.drew.pixels u v was ∙ ap (λ c. if c then stroked k u v (pixel_at old u v) else pixel_at old u v) beside in
     ap (λ (p : Pixel). depth_passes s (depth_of d u v) p.ds.depth) same
-    ∙ all u v was (record { left = here.left; right = here.right; top = omega (arith, t, top_is); bottom = omega (arith, o, top_is) })
+    ∙ all u v was (record { left = here.left; right = here.right; top = omega (arith, t, top_is); bottom = omega (arith, o, top_is) }) covered
   where
     outside : (u v : ℕ) → y + 1 ≤ v → in_box x (x + 8) y (y + 1) u v ≡ false
     outside u v h = plain

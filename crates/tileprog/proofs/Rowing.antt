@@ -6,6 +6,7 @@ use Rattle.std.proofs.lemmas.Bool.Decides.{nat_tests}
 use Rattle.gfxspec.specs.declared.pixel.Pixel.{Pixel}
 use Rattle.gfxspec.specs.Raster.{Point, Triangle, centre, covers, edge, edge_holds, is_empty}
 use Rattle.edges.specs.Walk.{EdgePlace, IsNearBegin}
+use Rattle.gfxspec.specs.Items.{is_in_rect}
 use Rattle.gfxspec.specs.Tiles.{IsIn, IsInTile}
 use Rattle.depthplane.specs.Height.{DeepTriangle}
 use Rattle.gfxspec.specs.DepthStencil.{depth_passes}
@@ -99,6 +100,11 @@ all_lanes_covered k t r row all covered j h =
     let edges = covered (k.x + j) (r.top + row) (record { left = omega arith; right = omega (arith, h); top = omega arith; bottom = omega arith }) in
     has_all 255 j refl h ∙ (λ i. sym clip i && sym edges i)
 
+-- what both say, the second says
+second_too : (a b : Bool) → (a && b) ≡ true → b ≡ true
+second_too true b e = e
+second_too false b e = absurd cc
+
 module _ (s : Stroke) (old : Block) (span row x y cover : ℕ) (x_is : old.rect.left + 8 * span ≡ x) (y_is : old.rect.top + row ≡ y) (sound : IsNamed s.plane s.mask old.rect) (within : IsWithin s.clip old.rect)
     (lanes : (j : ℕ) → j < 8 → has cover j ≡ ((nat_le s.clip.left (x + j) && nat_lt (x + j) s.clip.right) && passes_edges s.mask s.plane.triangle (centre (x + j) y)))
     (top : s.clip.top ≤ y) (bottom : y < s.clip.bottom) where
@@ -138,7 +144,7 @@ module _ (s : Stroke) (old : Block) (span row x y cover : ℕ) (x_is : old.rect.
         let reach : reached s (x + j) y ≡ true = sym (lane_reached s old.rect x y cover sound lanes top bottom j h) ∙ here in
         let is = in_rect s old.rect x y cover sound lanes top bottom within j reach in
         (λ i. depth_passes s.brush.state (eight_are s old.rect x y cover sound lanes top bottom j h i) (pixel_at old (x_is i + j) (y_is i)).ds.depth)
-        ∙ all (x + j) y is (record { left = omega arith; right = omega (arith, h); top = omega (arith, y_is); bottom = omega (arith, y_is) })
+        ∙ all (x + j) y is (record { left = omega arith; right = omega (arith, h); top = omega (arith, y_is); bottom = omega (arith, y_is) }) (sound.covered (x + j) y is (second_too (is_in_rect s.clip (x + j) y) (passes_edges s.mask s.plane.triangle (centre (x + j) y)) reach))
 
 -- a span at whose pixels not all named edges hold
 pub row_uncovered : (s : Stroke) (old : Block) (span row x y : ℕ) → old.rect.left + 8 * span ≡ x → old.rect.top + row ≡ y → IsNamed s.plane s.mask old.rect → IsWithin s.clip old.rect → s.clip.top ≤ y → y < s.clip.bottom

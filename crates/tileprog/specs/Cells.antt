@@ -22,9 +22,9 @@ pub record InRows (r : PixelRect) (x from past u v : ℕ) : Type 0 where
   pub top : r.top + from ≤ v
   pub bottom : v < r.top + past
 
--- the depth test has one outcome at the pixels there
+-- the depth test has one outcome at the pixels there that the triangle covers
 abbrev pub AllHave : Bool → DepthStencilSetting → DeepTriangle → Block → ℕ → ℕ → ℕ → Type 0
-AllHave deep s d b x from past = (u v : ℕ) → IsIn b.rect u v → InRows b.rect x from past u v → depth_passes s (depth_of d u v) (pixel_at b u v).ds.depth ≡ deep
+AllHave deep s d b x from past = (u v : ℕ) → IsIn b.rect u v → InRows b.rect x from past u v → IsTrue (covers d.triangle (centre u v)) → depth_passes s (depth_of d u v) (pixel_at b u v).ds.depth ≡ deep
 
 -- the depths of a triangle lie between two wherever it covers
 abbrev pub LiesWithin : DeepTriangle → DepthBounds → Type 0
@@ -55,12 +55,6 @@ pub record IsLong (c : Column) (r : PixelRect) : Type 0 where
   pub top : c.clip.top ≡ r.top
   pub bottom : c.clip.bottom ≡ r.top + 32
   pub right : c.x + 8 ≤ r.right
-
--- no edge cuts a cell, which lies in the rectangle
-pub record IsCell (c : Column) (t : Triangle) (r : PixelRect) (row : ℕ) : Type 0 where
-  pub holds : AreCovered true c.mask t r c.x row (row + 8)
-  pub right : c.x + 8 ≤ r.right
-  pub bottom : r.top + row + 8 ≤ r.bottom
 
 -- a brush changes no pixel at which the stencil test passes and the depth test has one outcome
 pub record IsStill (b : Brush) (r : StencilRule) (deep : Bool) : Type 0 where

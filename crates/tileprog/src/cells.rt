@@ -2,9 +2,10 @@
 
 ghost use Rattle.std.specs.Prelude.{◌≡◌, ◌<◌, ◌≤◌, ◌+◌, ◌*◌, ℕ, true, false, IsTrue, IfSome, Some};
 ghost use Rattle.classify.specs.Region.{IsReal};
+ghost use Rattle.gfxspec.specs.Raster.{centre, covers};
 ghost use Rattle.depthplane.specs.Place.{depth_of};
 ghost use Rattle.tileprog.specs.Alike.{HasOutcome};
-ghost use Rattle.tileprog.specs.Cells.{InRows, AllHave, AreCovered, EdgesAre, IsUnwritten, IsLong, LiesWithin, Tells, IsCell};
+ghost use Rattle.tileprog.specs.Cells.{InRows, AllHave, AreCovered, EdgesAre, IsUnwritten, IsLong, LiesWithin, Tells};
 ghost use Rattle.tileprog.specs.Columns.{IsColumn};
 ghost use Rattle.tileprog.specs.Strokes.{IsNamed};
 
@@ -95,18 +96,19 @@ fn cover_outcome(
     edges_outcome(set, cell_rect(rect, column, row))
 }
 
-/// What the depths of a triangle lie between in the eight rows of a column from `row` on, where no edge cuts them.
+/// What the depths of a triangle lie between where it covers pixels in the eight rows of a column from `row` on, if its plane tells.
 #[inline(always)]
-fn cell_range(plane: &Plane, rect: PixelRect, column: &Column, row: u32) -> DepthBounds
+fn cell_range(plane: &Plane, rect: PixelRect, column: &Column, row: u32) -> Option<DepthBounds>
     requires column { IsColumn column.now rect }
-    requires row { row < 32 }
-    requires named { IsNamed plane.now column.now.mask rect }
-    requires cell { IsCell column.now plane.now.triangle rect row }
-    ensures { (u v : ℕ) → InRows rect column.now.x row (row + 8) u v → (result.least ≤ depth_of plane.now u v) × (depth_of plane.now u v ≤ result.greatest) }
+    requires row { row + 8 ≤ 32 }
+    ensures { IfSome result (λ between. (u v : ℕ) → InRows rect column.now.x row (row + 8) u v → IsTrue (covers plane.now.triangle (centre u v))
+        → (between.least ≤ depth_of plane.now u v) × (depth_of plane.now u v ≤ between.greatest)) }
 {
     let cell = cell_rect(rect, column, row);
-    let (least, greatest) = plane.range(cell);
-    DepthBounds { least, greatest }
+    let Some((least, greatest)) = plane.range_about(cell) else {
+        return None;
+    };
+    Some(DepthBounds { least, greatest })
 }
 
 /// Whether the depth test of a brush passes at all depths between two, or at none, against all that may be stored between two.
@@ -142,9 +144,7 @@ fn deep_from<A: Allocator>(
 ) -> Option<bool>
     requires column { IsColumn column.now block.now.rect }
     requires cell { cell < 4 }
-    requires named { IsNamed plane.now column.now.mask block.now.rect }
     requires corners { LiesWithin plane.now column.now.corners }
-    requires whole { IsCell column.now plane.now.triangle block.now.rect (8 * cell) }
     requires depth { brush.now.state.depth ≡ true }
     ensures deep { IfSome result (λ deep. AllHave deep brush.now.state plane.now block.now column.now.x (8 * cell) (8 * cell + 8)) }
     ensures unwritten { IfSome result (IsUnwritten brush.now.state) }
@@ -156,12 +156,14 @@ fn deep_from<A: Allocator>(
     if near.is_some() {
         return near;
     }
-    let range = cell_range(plane, block.rect(), column, 8 * cell);
+    let Some(range) = cell_range(plane, block.rect(), column, 8 * cell) else {
+        return None;
+    };
     outcome_between(range, known, brush)
 }
 
-/// Whether the depth test of a brush passes at all pixels of a cell of a column, or at none, if that is asked: where depth is tested,
-/// only where the edges hold at all of them.
+/// Whether the depth test of a brush passes at all covered pixels of a cell of a column, or at none, if that is asked: where depth is tested,
+/// only where the edges may hold.
 #[inline(always)]
 fn depth_outcome<A: Allocator>(
     block: &TileBlock<A>,
@@ -172,21 +174,15 @@ fn depth_outcome<A: Allocator>(
     brush: &Brush,
 ) -> Option<bool>
     requires column { IsColumn column.now block.now.rect }
-    requires long { IsLong column.now block.now.rect }
     requires cell { cell < 4 }
-    requires named { IsNamed plane.now column.now.mask block.now.rect }
     requires corners { LiesWithin plane.now column.now.corners }
-    requires covered { IfSome covered (λ all. AreCovered all column.now.mask plane.now.triangle block.now.rect column.now.x (8 * cell) (8 * cell + 8)) }
     ensures deep { IfSome result (λ deep. AllHave deep brush.now.state plane.now block.now column.now.x (8 * cell) (8 * cell + 8)) }
     ensures unwritten { IfSome result (IsUnwritten brush.now.state) }
 {
     if !brush.state.depth() {
         return Some(true);
     }
-    let Some(all) = covered else {
-        return None;
-    };
-    if !all {
+    if covered == Some(false) {
         return None;
     }
     deep_from(block, plane, column, cell, brush)
@@ -206,10 +202,7 @@ fn look_at<A: Allocator>(
     requires cell { cell < 4 }
     ensures { block.new ≡ block.old }
 {
-    let Some(all) = covered else {
-        return;
-    };
-    if !all || !brush.state.depth() || brush.state.write() {
+    if covered == Some(false) || !brush.state.depth() || brush.state.write() {
         return;
     }
     let known = block.cell_bounds(span, cell);

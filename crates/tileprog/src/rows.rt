@@ -150,6 +150,68 @@ pub(crate) fn stencil_row<A: Allocator, W: Walks>(
     lanes_in(bits)
 }
 
+/// A span under a brush with a stencil test, where the depth test passes at each covered pixel or at none; the answer is how many pixels
+/// pass.
+#[inline(always)]
+pub(crate) fn cut_row<A: Allocator>(
+    block: &mut TileBlock<A>,
+    column: &Column,
+    mask: u8,
+    plane: &Plane,
+    row: u32,
+    edges: &EdgeWalk<'_>,
+    deep: bool,
+    test: &StencilTest,
+    brush: &Brush,
+) -> u32
+    requires same { mask ≡ column.now.mask }
+    requires column { IsColumn column.now block.old.rect }
+    requires row { IsRow column.now block.old.rect row }
+    requires edges { edges.now ≡ record edges.now { triangle = plane.now.triangle; x = column.now.x; y = block.old.rect.top + row } }
+    requires begun { BeganIn edges.now block.old.rect }
+    requires named { IsNamed plane.now column.now.mask block.old.rect }
+    requires kind { tests_of brush.now.state ≡ Stencil }
+    requires test { test.now ≡ record { setting = brush.now.state; face = if brush.now.front then brush.now.state.front else brush.now.state.back; reference = brush.now.reference } }
+    requires deep { AllHave deep brush.now.state plane.now block.old column.now.x row (row + 1) }
+    requires unwritten { IsUnwritten brush.now.state deep }
+    ensures { RowDrew (record { brush = brush.now; plane = plane.now; mask = column.now.mask; clip = column.now.clip }) block.old block.new column.now.x (block.old.rect.top + row) result }
+{
+    let cover = lanes_left(column, mask, edges, false);
+    if cover == 0 {
+        return 0;
+    }
+    let passed = draw_alike(block, column.span, row, cover, deep, false, test, brush);
+    lanes_in(passed)
+}
+
+/// A span of which all pixels are covered under a brush with a stencil test; the answer is how many pixels pass.
+#[inline(always)]
+pub(crate) fn deep_row<A: Allocator, W: Walks>(
+    block: &mut TileBlock<A>,
+    column: &Column,
+    plane: &Plane,
+    row: u32,
+    walk: &W,
+    test: &StencilTest,
+    brush: &Brush,
+) -> u32
+    requires column { IsColumn column.now block.old.rect }
+    requires within { column.now.within ≡ 255 }
+    requires row { IsRow column.now block.old.rect row }
+    requires walk { W.place walk.now ≡ record (W.place walk.now) { plane = plane.now; x = column.now.x; y = block.old.rect.top + row } }
+    requires left { block.old.rect.left ≤ (W.place walk.now).left }
+    requires top { block.old.rect.top ≤ (W.place walk.now).top }
+    requires named { IsNamed plane.now column.now.mask block.old.rect }
+    requires kind { tests_of brush.now.state ≡ Stencil }
+    requires test { test.now ≡ record { setting = brush.now.state; face = if brush.now.front then brush.now.state.front else brush.now.state.back; reference = brush.now.reference } }
+    requires covered { AreCovered true column.now.mask plane.now.triangle block.old.rect column.now.x row (row + 1) }
+    ensures { RowDrew (record { brush = brush.now; plane = plane.now; mask = column.now.mask; clip = column.now.clip }) block.old block.new column.now.x (block.old.rect.top + row) result }
+{
+    let depths = walk.depths();
+    let passed = draw_stencils(block, column.span, row, 255, &depths, test, brush);
+    lanes_in(passed)
+}
+
 /// A span of which all pixels are covered under a brush with a stencil test, where the depth test passes at all or at none; the answer is
 /// how many pixels pass. The stencil test is asked unless it is known to pass always, and nothing is stored where nothing changes:
 /// loops over rows have these two as constants.

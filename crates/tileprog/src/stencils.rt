@@ -13,7 +13,7 @@ ghost use Rattle.tileprog.specs.Strokes.{IsNamed};
 use crate::brush::Brush;
 use crate::cells::{Cell, cell_of, is_long};
 use crate::column::Column;
-use crate::rows::{alike_row, operated_rows, stencil_row};
+use crate::rows::{alike_row, cut_row, deep_row, operated_rows, stencil_row};
 use crate::spans::{is_still, keeps_colors};
 use depthplane::{Plane, Walks};
 use edges::{EdgeSet, EdgeWalk};
@@ -202,6 +202,186 @@ fn known_rows<A: Allocator>(
     }
 }
 
+/// So many rows further down along the edges.
+#[inline(always)]
+fn edges_below(edges: &mut EdgeWalk<'_>, rows: u32)
+    requires { edges.old.y + rows ≤ side_bound }
+    ensures { edges.new ≡ record edges.old { y = edges.old.y + rows } }
+{
+    for _ in 0..rows {
+        edges.down();
+    }
+}
+
+/// So many rows further down along the depths.
+#[inline(always)]
+fn depths_below<W: Walks>(walk: &mut W, rows: u32)
+    requires { (W.place walk.old).y + rows ≤ side_bound }
+    ensures { W.place walk.new ≡ record (W.place walk.old) { y = (W.place walk.old).y + rows } }
+{
+    for _ in 0..rows {
+        walk.next();
+    }
+}
+
+/// A cell that an edge may cut and of which the depth test's outcome isn't known; the answer is how many pixels pass. The walks begin at
+/// the head of the column.
+#[inline(always)]
+fn walked_rows<A: Allocator, W: Walks>(
+    block: &mut TileBlock<A>,
+    column: &Column,
+    mask: u8,
+    plane: &Plane,
+    row: u32,
+    edges: &EdgeWalk<'_>,
+    walk: &W,
+    test: &StencilTest,
+    brush: &Brush,
+) -> u32
+    requires same { mask ≡ column.now.mask }
+    requires column { IsColumn column.now block.old.rect }
+    requires long { IsLong column.now block.old.rect }
+    requires row { row + 8 ≤ 32 }
+    requires edges { edges.now ≡ record edges.now { triangle = plane.now.triangle; x = column.now.x; y = column.now.clip.top } }
+    requires begun { BeganIn edges.now block.old.rect }
+    requires walk { W.place walk.now ≡ record (W.place walk.now) { plane = plane.now; x = column.now.x; y = column.now.clip.top } }
+    requires left { block.old.rect.left ≤ (W.place walk.now).left }
+    requires top { block.old.rect.top ≤ (W.place walk.now).top }
+    requires named { IsNamed plane.now column.now.mask block.old.rect }
+    requires kind { tests_of brush.now.state ≡ Stencil }
+    requires test { test.now ≡ record { setting = brush.now.state; face = if brush.now.front then brush.now.state.front else brush.now.state.back; reference = brush.now.reference } }
+    ensures { Continues (record { brush = brush.now; plane = plane.now; mask = column.now.mask; clip = column.now.clip }) block.old block.new column.now.x (block.old.rect.top + row) (block.old.rect.top + (row + 8)) result }
+{
+    let mut here = edges.copied();
+    let mut depths = walk.copied();
+    edges_below(&mut here, row);
+    depths_below(&mut depths, row);
+    each_row(
+        block,
+        column,
+        mask,
+        row,
+        row + 8,
+        here,
+        depths,
+        false,
+        None,
+        test,
+        brush,
+    )
+}
+
+/// A cell of which all pixels are covered and the depth test's outcome isn't known; the answer is how many pixels pass. The walk begins at
+/// the head of the column, and no edge is walked along.
+#[inline(never)]
+fn deep_rows<A: Allocator, W: Walks>(
+    block: &mut TileBlock<A>,
+    column: &Column,
+    plane: &Plane,
+    row: u32,
+    walk: &W,
+    test: &StencilTest,
+    brush: &Brush,
+) -> u32
+    requires column { IsColumn column.now block.old.rect }
+    requires long { IsLong column.now block.old.rect }
+    requires row { row + 8 ≤ 32 }
+    requires walk { W.place walk.now ≡ record (W.place walk.now) { plane = plane.now; x = column.now.x; y = column.now.clip.top } }
+    requires left { block.old.rect.left ≤ (W.place walk.now).left }
+    requires top { block.old.rect.top ≤ (W.place walk.now).top }
+    requires named { IsNamed plane.now column.now.mask block.old.rect }
+    requires kind { tests_of brush.now.state ≡ Stencil }
+    requires test { test.now ≡ record { setting = brush.now.state; face = if brush.now.front then brush.now.state.front else brush.now.state.back; reference = brush.now.reference } }
+    requires covered { AreCovered true column.now.mask plane.now.triangle block.old.rect column.now.x row (row + 8) }
+    ensures { Continues (record { brush = brush.now; plane = plane.now; mask = column.now.mask; clip = column.now.clip }) block.old block.new column.now.x (block.old.rect.top + row) (block.old.rect.top + (row + 8)) result }
+{
+    let mut depths = walk.copied();
+    depths_below(&mut depths, row);
+    let past = row + 8;
+    let mut passed = 0u32;
+    for at in row..past {
+        let more = deep_row(block, column, plane, at, &depths, test, brush);
+        passed += more;
+        depths.next();
+    }
+    passed
+}
+
+/// A cell that an edge may cut, in which the depth test passes at each covered pixel or at none; the answer is how many pixels pass. No depth
+/// is walked.
+#[inline(never)]
+fn cut_rows<A: Allocator>(
+    block: &mut TileBlock<A>,
+    column: &Column,
+    mask: u8,
+    plane: &Plane,
+    row: u32,
+    edges: &EdgeWalk<'_>,
+    deep: bool,
+    test: &StencilTest,
+    brush: &Brush,
+) -> u32
+    requires same { mask ≡ column.now.mask }
+    requires column { IsColumn column.now block.old.rect }
+    requires long { IsLong column.now block.old.rect }
+    requires row { row + 8 ≤ 32 }
+    requires edges { edges.now ≡ record edges.now { triangle = plane.now.triangle; x = column.now.x; y = column.now.clip.top } }
+    requires begun { BeganIn edges.now block.old.rect }
+    requires named { IsNamed plane.now column.now.mask block.old.rect }
+    requires kind { tests_of brush.now.state ≡ Stencil }
+    requires test { test.now ≡ record { setting = brush.now.state; face = if brush.now.front then brush.now.state.front else brush.now.state.back; reference = brush.now.reference } }
+    requires deep { AllHave deep brush.now.state plane.now block.old column.now.x row (row + 8) }
+    requires unwritten { IsUnwritten brush.now.state deep }
+    ensures { Continues (record { brush = brush.now; plane = plane.now; mask = column.now.mask; clip = column.now.clip }) block.old block.new column.now.x (block.old.rect.top + row) (block.old.rect.top + (row + 8)) result }
+{
+    let mut here = edges.copied();
+    edges_below(&mut here, row);
+    let past = row + 8;
+    let mut passed = 0u32;
+    for at in row..past {
+        let more = cut_row(block, column, mask, plane, at, &here, deep, test, brush);
+        passed += more;
+        here.down();
+    }
+    passed
+}
+
+/// A cell that an edge may cut; the answer is how many pixels pass.
+#[inline(always)]
+fn cut_cell<A: Allocator, W: Walks>(
+    block: &mut TileBlock<A>,
+    column: &Column,
+    mask: u8,
+    plane: &Plane,
+    row: u32,
+    edges: &EdgeWalk<'_>,
+    walk: &W,
+    known: Option<bool>,
+    test: &StencilTest,
+    brush: &Brush,
+) -> u32
+    requires same { mask ≡ column.now.mask }
+    requires column { IsColumn column.now block.old.rect }
+    requires long { IsLong column.now block.old.rect }
+    requires row { row + 8 ≤ 32 }
+    requires edges { edges.now ≡ record edges.now { triangle = plane.now.triangle; x = column.now.x; y = column.now.clip.top } }
+    requires begun { BeganIn edges.now block.old.rect }
+    requires walk { W.place walk.now ≡ record (W.place walk.now) { plane = plane.now; x = column.now.x; y = column.now.clip.top } }
+    requires left { block.old.rect.left ≤ (W.place walk.now).left }
+    requires top { block.old.rect.top ≤ (W.place walk.now).top }
+    requires named { IsNamed plane.now column.now.mask block.old.rect }
+    requires kind { tests_of brush.now.state ≡ Stencil }
+    requires test { test.now ≡ record { setting = brush.now.state; face = if brush.now.front then brush.now.state.front else brush.now.state.back; reference = brush.now.reference } }
+    requires known { IfSome known (λ deep. AllHave deep brush.now.state plane.now block.old column.now.x row (row + 8)) }
+    requires unwritten { IfSome known (IsUnwritten brush.now.state) }
+    ensures { Continues (record { brush = brush.now; plane = plane.now; mask = column.now.mask; clip = column.now.clip }) block.old block.new column.now.x (block.old.rect.top + row) (block.old.rect.top + (row + 8)) result }
+{
+    let Some(deep) = known else {
+        return walked_rows(block, column, mask, plane, row, edges, walk, test, brush);
+    };
+    cut_rows(block, column, mask, plane, row, edges, deep, test, brush)
+}
+
 /// A cell: the eight rows of a column from `row` on, of which that is known; the answer is how many pixels pass.
 #[inline(always)]
 fn cell_rows<A: Allocator, W: Walks>(
@@ -220,9 +400,9 @@ fn cell_rows<A: Allocator, W: Walks>(
     requires column { IsColumn column.now block.old.rect }
     requires long { IsLong column.now block.old.rect }
     requires row { row + 8 ≤ 32 }
-    requires edges { edges.now ≡ record edges.now { triangle = plane.now.triangle; x = column.now.x; y = block.old.rect.top + row } }
+    requires edges { edges.now ≡ record edges.now { triangle = plane.now.triangle; x = column.now.x; y = column.now.clip.top } }
     requires begun { BeganIn edges.now block.old.rect }
-    requires walk { W.place walk.now ≡ record (W.place walk.now) { plane = plane.now; x = column.now.x; y = block.old.rect.top + row } }
+    requires walk { W.place walk.now ≡ record (W.place walk.now) { plane = plane.now; x = column.now.x; y = column.now.clip.top } }
     requires left { block.old.rect.left ≤ (W.place walk.now).left }
     requires top { block.old.rect.top ≤ (W.place walk.now).top }
     requires named { IsNamed plane.now column.now.mask block.old.rect }
@@ -232,61 +412,17 @@ fn cell_rows<A: Allocator, W: Walks>(
     ensures { Continues (record { brush = brush.now; plane = plane.now; mask = column.now.mask; clip = column.now.clip }) block.old block.new column.now.x (block.old.rect.top + row) (block.old.rect.top + (row + 8)) result }
 {
     let Some(covered) = cell.covered else {
-        return each_row(
-            block,
-            column,
-            mask,
-            row,
-            row + 8,
-            edges.copied(),
-            walk.copied(),
-            false,
-            cell.deep,
-            test,
-            brush,
+        return cut_cell(
+            block, column, mask, plane, row, edges, walk, cell.deep, test, brush,
         );
     };
     if !covered {
         return 0;
     }
     let Some(deep) = cell.deep else {
-        return each_row(
-            block,
-            column,
-            mask,
-            row,
-            row + 8,
-            edges.copied(),
-            walk.copied(),
-            true,
-            None,
-            test,
-            brush,
-        );
+        return deep_rows(block, column, plane, row, walk, test, brush);
     };
     known_rows(block, column, plane, row, deep, test, brush)
-}
-
-/// Eight rows further down along the edges.
-#[inline(always)]
-fn edges_below(edges: &mut EdgeWalk<'_>)
-    requires { edges.old.y + 8 ≤ side_bound }
-    ensures { edges.new ≡ record edges.old { y = edges.old.y + 8 } }
-{
-    for _ in 0..8u32 {
-        edges.down();
-    }
-}
-
-/// Eight rows further down along the depths.
-#[inline(always)]
-fn depths_below<W: Walks>(walk: &mut W)
-    requires { (W.place walk.old).y + 8 ≤ side_bound }
-    ensures { W.place walk.new ≡ record (W.place walk.old) { y = (W.place walk.old).y + 8 } }
-{
-    for _ in 0..8u32 {
-        walk.next();
-    }
 }
 
 /// A column in all rows of a tile, cell by cell, with the mask of its edges known to the loop.
@@ -297,8 +433,8 @@ fn each_cell<A: Allocator, W: Walks>(
     mask: u8,
     set: &EdgeSet,
     plane: &Plane,
-    mut edges: EdgeWalk<'_>,
-    mut walk: W,
+    edges: EdgeWalk<'_>,
+    walk: W,
     test: &StencilTest,
     brush: &Brush,
 ) -> u32
@@ -325,8 +461,6 @@ fn each_cell<A: Allocator, W: Walks>(
             block, column, mask, plane, row, cell, &edges, &walk, test, brush,
         );
         passed += more;
-        edges_below(&mut edges);
-        depths_below(&mut walk);
     }
     passed
 }

@@ -1,12 +1,13 @@
 use Rattle.std.proofs.Common.{subst, ℕ, ◌+◌, ◌*◌, ◌≤◌, Option, Some}
-use Rattle.std.specs.Prelude.{IfSome}
+use Rattle.std.specs.Prelude.{IfSome, IsTrue}
 use Rattle.gfxspec.specs.declared.geometry.PixelRect.{PixelRect}
+use Rattle.gfxspec.specs.Raster.{centre, covers}
 use Rattle.depthplane.specs.Place.{depth_of}
 use Rattle.tileblock.specs.Cells.{CellLies}
 use Rattle.tileblock.specs.declared.blocks.DepthBounds.{DepthBounds}
 use Rattle.tileprog.specs.Alike.{HasOutcome}
 use Rattle.tileprog.specs.Cells.{InRows, AllHave}
-use Rattle.tileprog.proofs.CellLaws.{mapped, cell_has, cell_covered}
+use Rattle.tileprog.proofs.CellLaws.{mapped, cell_has}
 use Rattle.tileprog.proofs.cells.deep_from.Goals as goal
 
 pub returns-then-is_some-clause-deep : goal.returns-then-is_some-clause-deep
@@ -21,8 +22,7 @@ returns-then-is_some-clause-deep g c =
     let P : Option DepthBounds → Type 0 = λ o. IfSome o (λ (w : DepthBounds). CellLies b k.span c.args.cell w.least w.greatest) in
     let stored : P (Some known) = subst P c.in-Some.is c.cell_bounds.ensures in
     mapped c.outcome_between-near.result (HasOutcome s w.least w.greatest (Some known)) (λ deep. AllHave deep s d b k.x row (row + 8))
-    (λ deep has. cell_has deep s d b k.span c.args.cell k.x w.least w.greatest known c.requires.column.x stored
-    (λ u v here. c.requires.corners u v (cell_covered k d b.rect row c.requires.column c.requires.named c.requires.whole u v here)) has)
+    (λ deep has. cell_has deep s d b k.span c.args.cell k.x w.least w.greatest known c.requires.column.x stored (λ u v here covered. c.requires.corners u v covered) has)
     c.outcome_between-near.ensures.deep
 
 pub returns-clause-deep : goal.returns-clause-deep
@@ -31,11 +31,11 @@ returns-clause-deep g c =
     let b = c.args.block.now in
     let s = c.args.brush.now.state in
     let d = c.args.plane.now in
-    let range = c.cell_range-range.result in
+    let range = c.in-Some-cell_range.range in
     let known = c.in-Some.known in
     let row = 8 * c.args.cell in
-    let L : PixelRect → Type 0 = λ r. (u v : ℕ) → InRows r k.x row (row + 8) u v → (range.least ≤ depth_of d u v) × (depth_of d u v ≤ range.greatest) in
-    let lie : L b.rect = subst L c.rect.ensures c.cell_range-range.ensures in
+    let L : PixelRect → Type 0 = λ r. (u v : ℕ) → InRows r k.x row (row + 8) u v → IsTrue (covers d.triangle (centre u v)) → (range.least ≤ depth_of d u v) × (depth_of d u v ≤ range.greatest) in
+    let lie : L b.rect = subst L c.rect.ensures c.in-Some-cell_range.ensures in
     let P : Option DepthBounds → Type 0 = λ o. IfSome o (λ (w : DepthBounds). CellLies b k.span c.args.cell w.least w.greatest) in
     let stored : P (Some known) = subst P c.in-Some.is c.cell_bounds.ensures in
     mapped c.outcome_between.result (HasOutcome s range.least range.greatest (Some known)) (λ deep. AllHave deep s d b k.x row (row + 8))

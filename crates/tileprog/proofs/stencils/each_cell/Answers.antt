@@ -1,6 +1,5 @@
 use Rattle.std.proofs.Common.{◌≡◌, ◌∙◌, ap, sym, subst, refl, rules, arith, ◌+◌, ◌*◌}
 use Rattle.gfxspec.specs.declared.geometry.PixelRect.{PixelRect}
-use Rattle.depthplane.specs.Places.{Places}
 use Rattle.tileblock.specs.Block.{Block}
 use Rattle.tileprog.specs.Columns.{Continues}
 use Rattle.tileprog.specs.Strokes.{Stroke}
@@ -13,12 +12,8 @@ loop-k-init g c =
     let plane = c.args.plane.now in
     let s : Stroke = record { brush = c.args.brush.now; plane = plane; mask = k.mask; clip = k.clip } in
     let old = c.args.block.now in
-    let start = g.W.Walks.place c.args.walk in
     let here : old.rect.top ≡ old.rect.top + 8 * 0 = omega arith in
-    let first = c.requires.long.top ∙ here in
     record {
-      edges = c.requires.edges ∙ (λ i. record c.args.edges { triangle = plane.triangle; x = k.x; y = first i });
-      walk = λ i. record start { x = ap (λ (p : Places). p.x) c.requires.walk i; y = (ap (λ (p : Places). p.y) c.requires.walk ∙ first) i };
       rect = refl;
       continues = subst (λ z. Continues s old old k.x old.rect.top z 0) here (none_yet s old k.x old.rect.top);
     }
@@ -38,8 +33,6 @@ loop-k-preserved g c =
     let D : Block → Type 0 = λ b. Continues s b new k.x (b.rect.top + row) (b.rect.top + (row + 8)) more in
     let drawn : D mid = subst D c.cell_of-cell.ensures.block c.cell_rows-more.ensures in
     record {
-      edges = search rules;
-      walk = search rules;
       rect = drawn.rect ∙ inv.rect;
       continues = rows_behind s old mid new k.x old.rect.top (old.rect.top + row) (mid.rect.top + row) (mid.rect.top + (row + 8)) (old.rect.top + 8 * (c.loop-k.k + 1)) c.loop-k.passed more inv.continues drawn
           (ap (λ v. v + row) top_is) (omega (arith, top_is));

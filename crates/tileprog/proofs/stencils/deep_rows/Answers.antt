@@ -1,0 +1,36 @@
+use Rattle.std.proofs.Common.{◌≡◌, ◌∙◌, ap, refl, rules, arith, ◌+◌, ◌≤◌}
+use Rattle.gfxspec.specs.declared.geometry.PixelRect.{PixelRect}
+use Rattle.tileprog.specs.Strokes.{Stroke}
+use Rattle.tileprog.proofs.Columning.{row_behind, rows_are}
+use Rattle.tileprog.proofs.stencils.deep_rows.Goals as goal
+
+pub loop-at-preserved : goal.loop-at-preserved
+loop-at-preserved g c =
+    let k = c.args.column.now in
+    let plane = c.args.plane.now in
+    let s : Stroke = record { brush = c.args.brush.now; plane = plane; mask = k.mask; clip = k.clip } in
+    let old = c.args.block.now in
+    let mid = c.loop-at.block in
+    let new = c.deep_row-more.new.block in
+    let at = c.loop-at.at in
+    let more = c.deep_row-more.result in
+    let inv = c.loop-at.invariant in
+    let drawn = c.deep_row-more.ensures in
+    let top = c.requires.long.top in
+    let below : k.clip.top ≤ old.rect.top + at = omega (arith, top) in
+    record {
+      depths = search rules;
+      rect = drawn.drew.rect ∙ inv.rect;
+      continues = row_behind s plane old mid new k.x (old.rect.top + c.args.row) (old.rect.top + at) (old.rect.top + (at + 1)) (mid.rect.top + at) c.loop-at.passed more c.requires.column.within below inv.continues drawn
+          refl (ap (λ (r : PixelRect). r.top + at) inv.rect) (omega arith);
+    }
+
+pub returns : goal.returns
+returns g c =
+    let k = c.args.column.now in
+    let plane = c.args.plane.now in
+    let s : Stroke = record { brush = c.args.brush.now; plane = plane; mask = k.mask; clip = k.clip } in
+    let old = c.args.block.now in
+    let at = c.loop-at.at in
+    let done : at ≡ c.args.row + 8 = search rules in
+    rows_are s plane old c.loop-at.block k.x (old.rect.top + c.args.row) (old.rect.top + at) (old.rect.top + c.args.row) (old.rect.top + (c.args.row + 8)) c.loop-at.passed c.loop-at.invariant.continues refl refl (ap (λ v. old.rect.top + v) done)

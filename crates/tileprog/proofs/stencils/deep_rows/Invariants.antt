@@ -1,0 +1,14 @@
+use Rattle.std.proofs.Common.{◌≡◌, ◌+◌}
+use Rattle.tileprog.specs.Columns.{Continues}
+use Rattle.tileprog.proofs.stencils.deep_rows.Given as goal
+
+abbrev pub invariant-loop-at : goal.invariant-loop-at
+invariant-loop-at g l =
+    let k = l.column in
+    let old = l.fn.block in
+    let start = g.W.Walks.place l.walk in
+    record {
+      depths : g.W.Walks.place l.depths ≡ record start { plane = l.plane; x = k.x; y = old.rect.top + l.at };
+      rect : l.block.rect ≡ old.rect;
+      continues : Continues (record { brush = l.brush; plane = l.plane; mask = k.mask; clip = k.clip }) old l.block k.x (old.rect.top + l.row) (old.rect.top + l.at) l.passed;
+    }
