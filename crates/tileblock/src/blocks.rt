@@ -70,16 +70,22 @@ struct Cells {
 }
 
 impl Cells {
-    ghost use Rattle.std.specs.Prelude.{◌≡◌};
+    ghost use Rattle.std.specs.Prelude.{◌≡◌, ◌<◌, Some, length, slice_set};
     ghost use Rattle.tileblock.specs.Cells.{cells_of};
 
-    /// What is known of each cell.
-    fn of(known: Option<Cells>) -> Cells
-        ensures { result ≡ cells_of known }
+    /// Keeps what the depths of one cell lie between, beside what is known of the others.
+    fn keep(cells: &mut Option<Cells>, at: usize, bounds: DepthBounds)
+        requires at { at < 16 }
+        requires places { (k : Cells) → cells.old ≡ Some k → length k.bounds ≡ 16 }
+        ensures { cells.new ≡ Some (record { bounds = slice_set (cells_of cells.old).bounds at (Some bounds) }) }
     {
-        match known {
-            Some(cells) => cells,
-            None => Cells { bounds: [None; 16] },
+        match cells {
+            Some(known) => known.bounds[at] = Some(bounds),
+            None => {
+                let mut fresh = [None; 16];
+                fresh[at] = Some(bounds);
+                *cells = Some(Cells { bounds: fresh });
+            }
         }
     }
 }
@@ -405,9 +411,7 @@ impl<A: Allocator> TileBlock<A> {
         ensures { self.new ≡ self.old }
     {
         let at = (4 * cell + span) as usize;
-        let mut cells = Cells::of(self.spans.cells);
-        cells.bounds[at] = Some(DepthBounds { least, greatest });
-        self.spans.cells = Some(cells);
+        Cells::keep(&mut self.spans.cells, at, DepthBounds { least, greatest });
     }
 
     /// What the depths of a cell lie between, lane by lane.

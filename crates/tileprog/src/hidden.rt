@@ -95,11 +95,22 @@ pub(crate) fn bounds_after(
 /// So many pixels of a tile have to pass before a look at all its depths is worth its time.
 const MANY: u32 = 256;
 
+/// So many pixels has a whole tile.
+const ALL: u32 = 1024;
+
+/// Whether a look at all depths of a block is worth its time, behind a triangle of which so many pixels passed. Where it is nearer than
+/// each stored depth of a whole tile, its own depths are exact bounds.
+fn is_look_worth(func: Compare, passed: u32) -> bool {
+    let nearer = func == Compare::Less || func == Compare::LessEqual;
+    passed >= MANY && (passed < ALL || !nearer)
+}
+
 /// Keeps what the depths of a block lie between, where that is known. Behind a triangle of which many pixels passed, all depths are
 /// looked at, so that the bounds are exact again.
 pub(crate) fn keep_after<A: Allocator>(
     block: &mut TileBlock<A>,
     after: Option<DepthBounds>,
+    func: Compare,
     passed: u32,
 )
     requires { IfSome after (λ d. LieBetween block.old d.least d.greatest) }
@@ -108,7 +119,8 @@ pub(crate) fn keep_after<A: Allocator>(
     let Some(known) = after else {
         return;
     };
-    if passed >= MANY {
+    let worth = is_look_worth(func, passed);
+    if worth {
         block.measure_bounds();
         return;
     }

@@ -158,7 +158,7 @@ fn run_triangle<A: Allocator>(
     }
     let after = bounds_after(entry, least, greatest, whole, stored);
     let passed = draw_under(block, triangle, mask, entry, clip, *flip);
-    keep_after(block, after, passed);
+    keep_after(block, after, entry.depth_stencil.func(), passed);
     passed
 }
 

@@ -1,4 +1,4 @@
-use Rattle.std.proofs.Common.{◌≡◌, sym, subst, rules, length}
+use Rattle.std.proofs.Common.{◌≡◌, ◌∙◌, sym, subst, rules, length}
 use Rattle.std.proofs.lemmas.Option.{same_Some}
 use Rattle.tileblock.specs.declared.blocks.Cells.{Cells}
 use Rattle.tileblock.specs.Block.{Block}
@@ -11,15 +11,16 @@ invariant_of-self g c =
     let inside = c.self.inside in
     let inv = c.self.invariant in
     let was = inside.spans.value.cells in
-    let is : c.of-cells.result ≡ cells_of was = search rules in
+    let now = cells_of c.deref_mut.result.now.cells in
+    let is : now ≡ cells_of was = search rules in
     let block : Block = record { rect = inside.rect; colors = inside.spans.value.colors; depths = inside.spans.value.depths; stencils = inside.spans.value.stencils } in
     let lie = subst (λ (b : Block). CellLies b c.args.span c.args.cell c.args.least c.args.greatest) (sym c.self.view_is) c.requires.lie in
     rw c.deref_mut.ensures.value
     (record {
       block = inv.block;
       between = inv.between;
-      places = λ k known. subst (λ (k : Cells). length k.bounds ≡ 16) (same_Some _ k known)
-          (kept_places block was inv.places inv.each c.of-cells.result is c.args.span c.args.cell c.args.least c.args.greatest c.requires.span c.requires.cell lie);
-      each = λ k known. subst (λ (k : Cells). CellsLie block k) (same_Some _ k known)
-          (kept_lie block was inv.places inv.each c.of-cells.result is c.args.span c.args.cell c.args.least c.args.greatest c.requires.span c.requires.cell lie);
+      places = λ k known. subst (λ (k : Cells). length k.bounds ≡ 16) (same_Some _ k (sym c.keep.ensures ∙ known))
+          (kept_places block was inv.places inv.each now is c.args.span c.args.cell c.args.least c.args.greatest c.requires.span c.requires.cell lie);
+      each = λ k known. subst (λ (k : Cells). CellsLie block k) (same_Some _ k (sym c.keep.ensures ∙ known))
+          (kept_lie block was inv.places inv.each now is c.args.span c.args.cell c.args.least c.args.greatest c.requires.span c.requires.cell lie);
     })
