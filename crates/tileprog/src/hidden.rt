@@ -101,8 +101,10 @@ const ALL: u32 = 1024;
 /// Whether a look at all depths of a block is worth its time, behind a triangle of which so many pixels passed. Where it is nearer than
 /// each stored depth of a whole tile, its own depths are exact bounds.
 fn is_look_worth(func: Compare, passed: u32) -> bool {
-    let nearer = func == Compare::Less || func == Compare::LessEqual;
-    passed >= MANY && (passed < ALL || !nearer)
+    if passed < MANY {
+        return false;
+    }
+    passed < ALL || (func != Compare::Less && func != Compare::LessEqual)
 }
 
 /// Keeps what the depths of a block lie between, where that is known. Behind a triangle of which many pixels passed, all depths are
