@@ -45,6 +45,11 @@ impl Plane {
 impl<'a> Walks for BiasedWalks<'a> {
     ghost place = { λ w. w };
 
+    #[inline(always)]
+    fn is_sure(&self) -> bool {
+        self.walks.is_sure()
+    }
+
     #[inline]
     fn depths(&self) -> [u32; 8] {
         with_bias8(self.walks.depths(), self.bias)

@@ -12,6 +12,10 @@ pub trait Walks: Drop {
     /// Where the walks are.
     ghost place: { Self → Places };
 
+    /// Whether no value is looked at again before it is a depth. A loop that stands behind this test needn't ask in each row; nothing
+    /// is promised of it.
+    fn is_sure(&self) -> bool;
+
     /// The depths at the eight pixels, exact, rounded down and moved by the bias, wherever the triangle covers the centre.
     fn depths(&self) -> [u32; 8]
         ensures { (j : ℕ) → j < 8 → IsNearStart (place self.now) j

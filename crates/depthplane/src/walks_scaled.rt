@@ -146,6 +146,11 @@ impl Plane {
 impl<'a> Walks for ScaledWalks<'a> {
     ghost place = { λ w. w };
 
+    #[inline(always)]
+    fn is_sure(&self) -> bool {
+        self.sure
+    }
+
     /// What is mended is computed once more, so that `depths` need not be put into memory where nothing is.
     #[inline]
     fn depths(&self) -> [u32; 8] {

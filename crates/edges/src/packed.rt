@@ -1,9 +1,12 @@
 //! The edges of a triangle in a quarter of the room: its corners, from which they are computed again.
 
-ghost use Rattle.std.specs.Prelude.{◌≡◌};
+ghost use Rattle.std.specs.Prelude.{◌≡◌, ◌<◌};
+ghost use Rattle.gfxspec.specs.Limits.{side_bound};
 
-use crate::EdgeSet;
-use snap::SnapTri;
+use crate::signs::SignLanes;
+use crate::walk::EdgeWalk;
+use crate::{EdgeFunction, EdgeSet};
+use snap::{Sides, SnapTri};
 use std::marker::Model;
 
 /// The edges of a triangle whose area is not zero, where many wait to be drawn. Contracts see them as the triangle.
@@ -45,6 +48,25 @@ impl PackedEdges {
         match EdgeSet::of(&self.triangle) {
             Some(edges) => edges,
             None => unreachable!(),
+        }
+    }
+
+    /// A walk that begins at the eight pixels from (x, y) on: of the edges no more is computed than the walk keeps.
+    pub fn walk(&self, x: u32, y: u32) -> EdgeWalk<'_>
+        requires x { x < side_bound }
+        requires y { y < side_bound }
+        ensures { result ≡ record { triangle = self.now; left = x; top = y; x = x; y = y } }
+    {
+        let sides = Sides::of(&self.triangle);
+        EdgeWalk {
+            triangle: &self.triangle,
+            left: x,
+            top: y,
+            x,
+            y,
+            first: SignLanes::of(EdgeFunction::of(sides.first), x, y),
+            second: SignLanes::of(EdgeFunction::of(sides.second), x, y),
+            third: SignLanes::of(EdgeFunction::of(sides.third), x, y),
         }
     }
 

@@ -8,6 +8,7 @@ ghost use Rattle.edges.specs.Walk.{IsNearBegin};
 
 use crate::EdgeSet;
 use crate::signs::SignLanes;
+use snap::SnapTri;
 use std::marker::Model;
 use std::simd::prelude::*;
 
@@ -15,14 +16,14 @@ use std::simd::prelude::*;
 /// What is told of the edges is promised within 32 rows and columns of the beginning.
 #[derive(Drop)]
 pub struct EdgeWalk<'a> {
-    set: &'a EdgeSet,
-    left: u32,
-    top: u32,
-    x: u32,
-    y: u32,
-    first: SignLanes,
-    second: SignLanes,
-    third: SignLanes,
+    pub(crate) triangle: &'a SnapTri,
+    pub(crate) left: u32,
+    pub(crate) top: u32,
+    pub(crate) x: u32,
+    pub(crate) y: u32,
+    pub(crate) first: SignLanes,
+    pub(crate) second: SignLanes,
+    pub(crate) third: SignLanes,
 }
 
 impl<'a> Model for EdgeWalk<'a> {
@@ -44,7 +45,7 @@ impl EdgeSet {
         ensures { result ≡ record { triangle = self.now; left = x; top = y; x = x; y = y } }
     {
         EdgeWalk {
-            set: self,
+            triangle: &self.triangle,
             left: x,
             top: y,
             x,
@@ -96,7 +97,7 @@ impl<'a> EdgeWalk<'a> {
         ensures { result ≡ self.now }
     {
         EdgeWalk {
-            set: self.set,
+            triangle: self.triangle,
             left: self.left,
             top: self.top,
             x: self.x,

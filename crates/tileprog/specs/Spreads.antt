@@ -21,7 +21,6 @@ pub record IsOver (t : TileTriangle) (r : PixelRect) : Type 0 where
   pub tile : IsInTile r
   pub wide : r.left + 32 ≤ side_bound
   pub high : r.top + 32 ≤ side_bound
-  pub set : t.set.now ≡ t.plane.now.triangle
   pub named : IsNamed t.plane.now t.mask r
   pub corners : LiesWithin t.plane.now t.corners
   pub begun : r.left + 8 * t.first ≤ t.clip.left

@@ -15,7 +15,7 @@ use crate::kind::MadeTests;
 use crate::rows::{depth_row, open_row};
 use crate::stencils::stencil_column;
 use depthplane::{Plane, Walks};
-use edges::{EdgeSet, EdgeWalk};
+use edges::EdgeWalk;
 use gfxspec::Compare;
 use std::alloc::Allocator;
 use tileblock::TileBlock;
@@ -113,9 +113,9 @@ fn depth_spans<A: Allocator, W: Walks>(
     passed
 }
 
-/// A column under a brush that tests depth alone; the answer is how many pixels pass.
+/// The same, with the mask of its edges known to the loop: where none is named, it has none.
 #[inline(always)]
-fn depth_column<A: Allocator, W: Walks>(
+fn depth_rows<A: Allocator, W: Walks>(
     block: &mut TileBlock<A>,
     column: &Column,
     edges: &EdgeWalk<'_>,
@@ -141,12 +141,40 @@ fn depth_column<A: Allocator, W: Walks>(
     }
 }
 
+/// A column under a brush that tests depth alone; the answer is how many pixels pass. Whether all depths are sure is known to each of
+/// the loops, so that they have no call to mend one where they are.
+#[inline(always)]
+fn depth_column<A: Allocator, W: Walks>(
+    block: &mut TileBlock<A>,
+    column: &Column,
+    edges: &EdgeWalk<'_>,
+    walk: &W,
+    func: Compare,
+    write: bool,
+    brush: Brush,
+) -> u32
+    requires column { IsColumn column.now block.old.rect }
+    requires edges { edges.now ≡ record edges.now { triangle = (W.place walk.now).plane.triangle; x = column.now.x; y = column.now.clip.top } }
+    requires begun { BeganIn edges.now block.old.rect }
+    requires walk { W.place walk.now ≡ record (W.place walk.now) { x = column.now.x; y = column.now.clip.top } }
+    requires left { block.old.rect.left ≤ (W.place walk.now).left }
+    requires top { block.old.rect.top ≤ (W.place walk.now).top }
+    requires named { IsNamed (W.place walk.now).plane column.now.mask block.old.rect }
+    requires kind { tests_of brush.state ≡ Depth func write }
+    ensures { ColumnDrew (record { brush = brush; plane = (W.place walk.now).plane; mask = column.now.mask; clip = column.now.clip }) block.old block.new column.now.x result }
+{
+    if walk.is_sure() {
+        depth_rows(block, column, edges, walk, func, write, brush)
+    } else {
+        depth_rows(block, column, edges, walk, func, write, brush)
+    }
+}
+
 /// One column of spans, in the rows of the clip rectangle.
 #[inline(always)]
 pub(crate) fn draw_column<A: Allocator, W: Walks>(
     block: &mut TileBlock<A>,
     column: &Column,
-    set: &EdgeSet,
     edges: &EdgeWalk<'_>,
     plane: &Plane,
     walk: &W,
@@ -157,12 +185,11 @@ pub(crate) fn draw_column<A: Allocator, W: Walks>(
     requires edges { edges.now ≡ record edges.now { triangle = plane.now.triangle; x = column.now.x; y = column.now.clip.top } }
     requires begun { BeganIn edges.now block.old.rect }
     requires walk { W.place walk.now ≡ record (W.place walk.now) { plane = plane.now; x = column.now.x; y = column.now.clip.top } }
-    requires set { set.now ≡ plane.now.triangle }
     requires left { block.old.rect.left ≤ (W.place walk.now).left }
     requires top { block.old.rect.top ≤ (W.place walk.now).top }
     requires named { IsNamed plane.now column.now.mask block.old.rect }
     requires corners { LiesWithin plane.now column.now.corners }
-    requires tests { AreOf tests.now brush.now }
+    requires tests { AreOf tests.now brush.now plane.now.triangle }
     ensures { ColumnDrew (record { brush = brush.now; plane = plane.now; mask = column.now.mask; clip = column.now.clip }) block.old block.new column.now.x result }
 {
     match tests {
@@ -170,7 +197,7 @@ pub(crate) fn draw_column<A: Allocator, W: Walks>(
         MadeTests::DepthAlone(func, write) => {
             depth_column(block, column, edges, walk, *func, *write, *brush)
         }
-        MadeTests::Both(test) => {
+        MadeTests::Both(test, set) => {
             let edges = edges.copied();
             stencil_column(block, column, set, plane, edges, walk.copied(), test, brush)
         }

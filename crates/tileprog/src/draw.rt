@@ -16,7 +16,7 @@ use crate::columns::draw_column;
 use crate::kind::{MadeTests, Tests};
 use binner::TriSetup;
 use depthplane::{Plane, Walks};
-use edges::{EdgeSet, EdgeWalk};
+use edges::EdgeWalk;
 use gfxspec::{Compare, PixelRect};
 use lanes::StencilTest;
 use std::alloc::Allocator;
@@ -25,7 +25,6 @@ use tileblock::{DepthBounds, TileBlock};
 /// A triangle over the pixels of a clip rectangle in a tile, with what is the same for all its columns of spans.
 #[derive(Drop)]
 struct TileTriangle<'a> {
-    set: &'a EdgeSet,
     plane: &'a Plane,
     /// The edges that are still to be tested, edge i as bit i.
     mask: u8,
@@ -49,7 +48,7 @@ fn draw_spans<A: Allocator, W: Walks>(
     tests: &MadeTests<'_>,
 ) -> u32
     requires over { IsOver triangle.now block.old.rect }
-    requires tests { AreOf tests.now triangle.now.brush.now }
+    requires tests { AreOf tests.now triangle.now.brush.now triangle.now.plane.now.triangle }
     requires edges { edges ≡ edges_begin triangle.now block.old.rect }
     requires walk { W.place walk ≡ walk_begins triangle.now block.old.rect }
     ensures { SpreadDrew (stroke_of triangle.now) block.old block.new result }
@@ -66,16 +65,7 @@ fn draw_spans<A: Allocator, W: Walks>(
             triangle.mask,
             triangle.corners,
         );
-        let more = draw_column(
-            block,
-            &column,
-            triangle.set,
-            &edges,
-            plane,
-            &walk,
-            tests,
-            brush,
-        );
+        let more = draw_column(block, &column, &edges, plane, &walk, tests, brush);
         passed += more;
         if span + 1 == triangle.past {
             return passed;
@@ -97,7 +87,7 @@ fn draw_compared<A: Allocator, W: Walks>(
     write: bool,
 ) -> u32
     requires over { IsOver triangle.now block.old.rect }
-    requires tests { AreOf (DepthAlone func write) triangle.now.brush.now }
+    requires tests { AreOf (DepthAlone func write) triangle.now.brush.now triangle.now.plane.now.triangle }
     requires edges { edges ≡ edges_begin triangle.now block.old.rect }
     requires walk { W.place walk ≡ walk_begins triangle.now block.old.rect }
     ensures { SpreadDrew (stroke_of triangle.now) block.old block.new result }
@@ -138,6 +128,24 @@ fn draw_compared<A: Allocator, W: Walks>(
     }
 }
 
+/// The same under other tests, which are asked for in each column.
+#[inline(never)]
+fn draw_others<A: Allocator, W: Walks>(
+    block: &mut TileBlock<A>,
+    triangle: &TileTriangle<'_>,
+    edges: EdgeWalk<'_>,
+    walk: W,
+    tests: &MadeTests<'_>,
+) -> u32
+    requires over { IsOver triangle.now block.old.rect }
+    requires tests { AreOf tests.now triangle.now.brush.now triangle.now.plane.now.triangle }
+    requires edges { edges ≡ edges_begin triangle.now block.old.rect }
+    requires walk { W.place walk ≡ walk_begins triangle.now block.old.rect }
+    ensures { SpreadDrew (stroke_of triangle.now) block.old block.new result }
+{
+    draw_spans(block, triangle, edges, walk, tests)
+}
+
 /// A triangle under tests that are made, from where its walks begin; the answer is how many pixels pass.
 #[inline(always)]
 fn draw_walked<A: Allocator, W: Walks>(
@@ -148,7 +156,7 @@ fn draw_walked<A: Allocator, W: Walks>(
     tests: &MadeTests<'_>,
 ) -> u32
     requires over { IsOver triangle.now block.old.rect }
-    requires tests { AreOf tests.now triangle.now.brush.now }
+    requires tests { AreOf tests.now triangle.now.brush.now triangle.now.plane.now.triangle }
     requires edges { edges ≡ edges_begin triangle.now block.old.rect }
     requires walk { W.place walk ≡ walk_begins triangle.now block.old.rect }
     ensures { SpreadDrew (stroke_of triangle.now) block.old block.new result }
@@ -157,7 +165,9 @@ fn draw_walked<A: Allocator, W: Walks>(
         MadeTests::DepthAlone(func, write) => {
             draw_compared(block, triangle, edges, walk, *func, *write)
         }
-        MadeTests::Nothing | MadeTests::Both(_) => draw_spans(block, triangle, edges, walk, tests),
+        MadeTests::Nothing | MadeTests::Both(_, _) => {
+            draw_others(block, triangle, edges, walk, tests)
+        }
     }
 }
 
@@ -176,7 +186,7 @@ fn draw_tested<A: Allocator>(
     requires wide { block.old.rect.left + 32 ≤ side_bound }
     requires high { block.old.rect.top + 32 ≤ side_bound }
     requires named { IsNamed triangle.now.plane mask block.old.rect }
-    requires tests { AreOf tests.now brush.now }
+    requires tests { AreOf tests.now brush.now triangle.now.plane.triangle }
     ensures drew { Stroked (record { brush = brush.now; plane = triangle.now.plane; mask = mask; clip = clip }) block.old block.new }
     ensures count { result ≡ sum_over block.old.rect (stroke_count (record { brush = brush.now; plane = triangle.now.plane; mask = mask; clip = clip }) block.old) }
     ensures few { result ≤ 1024 }
@@ -184,11 +194,9 @@ fn draw_tested<A: Allocator>(
     let rect = block.rect();
     let first = (clip.left - rect.left) / 8;
     let left = rect.left + 8 * first;
-    let set = triangle.edges.unpacked();
-    let edges = set.walk(left, clip.top);
+    let edges = triangle.edges.walk(left, clip.top);
     let plane = &triangle.plane;
     let over = TileTriangle {
-        set: &set,
         plane,
         mask,
         corners: DepthBounds {
@@ -233,7 +241,9 @@ pub(crate) fn draw<A: Allocator>(
         }
         Tests::Stencil => {
             let test = StencilTest::of(&brush.state, brush.front, brush.reference);
-            draw_tested(block, triangle, mask, &MadeTests::Both(&test), brush, clip)
+            let set = triangle.edges.unpacked();
+            let tests = MadeTests::Both(&test, &set);
+            draw_tested(block, triangle, mask, &tests, brush, clip)
         }
     }
 }

@@ -3,6 +3,7 @@ use Rattle.std.specs.Prelude.{◌==◌, int_le, slice_index_or}
 use Rattle.std.specs.Int.{bit_at}
 use Rattle.std.proofs.lemmas.List.{get_or-replicate}
 use Rattle.gfxspec.specs.Raster.{centre, covers, edge}
+use Rattle.snap.specs.Corners.{triangle_of}
 use Rattle.edges.specs.Walk.{EdgePlace, IsNearBegin}
 use Rattle.edges.proofs.WalkLaws.{any_below, any_tells, long_any, compared_fits, bit_at-compared, compared, lane_tells, first_not_flat, second_not_flat, third_not_flat, all_cover}
 use Rattle.edges.proofs.walk.EdgeWalk.covered.Goals as goal
@@ -20,7 +21,7 @@ pub returns : goal.returns
 returns c =
     let w = c.self.inside in
     let at = c.self.invariant in
-    let t = w.set.now in
+    let t = triangle_of w.triangle.now in
     let any = any_below w.first.lanes w.second.lanes w.third.lanes in
     let long = long_any w.first.lanes w.second.lanes w.third.lanes at.first.eight at.second.eight at.third.eight in
     let P : EdgePlace → Type 0 = λ p. (j : ℕ) → j < 8 → IsNearBegin p j → (bit_at (compared at_least (replicate 8 0) any refl long) j == 1) ≡ covers p.triangle (centre (p.x + j) p.y) in
