@@ -237,6 +237,15 @@ lanes_right s x y j across v w step here is =
     by : (o d r e t : ℕ) → t ≡ r + e → across ≡ e % 18446744073709551616 → v ≡ (o + r + d) % 18446744073709551616 → w ≡ (o + t + d) % 18446744073709551616
     by o d r e t sum eight before = omega (arith, sum, eight, before, is)
 
+pub lane_right : (s : Scaled) (x y j v : ℕ) → v ≡ scaled_at s (x + j) y → (v + s.right) % 18446744073709551616 ≡ scaled_at s (x + (j + 1)) y
+lane_right s x y j v here =
+    let p = mul-add s.right (x + j) 1 in
+    let q : s.right * (x + j + 1) ≡ s.right * (x + (j + 1)) = ap (λ n. s.right * n) (omega arith) in
+    by s.origin (s.down * y) (s.right * (x + j)) (s.right * (x + (j + 1))) (omega (arith, p, q)) here
+  where
+    by : (o d r t : ℕ) → t ≡ r + s.right → v ≡ (o + r + d) % 18446744073709551616 → (v + s.right) % 18446744073709551616 ≡ (o + t + d) % 18446744073709551616
+    by o d r t sum before = omega (arith, sum, before)
+
 pub lanes_down : (s : Scaled) (x y down v w : ℕ) → down ≡ s.down → v ≡ scaled_at s x y → w ≡ (v + down) % 18446744073709551616 → w ≡ scaled_at s x (y + 1)
 lanes_down s x y down v w step here is =
     let p = mul-add s.down y 1 in

@@ -1,5 +1,5 @@
 -- What eight walks without a bias keep: the heights there, divided by the area, in 2^32nds.
-use Rattle.std.specs.Prelude.{◌≡◌, ℕ, ◌<◌, ◌≤◌, ◌+◌, ◌*◌, ◌%◌, slice_index}
+use Rattle.std.specs.Prelude.{◌≡◌, ℕ, ◌<◌, ◌≤◌, ◌+◌, ◌*◌, ◌%◌, length, slice_index}
 use Rattle.gfxspec.specs.Limits.{side_bound}
 use Rattle.gfxspec.specs.Raster.{centre}
 use Rattle.depthplane.specs.declared.height.Linear.{Linear}
@@ -30,9 +30,10 @@ pub record IsScaledHeight (d : DeepTriangle) (s : Scaled) : Type 0 where
 pub record AreWalks (w : Inside) : Type 0 where
   pub scaled : Scaled
   pub heights : IsScaledHeight w.plane.now scaled
-  pub lanes : (j : ℕ) → j < 8 → slice_index w.lanes j ≡ scaled_at scaled (w.x + j) w.y
-  pub across : w.across ≡ scaled.right * 8 % 18446744073709551616
-  pub down : w.down ≡ scaled.down
+  pub eight : length w.values.lanes ≡ 8
+  pub lanes : (j : ℕ) → j < 8 → slice_index w.values.lanes j ≡ scaled_at scaled (w.x + j) w.y
+  pub across : w.values.across ≡ scaled.right * 8 % 18446744073709551616
+  pub down : w.values.down ≡ scaled.down
   pub sure : w.sure ≡ scaled.sure
   pub column : w.x ≤ 4103
   pub row : w.y ≤ side_bound

@@ -1,19 +1,20 @@
 //! Heights divided by the area, in 2^32nds: a step is one addition of 64 bits, and the depth is the high half.
 
-ghost use Rattle.std.specs.Prelude.{◌≡◌, ℤ, ◌≤◌, ◌<◌, ◌+◌, ◌*◌, ◌%◌, pos, unsigned_abs, ℕ, slice_index, IsTrue};
+ghost use Rattle.std.specs.Prelude.{◌≡◌, ℤ, ◌≤◌, ◌<◌, ◌+◌, ◌*◌, ◌%◌, ◌^◌, pos, unsigned_abs, ℕ, slice_index, IsTrue};
 ghost use Rattle.gfxspec.specs.Limits.{side_bound};
 ghost use Rattle.depthplane.specs.Division.{IsDivision, IsDivisor, IsRest};
 ghost use Rattle.depthplane.specs.Linear.{IsHeight};
 ghost use Rattle.depthplane.specs.Scaled.{IsGentle, IsScaled, IsScaledLinear, scaled_at};
 
-use crate::division::{Divided, divide, divide_wide};
+use crate::division::{Divided, divide_wide};
+use crate::divisor::Divisor;
 use crate::height::Linear;
 use crate::start::Start;
 
 /// One unit of depth, in 2^32nds.
 pub(crate) const UNIT: u64 = 4_294_967_296;
 
-/// A unit is this times itself: a rest is scaled in two steps, so that each division is one of 64 bits.
+/// A unit is this times itself: the rest of a great divisor is scaled in two steps, so that each division is one of 64 bits.
 const HALF: u64 = 65_536;
 
 /// A number that is linear over the target, times 2^32 and divided by the area: its value at the centre of a pixel, and what
@@ -35,29 +36,46 @@ pub(crate) struct Scaled {
     pub(crate) gentle: bool,
 }
 
-/// A rest in 2^32nds of its divisor, rounded up.
-fn fraction(rest: i64, divisor: i64) -> u64
-    requires divisor { IsDivisor divisor }
-    requires rest { IsRest divisor rest }
-    ensures least { 4294967296 * unsigned_abs rest ≤ result * unsigned_abs divisor }
-    ensures most { result * unsigned_abs divisor < 4294967296 * unsigned_abs rest + unsigned_abs divisor }
+/// A rest in 2^32nds of its divisor, rounded up. A divisor below 2^32 takes one step, since the rest is below it.
+#[inline(always)]
+fn fraction(rest: i64, divisor: Divisor) -> u64
+    requires { IsRest (pos divisor.number) rest }
+    ensures least { 4294967296 * unsigned_abs rest ≤ result * divisor.number }
+    ensures most { result * divisor.number < 4294967296 * unsigned_abs rest + divisor.number }
 {
-    let divisor = divisor.unsigned_abs();
-    let high = rest.unsigned_abs() * HALF;
-    let low = high % divisor * HALF;
-    high / divisor * HALF + low.div_ceil(divisor)
+    let rest = rest as u64;
+    if divisor.number < UNIT {
+        let (whole, last) = divisor.parts(rest * UNIT);
+        return whole + last.min(1);
+    }
+    let (high, left) = divisor.parts(rest * HALF);
+    let (low, last) = divisor.parts(left * HALF);
+    high * HALF + low + last.min(1)
 }
 
 /// A division in 2^32nds, rounded up.
-fn parts_of(division: Divided, divisor: i64) -> u64
-    requires divisor { IsDivisor divisor }
-    requires rest { IsRest divisor division.remainder }
-    ensures near { (n : ℤ) → IsDivision n divisor division → IsScaled n divisor 1 result }
-    ensures exact { (n : ℤ) → division.remainder ≡ pos 0 → IsDivision n divisor division → IsScaled n divisor 0 result }
+#[inline(always)]
+fn parts_of(division: Divided, divisor: Divisor) -> u64
+    requires { IsRest (pos divisor.number) division.remainder }
+    ensures near { (n : ℤ) → IsDivision n (pos divisor.number) division → IsScaled n (pos divisor.number) 1 result }
+    ensures exact { (n : ℤ) → division.remainder ≡ pos 0 → IsDivision n (pos divisor.number) division → IsScaled n (pos divisor.number) 0 result }
 {
     u64::from(division.quotient)
         .wrapping_mul(UNIT)
         .wrapping_add(fraction(division.remainder, divisor))
+}
+
+/// One division of a number that may need 128 bits; where it needs no more than 64, it is divided as such.
+#[inline(always)]
+fn divide_origin(number: i128, divisor: Divisor) -> Divided
+    requires { unsigned_abs number ≤ 2 ^ 100 }
+    ensures exact { IsDivision number (pos divisor.number) result }
+    ensures rest { IsRest (pos divisor.number) result.remainder }
+{
+    match i64::try_from(number) {
+        Ok(narrow) => divisor.divide(narrow),
+        Err(_) => divide_wide(number, divisor.number as i64),
+    }
 }
 
 /// By how much a rounded division may be too great, in 2^32nds: not at all where none of them has a rest.
@@ -123,20 +141,15 @@ impl Scaled {
         requires steps { start.steps ≤ 16384 }
         ensures { IsScaledLinear number divisor start result }
     {
-        let begins = divide_wide(number.at(start.left, start.top), divisor);
-        let across = divide(number.step_x, divisor);
-        let below = divide(number.step_y, divisor);
-        let right = parts_of(across, divisor);
-        let down = parts_of(below, divisor);
+        let by = Divisor::of(divisor);
+        let begins = divide_origin(number.at(start.left, start.top), by);
+        let across = by.divide(number.step_x);
+        let below = by.divide(number.step_y);
+        let right = parts_of(across, by);
+        let down = parts_of(below, by);
         let error = error_of(begins, across, below);
         Scaled {
-            origin: led_back(
-                parts_of(begins, divisor),
-                right,
-                down,
-                start.left,
-                start.top,
-            ),
+            origin: led_back(parts_of(begins, by), right, down, start.left, start.top),
             right,
             down,
             error,
@@ -163,8 +176,10 @@ impl Scaled {
         ensures { (j : ℕ) → j < 8 → slice_index result j ≡ scaled_at self (x + j) y }
     {
         let mut values = [0; 8];
-        for j in 0..8u32 {
-            values[j as usize] = self.at(x + j, y);
+        let mut value = self.at(x, y);
+        for j in 0..8usize {
+            values[j] = value;
+            value = value.wrapping_add(self.right);
         }
         values
     }

@@ -1,6 +1,6 @@
 //! Eight walks by additions: each keeps its height, divided by the area, in 2^32nds.
 
-ghost use Rattle.std.specs.Prelude.{◌≡◌, ◌≢◌, ℕ, ◌<◌, ◌≤◌, ◌+◌, ◌*◌, ◌/◌, ◌%◌, ℤ, pos, ◌*ℤ◌, int_lt, IsTrue, slice_index, unsigned_abs, min, if◌then◌else◌};
+ghost use Rattle.std.specs.Prelude.{◌≡◌, ◌≢◌, ℕ, ◌<◌, ◌≤◌, ◌+◌, ◌*◌, ◌/◌, ◌%◌, ℤ, pos, ◌*ℤ◌, int_lt, IsTrue, length, slice_index, unsigned_abs, min, if◌then◌else◌};
 ghost use Rattle.gfxspec.specs.Limits.{side_bound};
 ghost use Rattle.depthplane.specs.Division.{IsDivisor};
 ghost use Rattle.gfxspec.specs.Raster.{centre};
@@ -17,6 +17,14 @@ use std::simd::prelude::*;
 /// pixel.
 pub(crate) const NEAR: u64 = 16_384;
 
+/// Eight values, and what eight pixels to the right and one row down add to each of them: a vector can't stand in a struct that borrows.
+#[derive(Clone, Copy)]
+struct ValueLanes {
+    lanes: u64x8,
+    across: u64,
+    down: u64,
+}
+
 /// Eight walks by multiples of 2^-32, over the depths before any bias. The steps stand in the walks themselves, so that a loop over rows needn't read them from
 /// the plane again. A value that lies too near above a whole number to be sure of its depth is looked at exactly.
 #[derive(Drop)]
@@ -26,11 +34,9 @@ pub struct ScaledWalks<'a> {
     top: u32,
     x: u32,
     y: u32,
-    across: u64,
-    down: u64,
     /// Whether every depth is sure, since no value can be too near above a whole number.
     sure: bool,
-    lanes: [u64; 8],
+    values: ValueLanes,
 }
 
 impl<'a> Model for ScaledWalks<'a> {
@@ -79,16 +85,22 @@ fn all_far(lanes: &[u64; 8]) -> bool
     far
 }
 
-/// The same eight values, each with a step more.
-#[inline]
-fn stepped(lanes: &[u64; 8], step: u64) -> [u64; 8]
-    ensures { (j : ℕ) → j < 8 → slice_index result j ≡ (slice_index lanes.now j + step) % 18446744073709551616 }
-{
-    let mut after = [0; 8];
-    for j in 0..8usize {
-        after[j] = lanes[j].wrapping_add(step);
+impl ValueLanes {
+    /// The same eight values, each with a step more.
+    #[inline(always)]
+    fn stepped(self, step: u64) -> ValueLanes
+        requires { length self.lanes ≡ 8 }
+        ensures eight { length result.lanes ≡ 8 }
+        ensures more { (j : ℕ) → j < 8 → slice_index result.lanes j ≡ (slice_index self.lanes j + step) % 18446744073709551616 }
+        ensures across { result.across ≡ self.across }
+        ensures down { result.down ≡ self.down }
+    {
+        ValueLanes {
+            lanes: self.lanes + u64x8::splat(step),
+            across: self.across,
+            down: self.down,
+        }
     }
-    after
 }
 
 /// A depth, or the one below it if its height would be more than the height.
@@ -135,10 +147,12 @@ impl Plane {
             top: y,
             x,
             y,
-            across: scaled.right.wrapping_mul(8),
-            down: scaled.down,
             sure: scaled.sure,
-            lanes: scaled.eight_at(x, y),
+            values: ValueLanes {
+                lanes: u64x8::from_array(scaled.eight_at(x, y)),
+                across: scaled.right.wrapping_mul(8),
+                down: scaled.down,
+            },
         }
     }
 }
@@ -154,26 +168,26 @@ impl<'a> Walks for ScaledWalks<'a> {
     /// What is mended is computed once more, so that `depths` need not be put into memory where nothing is.
     #[inline]
     fn depths(&self) -> [u32; 8] {
-        let depths = whole_parts(&self.lanes);
+        let depths = whole_parts(&self.values.lanes.to_array());
         if self.sure {
             return depths;
         }
-        if all_far(&self.lanes) {
+        if all_far(&self.values.lanes.to_array()) {
             return depths;
         }
-        let near = whole_parts(&self.lanes);
+        let near = whole_parts(&self.values.lanes.to_array());
         mend(self.plane, self.x, self.y, near)
     }
 
     #[inline]
     fn next(&mut self) {
-        self.lanes = stepped(&self.lanes, self.down);
+        self.values = self.values.stepped(self.values.down);
         self.y += 1;
     }
 
     #[inline]
     fn eight_right(&mut self) {
-        self.lanes = stepped(&self.lanes, self.across);
+        self.values = self.values.stepped(self.values.across);
         self.x += 8;
     }
 
@@ -185,10 +199,8 @@ impl<'a> Walks for ScaledWalks<'a> {
             top: self.top,
             x: self.x,
             y: self.y,
-            across: self.across,
-            down: self.down,
             sure: self.sure,
-            lanes: self.lanes,
+            values: self.values,
         }
     }
 }

@@ -1,4 +1,4 @@
-use Rattle.std.proofs.Common.{arith, ◌≡◌, ap, slice_index}
+use Rattle.std.proofs.Common.{arith, ◌≡◌, ◌∙◌, ap, slice_index}
 use Rattle.depthplane.specs.Places.{Places}
 use Rattle.depthplane.proofs.ScaledLaws.{lanes_right}
 use Rattle.depthplane.proofs.walks_scaled.ScaledWalksWalks.eight_right.Goals as goal
@@ -12,9 +12,10 @@ invariant_of-self c =
     record {
       scaled = i.scaled;
       heights = i.heights;
-      lanes = λ j h. lanes_right i.scaled w.x w.y j w.across (slice_index w.lanes j) (slice_index c.stepped-self-inside.result j) i.across (i.lanes j h) (c.stepped-self-inside.ensures j h);
-      across = i.across;
-      down = i.down;
+      eight = c.stepped-self-inside.ensures.eight;
+      lanes = λ j h. lanes_right i.scaled w.x w.y j w.values.across (slice_index w.values.lanes j) (slice_index c.stepped-self-inside.result.lanes j) i.across (i.lanes j h) (c.stepped-self-inside.ensures.more j h);
+      across = c.stepped-self-inside.ensures.across ∙ i.across;
+      down = c.stepped-self-inside.ensures.down ∙ i.down;
       sure = i.sure;
       column = omega (arith, place, old);
       row = i.row;
