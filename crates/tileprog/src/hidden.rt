@@ -5,14 +5,27 @@ ghost use Rattle.tileblock.specs.Bounds.{LieBetween};
 ghost use Rattle.tileprog.specs.Hidden.{none_passes, greatest_after, IsHidden, AreAfter};
 
 use binner::StateEntry;
-use gfxspec::Compare;
+use gfxspec::{Compare, PixelRect};
 use std::alloc::Allocator;
 use tileblock::{DepthBounds, TileBlock};
 
-/// Whether a triangle's plane is asked what its depths lie between: where depth is tested, and something is known of the stored
-/// depths.
-pub(crate) fn asks_plane(entry: &StateEntry, stored: Option<DepthBounds>) -> bool {
-    entry.depth_stencil.depth() && stored.is_some()
+/// Whether a triangle's bounds are as wide or as high as a tile. The vertices of a smaller one tell about as much of its depths as its
+/// plane does.
+#[inline(always)]
+fn is_large(bounds: PixelRect) -> bool {
+    let width = bounds.right.wrapping_sub(bounds.left);
+    let height = bounds.bottom.wrapping_sub(bounds.top);
+    width | height >= 32
+}
+
+/// Whether a triangle's plane is asked what its depths lie between: where it is large, depth is tested, and something is known of the
+/// stored depths.
+pub(crate) fn asks_plane(
+    bounds: PixelRect,
+    entry: &StateEntry,
+    stored: Option<DepthBounds>,
+) -> bool {
+    is_large(bounds) && entry.depth_stencil.depth() && stored.is_some()
 }
 
 /// No depth from `least` to `greatest` passes against any of the stored ones.

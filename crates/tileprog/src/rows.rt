@@ -151,7 +151,7 @@ pub(crate) fn stencil_row<A: Allocator, W: Walks>(
 }
 
 /// A span under a brush with a stencil test, where the depth test passes at each covered pixel or at none; the answer is how many pixels
-/// pass.
+/// pass. The stencil test is asked unless it is known to pass always.
 #[inline(always)]
 pub(crate) fn cut_row<A: Allocator>(
     block: &mut TileBlock<A>,
@@ -161,6 +161,7 @@ pub(crate) fn cut_row<A: Allocator>(
     row: u32,
     edges: &EdgeWalk<'_>,
     deep: bool,
+    always: bool,
     test: &StencilTest,
     brush: &Brush,
 ) -> u32
@@ -174,13 +175,14 @@ pub(crate) fn cut_row<A: Allocator>(
     requires test { test.now ≡ record { setting = brush.now.state; face = if brush.now.front then brush.now.state.front else brush.now.state.back; reference = brush.now.reference } }
     requires deep { AllHave deep brush.now.state plane.now block.old column.now.x row (row + 1) }
     requires unwritten { IsUnwritten brush.now.state deep }
+    requires always { IsTrue always → (v : ℕ) → reference_passes test.now v ≡ true }
     ensures { RowDrew (record { brush = brush.now; plane = plane.now; mask = column.now.mask; clip = column.now.clip }) block.old block.new column.now.x (block.old.rect.top + row) result }
 {
     let cover = lanes_left(column, mask, edges, false);
     if cover == 0 {
         return 0;
     }
-    let passed = draw_alike(block, column.span, row, cover, deep, false, test, brush);
+    let passed = draw_alike(block, column.span, row, cover, deep, always, test, brush);
     lanes_in(passed)
 }
 

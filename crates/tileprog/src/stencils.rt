@@ -307,8 +307,50 @@ fn deep_rows<A: Allocator, W: Walks>(
     passed
 }
 
-/// A cell that an edge may cut, in which the depth test passes at each covered pixel or at none; the answer is how many pixels pass. No depth
-/// is walked.
+/// A cell that an edge may cut, in which the depth test passes at each covered pixel or at none, and the stencil test maybe at each; the
+/// answer is how many pixels pass.
+#[inline(always)]
+fn masked_rows<A: Allocator>(
+    block: &mut TileBlock<A>,
+    column: &Column,
+    mask: u8,
+    plane: &Plane,
+    row: u32,
+    edges: &EdgeWalk<'_>,
+    deep: bool,
+    always: bool,
+    test: &StencilTest,
+    brush: &Brush,
+) -> u32
+    requires same { mask ≡ column.now.mask }
+    requires column { IsColumn column.now block.old.rect }
+    requires long { IsLong column.now block.old.rect }
+    requires row { row + 8 ≤ 32 }
+    requires edges { edges.now ≡ record edges.now { triangle = plane.now.triangle; x = column.now.x; y = column.now.clip.top } }
+    requires begun { BeganIn edges.now block.old.rect }
+    requires named { IsNamed plane.now column.now.mask block.old.rect }
+    requires kind { tests_of brush.now.state ≡ Stencil }
+    requires test { test.now ≡ record { setting = brush.now.state; face = if brush.now.front then brush.now.state.front else brush.now.state.back; reference = brush.now.reference } }
+    requires deep { AllHave deep brush.now.state plane.now block.old column.now.x row (row + 8) }
+    requires unwritten { IsUnwritten brush.now.state deep }
+    requires always { IsTrue always → (v : ℕ) → reference_passes test.now v ≡ true }
+    ensures { Continues (record { brush = brush.now; plane = plane.now; mask = column.now.mask; clip = column.now.clip }) block.old block.new column.now.x (block.old.rect.top + row) (block.old.rect.top + (row + 8)) result }
+{
+    let mut here = edges.copied();
+    edges_below(&mut here, row);
+    let past = row + 8;
+    let mut passed = 0u32;
+    for at in row..past {
+        let more = cut_row(
+            block, column, mask, plane, at, &here, deep, always, test, brush,
+        );
+        passed += more;
+        here.down();
+    }
+    passed
+}
+
+/// The same: each loop over rows has what is known of the stencil test and of the depth test as constants.
 #[inline(never)]
 fn cut_rows<A: Allocator>(
     block: &mut TileBlock<A>,
@@ -334,16 +376,21 @@ fn cut_rows<A: Allocator>(
     requires unwritten { IsUnwritten brush.now.state deep }
     ensures { Continues (record { brush = brush.now; plane = plane.now; mask = column.now.mask; clip = column.now.clip }) block.old block.new column.now.x (block.old.rect.top + row) (block.old.rect.top + (row + 8)) result }
 {
-    let mut here = edges.copied();
-    edges_below(&mut here, row);
-    let past = row + 8;
-    let mut passed = 0u32;
-    for at in row..past {
-        let more = cut_row(block, column, mask, plane, at, &here, deep, test, brush);
-        passed += more;
-        here.down();
+    let always = test.always_passes();
+    if !always {
+        return masked_rows(
+            block, column, mask, plane, row, edges, deep, false, test, brush,
+        );
     }
-    passed
+    if deep {
+        masked_rows(
+            block, column, mask, plane, row, edges, true, true, test, brush,
+        )
+    } else {
+        masked_rows(
+            block, column, mask, plane, row, edges, false, true, test, brush,
+        )
+    }
 }
 
 /// A cell that an edge may cut; the answer is how many pixels pass.

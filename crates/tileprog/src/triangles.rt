@@ -82,12 +82,6 @@ fn is_whole(rect: PixelRect, clip: PixelRect, mask: EdgeMask) -> bool
         && rect.bottom <= clip.bottom
 }
 
-/// Whether a triangle's bounds are wider or higher than a tile. The vertices of a smaller one tell about as much of its depths as its
-/// plane does.
-fn is_large(bounds: PixelRect) -> bool {
-    bounds.right.saturating_sub(bounds.left) > 32 || bounds.bottom.saturating_sub(bounds.top) > 32
-}
-
 /// What the depths of a triangle lie between at the pixels of a tile that it covers, where an edge may cut the tile: by its vertices, and
 /// by its plane over the whole tile.
 fn cut_range(triangle: &TriSetup, rect: PixelRect) -> (u32, u32)
@@ -108,7 +102,7 @@ fn depth_range(triangle: &TriSetup, rect: PixelRect, asked: bool, whole: bool) -
     requires whole { IsTrue whole → (u v : ℕ) → IsIn rect u v → IsTrue (covers triangle.now.edges (centre u v)) }
     ensures { DepthsLie triangle.now rect result.0 result.1 }
 {
-    if !asked || !is_large(triangle.bounds) {
+    if !asked {
         return (triangle.least_depth, triangle.greatest_depth);
     }
     if whole {
@@ -146,7 +140,7 @@ fn run_triangle<A: Allocator>(
         return run_open(block, flip, triangle, entry);
     }
     let stored = block.depth_bounds();
-    let asked = asks_plane(entry, stored);
+    let asked = asks_plane(triangle.bounds, entry, stored);
     let (least, greatest) = depth_range(triangle, rect, asked, whole);
     let hidden = is_hidden(entry, least, greatest, stored);
     if hidden {

@@ -1,7 +1,7 @@
 use Rattle.std.proofs.Common.{◌≡◌, ◌+◌}
 use Rattle.tileprog.specs.Cells.{AllHave}
 use Rattle.tileprog.specs.Columns.{Continues}
-use Rattle.tileprog.proofs.stencils.cut_rows.Given as goal
+use Rattle.tileprog.proofs.stencils.masked_rows.Given as goal
 
 abbrev pub invariant-loop-at : goal.invariant-loop-at
 invariant-loop-at g l =

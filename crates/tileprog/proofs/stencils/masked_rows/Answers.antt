@@ -3,7 +3,7 @@ use Rattle.gfxspec.specs.declared.geometry.PixelRect.{PixelRect}
 use Rattle.tileprog.specs.Strokes.{Stroke}
 use Rattle.tileprog.proofs.CellLaws.{rest_have}
 use Rattle.tileprog.proofs.Columning.{row_behind, rows_are}
-use Rattle.tileprog.proofs.stencils.cut_rows.Goals as goal
+use Rattle.tileprog.proofs.stencils.masked_rows.Goals as goal
 
 pub loop-at-preserved : goal.loop-at-preserved
 loop-at-preserved g c =
