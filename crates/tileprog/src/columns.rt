@@ -141,6 +141,31 @@ fn depth_rows<A: Allocator, W: Walks>(
     }
 }
 
+/// The same where no depth has to be mended. It is a function of its own, and no second call of the same one, so that its loops are kept
+/// apart, and have no call in them.
+#[inline(always)]
+fn sure_depth_rows<A: Allocator, W: Walks>(
+    block: &mut TileBlock<A>,
+    column: &Column,
+    edges: &EdgeWalk<'_>,
+    walk: &W,
+    func: Compare,
+    write: bool,
+    brush: Brush,
+) -> u32
+    requires column { IsColumn column.now block.old.rect }
+    requires edges { edges.now ≡ record edges.now { triangle = (W.place walk.now).plane.triangle; x = column.now.x; y = column.now.clip.top } }
+    requires begun { BeganIn edges.now block.old.rect }
+    requires walk { W.place walk.now ≡ record (W.place walk.now) { x = column.now.x; y = column.now.clip.top } }
+    requires left { block.old.rect.left ≤ (W.place walk.now).left }
+    requires top { block.old.rect.top ≤ (W.place walk.now).top }
+    requires named { IsNamed (W.place walk.now).plane column.now.mask block.old.rect }
+    requires kind { tests_of brush.state ≡ Depth func write }
+    ensures { ColumnDrew (record { brush = brush; plane = (W.place walk.now).plane; mask = column.now.mask; clip = column.now.clip }) block.old block.new column.now.x result }
+{
+    depth_rows(block, column, edges, walk, func, write, brush)
+}
+
 /// A column under a brush that tests depth alone; the answer is how many pixels pass. Whether all depths are sure is known to each of
 /// the loops, so that they have no call to mend one where they are.
 #[inline(always)]
@@ -164,7 +189,7 @@ fn depth_column<A: Allocator, W: Walks>(
     ensures { ColumnDrew (record { brush = brush; plane = (W.place walk.now).plane; mask = column.now.mask; clip = column.now.clip }) block.old block.new column.now.x result }
 {
     if walk.is_sure() {
-        depth_rows(block, column, edges, walk, func, write, brush)
+        sure_depth_rows(block, column, edges, walk, func, write, brush)
     } else {
         depth_rows(block, column, edges, walk, func, write, brush)
     }
