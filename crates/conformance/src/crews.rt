@@ -45,16 +45,21 @@ fn clearing<A: Allocator + Copy>(alloc: A, shade: u8) -> Result<CommandList<A>, 
 /// What a run leaves: the count of the triangle, and shades inside and outside of it.
 type Left = (u64, u8, u8);
 
+/// What an executed list left, by the answers to questions.
+fn left<A: Allocator + Copy + Send>(context: &mut ImmediateContext<A>) -> Result<Left, GfxError> {
+    let count = context.get_data_alone(0)?;
+    let inside = context.pixel_alone(1, 1)?;
+    let outside = context.pixel_alone(95, 63)?;
+    Ok((count, inside.rgba[0], outside.rgba[0]))
+}
+
 /// Executes a list alone, and asks.
 fn left_alone<A: Allocator + Copy + Send>(
     context: &mut ImmediateContext<A>,
     list: &CommandList<A>,
 ) -> Result<Left, GfxError> {
     context.execute_alone(list, false)?;
-    let count = context.get_data_alone(0)?;
-    let inside = context.pixel_alone(1, 1)?;
-    let outside = context.pixel_alone(95, 63)?;
-    Ok((count, inside.rgba[0], outside.rgba[0]))
+    left(context)
 }
 
 /// Executes a list by a crew, and asks.
@@ -66,10 +71,7 @@ fn left_by_crew<'a, A: Allocator + Copy + Send + Sync, R: Threads + Wait + Sync,
     gate: &G,
 ) -> Result<Left, GfxError> {
     context.execute_by_crew(rt, list, false, crew, gate)?;
-    let count = context.get_data_by_crew(rt, 0, crew, gate)?;
-    let inside = context.pixel_by_crew(rt, 1, 1, crew, gate)?;
-    let outside = context.pixel_by_crew(rt, 95, 63, crew, gate)?;
-    Ok((count, inside.rgba[0], outside.rgba[0]))
+    left(context)
 }
 
 /// Executes the lists of so many shades by a crew and alone, and says for how many the answers were the same.

@@ -1,6 +1,7 @@
 -- A batch on the target, over what stands in the code, and an execution behind the pending commands.
-use Rattle.std.proofs.Common.{◌≡◌, ◌∙◌, sym, ap, subst, refl, ℕ, ◌<◌, Bool, false, List, [], ◌∷◌, ◌++◌, length, map, None, Some, Option}
-use Rattle.std.specs.Prelude.{is_some}
+use Rattle.std.proofs.Common.{◌≡◌, ◌∙◌, sym, ap, subst, refl, ℕ, ◌<◌, Bool, false, List, [], ◌∷◌, ◌++◌, map, None, Some, Option}
+use Rattle.std.specs.Prelude.{is_some, Result, Ok, Err, IfOk, OnOk}
+use Rattle.gfxspec.specs.declared.error.GfxError.{GfxError}
 use Rattle.std.specs.List.{list_any, cons_option}
 use Rattle.gfxspec.specs.Recorded.{items, issues, queries_open, query_begun, after_finish}
 use Rattle.gfxspec.specs.Predication.{performed, result_of}
@@ -17,15 +18,14 @@ use Rattle.gfxspec.specs.Items.{Item, after_items}
 use Rattle.gfxspec.specs.Commands.{Command, Begin}
 use Rattle.gfxspec.specs.Tiles.{tile_count, tile_of, tile_rect, IsIn}
 use Rattle.gfxspec.proofs.TileLaws.{tile_numbered, in_own_tile}
-use Rattle.binmem.specs.Lists.{no_words}
-use Rattle.tileblock.specs.Surface.{Surface, IsWhole, pixel_of}
+use Rattle.tileblock.specs.Surface.{Surface, pixel_of}
 use Rattle.binner.specs.Compiled.{Compilation}
 use Rattle.binner.specs.Batched.{MeansItems}
 use Rattle.tileprog.specs.Programs.{ProgramsRan}
-use Rattle.immediate.specs.Outputs.{Outputs, IsOutput, performed_over}
+use Rattle.immediate.specs.Outputs.{Outputs, performed_over}
 use Rattle.immediate.specs.Held.{Held, outputs_of, context_of}
 use Rattle.immediate.specs.Batched.{HasDrawn}
-use Rattle.immediate.proofs.Runs.{fresh_output}
+use Rattle.immediate.proofs.Runs.{IsKept}
 
 -- where no command begins a query there is no issue
 pub no_issues : {A : Type 0} (cs : List (Code A)) → list_any (λ c. is_some (query_begun (command_value c))) cs ≡ false → issues (map command_value cs) ≡ []
@@ -42,7 +42,7 @@ module _ (o : Outputs) (c : Compilation) (old new : Surface) (results : List (Op
   size_is : c.size ≡ old.size
   size_is = size ∙ ap (λ (p : Outputs). p.surface.size) (sym is)
 
-  pub has_drawn : (items : List Item) (counts : List ℕ) → MeansItems items c → ProgramsRan c old new counts → HasDrawn items o record { surface = new; results = results }
+  has_drawn : (items : List Item) (counts : List ℕ) → MeansItems items c → ProgramsRan c old new counts → HasDrawn items o record { surface = new; results = results }
   has_drawn items counts means ran =
       subst (λ (p : Outputs). HasDrawn items p record { surface = new; results = results }) is
       record {
@@ -55,16 +55,13 @@ module _ (o : Outputs) (c : Compilation) (old new : Surface) (results : List (Op
         results = refl;
       }
 
-  -- what the type of outputs keeps, behind a batch
-  pub output_drawn : (bins : List (List ℕ)) (counts : List ℕ) → ProgramsRan c old new counts → length results ≡ 64 → bins ≡ no_words (tile_count c.size) → IsOutput new results (Some bins)
-  output_drawn bins counts ran long none =
-      fresh_output new results bins ran.whole long (none ∙ ap (λ (s : Size). no_words (tile_count s)) (size_is ∙ sym ran.size))
-
-  -- and behind a refusal
-  pub output_undrawn : (bins : List (List ℕ)) → new ≡ old → IsWhole old → length results ≡ 64 → bins ≡ no_words (tile_count c.size) → IsOutput new results (Some bins)
-  output_undrawn bins same whole long none =
-      subst (λ (s : Surface). IsOutput s results (Some bins)) (sym same)
-      (fresh_output old results bins whole long (none ∙ ap (λ (s : Size). no_words (tile_count s)) size_is))
+  -- the same, as its counts are kept
+  pub batch_kept : {T : Type 0} (counts : T → List ℕ) (items : List Item) (drawn : Result T GfxError) (result : Result (Unit {0}) GfxError) (after : List (Option ℕ)) → MeansItems items c → IsKept counts [] drawn results after result → IfOk drawn (λ x. ProgramsRan c old new (counts x)) → OnOk result (HasDrawn items o record { surface = new; results = after })
+  batch_kept counts items (Ok x) result after means kept ran =
+      subst (λ (r : Result (Unit {0}) GfxError). OnOk r (HasDrawn items o record { surface = new; results = after })) (sym kept.0)
+      (subst (λ (rs : List (Option ℕ)). HasDrawn items o record { surface = new; results = rs }) (sym kept.1) (has_drawn items (counts x) means ran))
+  batch_kept counts items (Err e) result after means kept ran =
+      subst (λ (r : Result (Unit {0}) GfxError). OnOk r (HasDrawn items o record { surface = new; results = after })) (sym kept.0) tt
 
 -- ---- behind the pending commands
 

@@ -1,9 +1,10 @@
 -- Runs of lists, one after the other.
-use Rattle.std.proofs.Common.{◌≡◌, ◌∙◌, sym, ap, subst, refl, arith, ℕ, ◌+◌, ◌<◌, List, [], ◌∷◌, length, get_or, Some, None}
-use Rattle.std.specs.Prelude.{Bool, true, false, not, Option, is_none, unwrap_or, slice_set, if◌then◌else◌}
+use Rattle.std.proofs.Common.{◌≡◌, ◌∙◌, ◌⊎◌, inl, inr, sym, ap, subst, refl, arith, ℕ, ◌+◌, ◌<◌, List, [], ◌∷◌, length, get_or, Some, None}
+use Rattle.std.specs.Prelude.{Bool, true, false, Option, is_none, unwrap_or, slice_set, if◌then◌else◌, Result, Ok, Err, MatchOption, MatchResult, IfOk, OnOk, IfErr, OnErr}
 use Rattle.std.proofs.lemmas.List.{length-set}
-use Rattle.gfxspec.specs.declared.TheConstants.{QUERY_LIMIT}
 use Rattle.gfxspec.specs.declared.geometry.Size.{Size}
+use Rattle.gfxspec.specs.declared.error.GfxError.{GfxError}
+use Rattle.gfxspec.specs.declared.error.GfxError.TheVariants.{OutOfMemory}
 use Rattle.gfxspec.specs.Items.{after_items, issue_count}
 use Rattle.gfxspec.specs.Commands.{Command}
 use Rattle.gfxspec.specs.Recorded.{items, issues, after_finish}
@@ -13,14 +14,17 @@ use Rattle.meaning.specs.Contexts.{result_after, result_at, with_counts, perform
 use Rattle.meaning.proofs.Contexts.{result_same, performed_results_stored}
 use Rattle.meaning.proofs.Predicates.{performed_same}
 use Rattle.gfxspec.specs.Predication.{performed, result_of}
-use Rattle.gfxspec.specs.Refusals.{AreAccepted}
+use Rattle.gfxspec.specs.Refusals.{Row, first_row, AreAccepted}
+use Rattle.port.specs.declared.submission.Submission.{Submission}
 use Rattle.tileblock.specs.Surface.{Surface, IsWhole, pixel_of}
 use Rattle.binner.specs.Compiled.{Compilation, IsCompilation, MeansList}
+use Rattle.binner.specs.Compiling.{told}
 use Rattle.tileprog.specs.Programs.{ProgramsRan}
 use Rattle.tileprog.proofs.Ordering.{list_ran}
 use Rattle.immediate.specs.Outputs as outputs
-use Rattle.immediate.specs.Outputs.{Outputs, IsOutput, performed_over, IsCompiled}
-use Rattle.immediate.specs.Held.{Held, Ran, shown, answered, context_of, held_of, outputs_of}
+use Rattle.immediate.specs.Outputs.{Outputs, IsOutput, performed_over, IsCompiled, IsRunBy}
+use Rattle.immediate.specs.Held.{Held, Ran, Runs, shown, answered, context_of, held_of, outputs_of}
+use Rattle.immediate.specs.Next.{Lists, IsTaken, ExecutesNext}
 
 same_counts : (f h : ℕ → ℕ) (k : ℕ) (queries : List ℕ) (results : List (Option ℕ)) → ((i : ℕ) → i < k + length queries → f i ≡ h i) → with_counts k f queries results ≡ with_counts k h queries results
 same_counts f h k [] results same = refl
@@ -99,29 +103,87 @@ module _ (list : List Command) (o : Outputs) (c : Compilation) (old new : Surfac
       subst (λ (p : Outputs). outputs.HasRun list p record { surface = new; results = after }) is
       (list_has_run list c old new results after counts sound size_is (subst (λ (p : Outputs). MeansList (performed_over p list) c) (sym is) compiled.means) compiled.issues long ran stored)
 
-  -- what the type of outputs keeps, behind a run
-  pub output_behind : (bins : List (List ℕ)) → ProgramsRan c old new counts → length after ≡ 64 → bins ≡ no_words (tile_count c.size) → IsOutput new after (Some bins)
-  output_behind bins ran long none = fresh_output new after bins ran.whole long (none ∙ ap (λ (s : Size). no_words (tile_count s)) (size_is ∙ sym ran.size))
+-- a list that was compiled for this size and under these results runs by its compilation
+pub compiled_by : {E : Type 0} (list : List Command) (o : Outputs) (size : Size) (flags : List Bool) → size ≡ o.surface.size → performed (told flags) list ≡ performed_over o list → (answer : Result (Option Compilation) GfxError) (made : Result Compilation E)
+    → IfOk answer (λ k. MatchResult made (λ c. k ≡ Some c) (λ _. ⊥)) → IfOk made (λ c. c.size ≡ size) → IfOk made (λ c. c.issues ≡ length (issues list)) → IfOk made (λ c. MeansList (performed (told flags) list) c) → IfOk answer (IsRunBy list o)
+compiled_by list o size flags sized left (Err e) made is sizes many means = tt
+compiled_by list o size flags sized left (Ok k) (Err e) is sizes many means = absurd is
+compiled_by list o size flags sized left (Ok k) (Ok c) is sizes many means =
+    subst (IsRunBy list o) (sym is) record { size = sizes ∙ sized; issues = many; means = subst (λ (cs : List Command). MeansList cs c) left means }
 
-  -- and behind a refusal
-  pub output_refused : (bins : List (List ℕ)) → new ≡ old → IsWhole old → length results ≡ 64 → bins ≡ no_words (tile_count c.size) → IsOutput new results (Some bins)
-  output_refused bins same whole long none =
-      subst (λ (s : Surface). IsOutput s results (Some bins)) (sym same)
-      (fresh_output old results bins whole long (none ∙ ap (λ (s : Size). no_words (tile_count s)) size_is))
+-- a compiled list comes back as it was, and with it the size of its bins
+pub bins_behind : {b c : Compilation} → b ≡ c → Some (no_words (tile_count b.size)) ≡ Some (no_words (tile_count c.size))
+bins_behind same = ap (λ (k : Compilation). Some (no_words (tile_count k.size))) same
+
+-- what is kept of a drawing with these counts, or of one that was refused
+abbrev pub IsKept : {T : Type 0} → (T → List ℕ) → List Command → Result T GfxError → List (Option ℕ) → List (Option ℕ) → Result (Unit {0}) GfxError → Type 0
+IsKept items list drawn before after result =
+    MatchResult drawn (λ x. (result ≡ Ok tt) × (after ≡ with_counts 0 (λ k. get_or (items x) k 0) (issues list) before)) (λ e. (result ≡ Err e) × (after ≡ before))
+
+module _ {T : Type 0} (items : T → List ℕ) (list : List Command) (o : Outputs) (c : Compilation) (old new : Surface) (results after : List (Option ℕ)) (is : record { surface = old; results = results } ≡ o) (size : c.size ≡ o.surface.size) where
+  there : c.size ≡ old.size
+  there = size ∙ ap (λ (p : Outputs). p.surface.size) (sym is)
+
+  -- what the type of outputs keeps
+  pub kept_output : (drawn : Result T GfxError) (result : Result (Unit {0}) GfxError) (bins : Option (List (List ℕ))) → IsKept items list drawn results after result → IfOk drawn (λ x. ProgramsRan c old new (items x)) → OnErr drawn (new ≡ old) → IsWhole old → length results ≡ 64 → bins ≡ Some (no_words (tile_count c.size)) → IsOutput new after bins
+  kept_output (Ok x) result bins kept ran same whole long none =
+      subst (IsOutput new after) (sym none)
+      (fresh_output new after (no_words (tile_count c.size)) ran.whole (ap length kept.1 ∙ length_counts (λ k. get_or (items x) k 0) 0 (issues list) results ∙ long)
+      (ap (λ (s : Size). no_words (tile_count s)) (there ∙ sym ran.size)))
+  kept_output (Err e) result bins kept ran same whole long none =
+      subst (IsOutput new after) (sym none)
+      (subst (λ (s : Surface). IsOutput s after (Some (no_words (tile_count c.size)))) (sym same)
+      (fresh_output old after (no_words (tile_count c.size)) whole (ap length kept.1 ∙ long) (ap (λ (s : Size). no_words (tile_count s)) there)))
+
+  -- the answer, where nothing ran
+  pub kept_same : (drawn : Result T GfxError) (result : Result (Unit {0}) GfxError) → IsKept items list drawn results after result → OnErr drawn (new ≡ old) → OnErr result (record { surface = new; results = after } ≡ o)
+  kept_same (Ok x) result kept same = subst (λ (r : Result (Unit {0}) GfxError). OnErr r (record { surface = new; results = after } ≡ o)) (sym kept.0) tt
+  kept_same (Err e) result kept same =
+      subst (λ (r : Result (Unit {0}) GfxError). OnErr r (record { surface = new; results = after } ≡ o)) (sym kept.0)
+      (ap (λ (s : Surface). record { surface = s; results = after }) same ∙ ap (λ (rs : List (Option ℕ)). record { surface = old; results = rs }) kept.1 ∙ is)
+
+  pub kept_memory : (drawn : Result T GfxError) (result : Result (Unit {0}) GfxError) → IsKept items list drawn results after result → IfErr drawn (λ e. e ≡ OutOfMemory) → IfErr result (λ e. e ≡ OutOfMemory)
+  kept_memory (Ok x) result kept memory = subst (λ (r : Result (Unit {0}) GfxError). IfErr r (λ e. e ≡ OutOfMemory)) (sym kept.0) tt
+  kept_memory (Err e) result kept memory = subst (λ (r : Result (Unit {0}) GfxError). IfErr r (λ e. e ≡ OutOfMemory)) (sym kept.0) memory
+
+  -- and where it ran
+  pub kept_run : (drawn : Result T GfxError) (result : Result (Unit {0}) GfxError) → IsCompiled list o c → IsCompilation c → length results ≡ 64 → IsKept items list drawn results after result → IfOk drawn (λ x. ProgramsRan c old new (items x)) → OnOk result (outputs.HasRun list o record { surface = new; results = after })
+  kept_run (Ok x) result compiled sound long kept ran =
+      subst (λ (r : Result (Unit {0}) GfxError). OnOk r (outputs.HasRun list o record { surface = new; results = after })) (sym kept.0)
+      (run_stored list o c old new results after (items x) is compiled sound long ran kept.1)
+  kept_run (Err e) result compiled sound long kept ran =
+      subst (λ (r : Result (Unit {0}) GfxError). OnOk r (outputs.HasRun list o record { surface = new; results = after })) (sym kept.0) tt
 
 -- the pending list behind an execution
 pub restored : (restore : Bool) (first mid last : List Command) → mid ≡ after_finish true first → last ≡ (if restore then mid else []) → last ≡ after_finish restore first
 restored true first mid last kept is = is ∙ kept
 restored false first mid last kept is = is
 
--- the pending commands' run leaves what a query answered
-pub count_there : (a n : Held) (q : ℕ) (b : Bool) → Ran [] true a n → q < QUERY_LIMIT → b ≡ not (is_none (answered a q)) → b ≡ true → is_none (result_at n.results q) ≡ false
-count_there a n q b ran l told sure = ap is_none (ran.run.results q l) ∙ by (is_none (answered a q)) (sym told ∙ sure)
-  where
-    by : (k : Bool) → not k ≡ true → k ≡ false
-    by true e = absurd cc
-    by false e = refl
+-- a list that is there
+pub found : {A : Type 0} (P : Type 0) (Q : A → Type 0) (r : Option A) (x : A) → r ≡ Some x → MatchOption r P Q → Q x
+found P Q r x is h = subst (λ (o : Option _). MatchOption o P Q) is h
+
+-- or isn't
+pub none_found : {A : Type 0} (P : Type 0) (Q : A → Type 0) (r : Option A) → ((x : A) → r ≡ Some x → ⊥) → MatchOption r P Q → P
+none_found P Q None not_there h = h
+none_found P Q (Some x) not_there h = absurd (not_there x refl)
 
 pub stored_count : (r : Option ℕ) → is_none r ≡ false → Some (unwrap_or r 0) ≡ r
 stored_count None e = absurd cc
 stored_count (Some n) e = refl
+
+-- ---- the next submission
+
+pub next_executed : (rows : List Row) (restore : Bool) (old new : Held) (before after : Lists) (s : Submission (List Command)) (ran : Result (Unit {0}) GfxError) (result : Result (Option (ℕ × ℕ)) (GfxError × Option (Submission (List Command)))) → first_row rows ≡ None → IsTaken s before after → Runs rows s.list restore old new ran
+    → MatchResult ran (λ _. result ≡ Ok (Some (s.port, s.number))) (λ e. result ≡ Err (e, Some s)) → ExecutesNext rows restore old new before after result
+next_executed rows restore old new before after s (Ok done) result none taken runs is =
+    subst (ExecutesNext rows restore old new before after) (sym is) (none, record { submission = s; taken = taken; port = refl; number = refl; ran = runs.ok })
+next_executed rows restore old new before after s (Err e) result none taken runs is =
+    subst (ExecutesNext rows restore old new before after) (sym is) record { none = none; memory = memory (first_row rows) none runs.answer; taken = taken; refused = runs.err }
+  where
+    memory : (o : Option GfxError) → o ≡ None → (o ≡ Some e) ⊎ ((o ≡ None) × (e ≡ OutOfMemory)) → e ≡ OutOfMemory
+    memory o none (inl row) = absurd (apart (sym none ∙ row))
+      where
+        apart : None ≡ Some e → ⊥
+        apart same = cc
+    memory o none (inr rest) = rest.1

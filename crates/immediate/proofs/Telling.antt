@@ -3,7 +3,6 @@ use Rattle.std.proofs.Common.{◌≡◌, ◌≢◌, ◌∙◌, sym, ap, refl, ar
 use Rattle.std.specs.Prelude.{Option, ◌==◌, slice_index_or}
 use Rattle.std.proofs.lemmas.Bool.Decides.{nat_tests}
 use Rattle.std.proofs.lemmas.List.{get_or-set_same, get_or-set_other}
-use Rattle.gfxspec.specs.declared.TheConstants.{QUERY_LIMIT}
 use Rattle.gfxspec.specs.Commands.{Command}
 use Rattle.gfxspec.specs.Predication.{performed, result_of}
 use Rattle.gfxspec.specs.Refusals.{AreAccepted}

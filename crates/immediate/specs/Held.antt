@@ -1,10 +1,10 @@
 -- What the immediate context holds, and what a call that runs the pending commands does with it (Microsoft Learn, ID3D11DeviceContext, "Immediate and Deferred Rendering", GetData; Direct3D 11.3 Functional Specification, "Asynchronous Notification").
-use Rattle.std.specs.Prelude.{ℕ, ◌≡◌, ◌⊎◌, Bool, true, List, [], ◌∷◌, ◌++◌, Option, Result, OnOk, IfErr}
+use Rattle.std.specs.Prelude.{ℕ, ◌≡◌, ◌⊎◌, Bool, true, List, [], ◌∷◌, ◌++◌, Option, Some, None, Result, Ok, Err, OnOk, IfErr}
 use Rattle.gfxspec.specs.declared.error.GfxError.{GfxError}
 use Rattle.gfxspec.specs.declared.error.GfxError.TheVariants.{OutOfMemory}
 use Rattle.gfxspec.specs.declared.pixel.Pixel.{Pixel}
 use Rattle.gfxspec.specs.Commands.{Command}
-use Rattle.gfxspec.specs.Refusals.{Row, AnswersBy}
+use Rattle.gfxspec.specs.Refusals.{Row, first_row, AnswersBy}
 use Rattle.tileblock.specs.Surface.{Surface, pixel_of}
 use Rattle.immediate.specs.Outputs.{Outputs}
 use Rattle.meaning.specs.Contexts as contexts
@@ -46,6 +46,11 @@ pub record Runs {T : Type 0} (rows : List Row) (list : List Command) (restore : 
   pub answer : AnswersBy rows result
   pub ok : OnOk result (Ran list restore old new)
   pub err : IfErr result (λ e. IsRefused e old new)
+
+-- a call that examines and runs nothing is refused by the first row that applies
+abbrev pub IsExamined : List Row → Result (Unit {0}) GfxError → Type 0
+IsExamined rows (Ok done) = first_row rows ≡ None
+IsExamined rows (Err e) = first_row rows ≡ Some e
 
 -- the target and the results, and the pending commands beside them
 abbrev pub outputs_of : Held → Outputs

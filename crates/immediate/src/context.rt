@@ -1,10 +1,10 @@
 //! The immediate context.
 
-ghost use Rattle.std.specs.Prelude.{true, false, ◌≡◌, ◌<◌, ◌≤◌, ◌++◌, [], ℕ, List, IfSome, is_none, not, IfOk, IfErr, OnOk, OnErr, Some, None, unwrap_or, if◌then◌else◌};
+ghost use Rattle.std.specs.Prelude.{true, false, ◌≡◌, ◌<◌, ◌≤◌, ◌++◌, [], ℕ, List, IfSome, is_none, not, IfOk, IfErr, OnOk, OnErr, MatchOption, MatchResult, Some, None, Ok, Err, unwrap_or, if◌then◌else◌};
 ghost use Rattle.std.specs.List.{list_any};
 ghost use Rattle.gfxspec.specs.declared.TheConstants.{QUERY_LIMIT};
 ghost use Rattle.gfxspec.specs.declared.error.GfxError.TheVariants.{OutOfMemory};
-ghost use Rattle.gfxspec.specs.Recorded.{items, issues, queries_open, is_drawing};
+ghost use Rattle.gfxspec.specs.Recorded.{items, issues, queries_open, is_drawing, after_finish};
 ghost use Rattle.gfxspec.specs.Refusals.{AnswersBy, flush_rows, pixel_rows, query_rows, flush_rows_by, pixel_rows_by, query_rows_by, worker_rows};
 ghost use Rattle.tileblock.specs.Surface.{IsWhole, pixel_of, size_rows};
 ghost use Rattle.meaning.specs.Standing.{IsNew};
@@ -13,9 +13,9 @@ ghost use Rattle.immediate.specs.Issues.{begins};
 ghost use Rattle.immediate.specs.Next.{ExecutesNext};
 ghost use Rattle.gfxspec.specs.Items.{Item};
 ghost use Rattle.binner.specs.Compiling.{HasCompiled};
-ghost use Rattle.immediate.specs.Outputs.{performed_over};
+ghost use Rattle.immediate.specs.Outputs.{Outputs, performed_over};
 ghost use Rattle.immediate.specs.Batched.{HasExecuted, executed_items};
-ghost use Rattle.immediate.specs.Held.{Ran, held_of, outputs_of, context_of, shown, answered, Runs};
+ghost use Rattle.immediate.specs.Held.{Ran, held_of, outputs_of, context_of, shown, answered, Runs, IsExamined};
 
 use crate::counts::some_begins;
 use crate::drawing::TileCrew;
@@ -31,6 +31,22 @@ use std::thread::Threads;
 use tileblock::Target;
 use workers::Gate;
 
+/// The pending list as a run begins it anew, with the kept state. There is none where that is all that is pending: then
+/// nothing is to run.
+fn next_pending<A: Allocator + Copy>(
+    pending: &DeferredContext<A>,
+) -> Result<Option<DeferredContext<A>>, GfxError>
+    ensures next { IfOk result (λ next. MatchOption next
+        ((output : Outputs) → Ran [] true (held_of output pending.now) (held_of output pending.now))
+        (λ list. list ≡ after_finish true pending.now)) }
+    ensures memory { IfErr result (λ e. e ≡ OutOfMemory) }
+{
+    if pending.is_kept_state_alone() {
+        return Ok(None);
+    }
+    Ok(Some(pending.next(true)?))
+}
+
 /// Runs the pending commands on the caller's thread, and begins their list anew with the kept state. Where that is all that
 /// is pending, nothing is done.
 fn run_pending_alone<A: Allocator + Copy + Send>(
@@ -41,10 +57,9 @@ fn run_pending_alone<A: Allocator + Copy + Send>(
     ensures memory { IfErr result (λ e. e ≡ OutOfMemory) }
     ensures same { OnErr result ((output.new ≡ output.old) × (pending.new ≡ pending.old)) }
 {
-    if pending.is_kept_state_alone() {
+    let Some(next) = next_pending(pending)? else {
         return Ok(());
-    }
-    let next = pending.next(true)?;
+    };
     output.run_alone(pending.commands())?;
     *pending = next;
     Ok(())
@@ -63,10 +78,9 @@ fn run_pending<A: Allocator + Copy + Send + Sync, R: Threads + Sync, G: Gate + S
     ensures memory { IfErr result (λ e. e ≡ OutOfMemory) }
     ensures same { OnErr result ((output.new ≡ output.old) × (pending.new ≡ pending.old)) }
 {
-    if pending.is_kept_state_alone() {
+    let Some(begun) = next_pending(pending)? else {
         return Ok(());
-    }
-    let begun = pending.next(true)?;
+    };
     output.run_with_workers(rt, pending.commands(), workers, gate)?;
     *pending = begun;
     Ok(())
@@ -84,10 +98,9 @@ fn run_pending_by_crew<'a, A: Allocator + Copy + Send + Sync, R: Threads + Wait 
     ensures memory { IfErr result (λ e. e ≡ OutOfMemory) }
     ensures same { OnErr result ((output.new ≡ output.old) × (pending.new ≡ pending.old)) }
 {
-    if pending.is_kept_state_alone() {
+    let Some(fresh) = next_pending(pending)? else {
         return Ok(());
-    }
-    let fresh = pending.next(true)?;
+    };
     output.run_by_crew(rt, pending.commands(), crew, gate)?;
     *pending = fresh;
     Ok(())
@@ -99,6 +112,20 @@ fn begin_anew<A: Allocator + Copy>(alloc: A, pending: &mut DeferredContext<A>, r
 {
     if !restore {
         *pending = DeferredContext::new(alloc);
+    }
+}
+
+/// The answer for a submission whose list was executed: its port and number, or why the execution was refused, and then it
+/// comes back.
+fn executed<A: Allocator>(
+    next: Submission<CommandList<A>>,
+    ran: Result<(), GfxError>,
+) -> Result<Option<(u32, u64)>, (GfxError, Option<Submission<CommandList<A>>>)>
+    ensures { MatchResult ran (λ _. result ≡ Ok (Some (next.port, next.number))) (λ e. result ≡ Err (e, Some next)) }
+{
+    match ran {
+        Ok(()) => Ok(Some((next.port, next.number))),
+        Err(refusal) => Err((refusal, Some(next))),
     }
 }
 
@@ -118,6 +145,78 @@ impl<A: Allocator> Model for ImmediateContext<A> {
     ghost view = { λ c. record { surface = c.output.surface; results = c.output.results; pending = c.pending } };
 }
 
+impl<A: Allocator + Copy> ImmediateContext<A> {
+    /// The stored pixels: what the pixels hold, where no draw or clear is pending.
+    pub fn target(&self) -> &Target<A>
+        ensures target { result.now ≡ self.now.surface }
+        ensures whole { IsWhole result.now }
+        ensures settled { (x y : ℕ) → list_any is_drawing self.now.pending ≡ false → pixel_of result.now x y ≡ shown self.now x y }
+    {
+        self.output.target()
+    }
+
+    /// The stored count of a query, 0 where it has none: the count of its last issue, where none is pending.
+    pub fn counted(&self, query: u32) -> u64
+        ensures { result ≡ unwrap_or (result_at self.now.results query) 0 }
+    {
+        match self.output.result(query) {
+            Some(count) => count,
+            None => 0,
+        }
+    }
+
+    /// Whether the pending commands may run with as many threads. Refused with QueryOpen, WorkerCount.
+    fn examine_run(&self, workers: u32) -> Result<(), GfxError>
+        ensures rows { IsExamined (flush_rows_by (worker_rows workers) (queries_open self.now.pending)) result }
+        ensures few { OnOk result (workers ≤ 15) }
+    {
+        if self.pending.has_open_queries() {
+            return Err(GfxError::QueryOpen);
+        }
+        if workers > WORKER_LIMIT {
+            return Err(GfxError::WorkerCount);
+        }
+        Ok(())
+    }
+
+    /// Whether a pixel may be asked for, with as many threads. Refused with PixelRange, QueryOpen, WorkerCount.
+    pub fn examine_pixel(&self, x: u32, y: u32, workers: u32) -> Result<(), GfxError>
+        ensures rows { IsExamined (pixel_rows_by (worker_rows workers) self.now.surface.size (queries_open self.now.pending) x y) result }
+        ensures few { OnOk result (workers ≤ 15) }
+        ensures inside { OnOk result ((x < self.now.surface.size.width) × (y < self.now.surface.size.height)) }
+    {
+        let size = self.output.target().size();
+        if x >= size.width || y >= size.height {
+            return Err(GfxError::PixelRange);
+        }
+        self.examine_run(workers)
+    }
+
+    /// Whether the count of a query may be asked for, with as many threads. Refused with QueryNumber, QueryOpen, WorkerCount,
+    /// NotIssued.
+    pub fn examine_query(&self, query: u32, workers: u32) -> Result<(), GfxError>
+        ensures rows { IsExamined (query_rows_by (worker_rows workers) (queries_open self.now.pending) (answered self.now query) query) result }
+        ensures few { OnOk result (workers ≤ 15) }
+        ensures issued { OnOk result ((query < QUERY_LIMIT) × (is_none (answered self.now query) ≡ false)) }
+    {
+        if query >= QUERY_LIMIT {
+            return Err(GfxError::QueryNumber);
+        }
+        self.examine_run(workers)?;
+        if !self.is_issued(query) {
+            return Err(GfxError::NotIssued);
+        }
+        Ok(())
+    }
+
+    /// Whether a query has an issue, with no query open: one that ran, or a pending one.
+    fn is_issued(&self, query: u32) -> bool
+        ensures { result ≡ not (is_none (answered self.now query)) }
+    {
+        self.output.result(query).is_some() || some_begins(self.pending.commands(), query)
+    }
+}
+
 impl<A: Allocator + Copy + Send> ImmediateContext<A> {
     /// A context with a new target, of a size in pixels. Refused with TargetSize, OutOfMemory.
     pub fn new(alloc: A, width: u32, height: u32) -> Result<Self, GfxError>
@@ -133,23 +232,12 @@ impl<A: Allocator + Copy + Send> ImmediateContext<A> {
         })
     }
 
-    /// The stored pixels: what the pixels hold, where no draw or clear is pending.
-    pub fn target(&self) -> &Target<A>
-        ensures target { result.now ≡ self.now.surface }
-        ensures whole { IsWhole result.now }
-        ensures settled { (x y : ℕ) → list_any is_drawing self.now.pending ≡ false → pixel_of result.now x y ≡ shown self.now x y }
-    {
-        self.output.target()
-    }
-
     /// Runs the pending commands. It changes no meaning, and leaves the kept state as the one pending command. Refused with
     /// QueryOpen, OutOfMemory.
     pub fn flush_alone(&mut self) -> Result<(), GfxError>
         ensures { Runs (flush_rows (queries_open self.old.pending)) [] true self.old self.new result }
     {
-        if self.pending.has_open_queries() {
-            return Err(GfxError::QueryOpen);
-        }
+        self.examine_run(0)?;
         run_pending_alone(&mut self.output, &mut self.pending)
     }
 
@@ -170,11 +258,8 @@ impl<A: Allocator + Copy + Send> ImmediateContext<A> {
         ensures runs { Runs (pixel_rows self.old.surface.size (queries_open self.old.pending) x y) [] true self.old self.new result }
         ensures value { IfOk result (λ p. p ≡ shown self.old x y) }
     {
-        let size = self.output.target().size();
-        if x >= size.width || y >= size.height {
-            return Err(GfxError::PixelRange);
-        }
-        self.flush_alone()?;
+        self.examine_pixel(x, y, 0)?;
+        run_pending_alone(&mut self.output, &mut self.pending)?;
         Ok(self.output.target().pixel(x, y))
     }
 
@@ -184,16 +269,8 @@ impl<A: Allocator + Copy + Send> ImmediateContext<A> {
         ensures runs { Runs (query_rows (queries_open self.old.pending) (answered self.old query) query) [] true self.old self.new result }
         ensures value { IfOk result (λ count. Some count ≡ answered self.old query) }
     {
-        if query >= QUERY_LIMIT {
-            return Err(GfxError::QueryNumber);
-        }
-        if self.pending.has_open_queries() {
-            return Err(GfxError::QueryOpen);
-        }
-        if !self.is_issued(query) {
-            return Err(GfxError::NotIssued);
-        }
-        self.flush_alone()?;
+        self.examine_query(query, 0)?;
+        run_pending_alone(&mut self.output, &mut self.pending)?;
         Ok(self.counted(query))
     }
 
@@ -210,16 +287,14 @@ impl<A: Allocator + Copy + Send> ImmediateContext<A> {
         requires { drain.old.queue ≡ ports.now.queue }
         ensures { ExecutesNext (flush_rows (queries_open self.old.pending)) restore self.old self.new drain.old drain.new result }
     {
-        if self.pending.has_open_queries() {
-            return Err((GfxError::QueryOpen, None));
+        if let Err(refusal) = self.examine_run(0) {
+            return Err((refusal, None));
         }
         let Some(next) = ports.next(rt, drain) else {
             return Ok(None);
         };
-        match self.execute_alone(&next.list, restore) {
-            Ok(()) => Ok(Some((next.port, next.number))),
-            Err(refusal) => Err((refusal, Some(next))),
-        }
+        let ran = self.execute_alone(&next.list, restore);
+        executed(next, ran)
     }
 
     /// Executions that are to run as one behind the pending commands, of which a list's is the first: it restores the state. There
@@ -265,23 +340,6 @@ impl<A: Allocator + Copy + Send> ImmediateContext<A> {
     {
         run_behind_alone(&mut self.output, &mut self.pending, executions)
     }
-
-    /// The stored count of a query, 0 where it has none.
-    fn counted(&self, query: u32) -> u64
-        ensures { result ≡ unwrap_or (result_at self.now.results query) 0 }
-    {
-        match self.output.result(query) {
-            Some(count) => count,
-            None => 0,
-        }
-    }
-
-    /// Whether a query has an issue, with no query open: one that ran, or a pending one.
-    fn is_issued(&self, query: u32) -> bool
-        ensures { result ≡ not (is_none (answered self.now query)) }
-    {
-        self.output.result(query).is_some() || some_begins(self.pending.commands(), query)
-    }
 }
 
 impl<A: Allocator + Copy + Send + Sync> ImmediateContext<A> {
@@ -294,12 +352,7 @@ impl<A: Allocator + Copy + Send + Sync> ImmediateContext<A> {
     ) -> Result<(), GfxError>
         ensures { Runs (flush_rows_by (worker_rows workers) (queries_open self.old.pending)) [] true self.old self.new result }
     {
-        if self.pending.has_open_queries() {
-            return Err(GfxError::QueryOpen);
-        }
-        if workers > WORKER_LIMIT {
-            return Err(GfxError::WorkerCount);
-        }
+        self.examine_run(workers)?;
         run_pending(&mut self.output, &mut self.pending, rt, workers, gate)
     }
 
@@ -333,11 +386,8 @@ impl<A: Allocator + Copy + Send + Sync> ImmediateContext<A> {
         ensures runs { Runs (pixel_rows_by (worker_rows workers) self.old.surface.size (queries_open self.old.pending) x y) [] true self.old self.new result }
         ensures value { IfOk result (λ p. p ≡ shown self.old x y) }
     {
-        let size = self.output.target().size();
-        if x >= size.width || y >= size.height {
-            return Err(GfxError::PixelRange);
-        }
-        self.flush(rt, workers, gate)?;
+        self.examine_pixel(x, y, workers)?;
+        run_pending(&mut self.output, &mut self.pending, rt, workers, gate)?;
         let target = self.output.target();
         Ok(target.pixel(x, y))
     }
@@ -354,19 +404,8 @@ impl<A: Allocator + Copy + Send + Sync> ImmediateContext<A> {
         ensures runs { Runs (query_rows_by (worker_rows workers) (queries_open self.old.pending) (answered self.old query) query) [] true self.old self.new result }
         ensures value { IfOk result (λ count. Some count ≡ answered self.old query) }
     {
-        if query >= QUERY_LIMIT {
-            return Err(GfxError::QueryNumber);
-        }
-        if self.pending.has_open_queries() {
-            return Err(GfxError::QueryOpen);
-        }
-        if workers > WORKER_LIMIT {
-            return Err(GfxError::WorkerCount);
-        }
-        if !self.is_issued(query) {
-            return Err(GfxError::NotIssued);
-        }
-        self.flush(rt, workers, gate)?;
+        self.examine_query(query, workers)?;
+        run_pending(&mut self.output, &mut self.pending, rt, workers, gate)?;
         let count = self.counted(query);
         Ok(count)
     }
@@ -386,19 +425,14 @@ impl<A: Allocator + Copy + Send + Sync> ImmediateContext<A> {
         requires { drain.old.queue ≡ ports.now.queue }
         ensures { ExecutesNext (flush_rows_by (worker_rows workers) (queries_open self.old.pending)) restore self.old self.new drain.old drain.new result }
     {
-        if self.pending.has_open_queries() {
-            return Err((GfxError::QueryOpen, None));
-        }
-        if workers > WORKER_LIMIT {
-            return Err((GfxError::WorkerCount, None));
+        if let Err(refusal) = self.examine_run(workers) {
+            return Err((refusal, None));
         }
         let Some(next) = ports.next(rt, drain) else {
             return Ok(None);
         };
-        match self.execute(rt, &next.list, restore, workers, gate) {
-            Ok(()) => Ok(Some((next.port, next.number))),
-            Err(refusal) => Err((refusal, Some(next))),
-        }
+        let ran = self.execute(rt, &next.list, restore, workers, gate);
+        executed(next, ran)
     }
 }
 
@@ -413,9 +447,7 @@ impl<A: Allocator + Copy + Send + Sync> ImmediateContext<A> {
     ) -> Result<(), GfxError>
         ensures { Runs (flush_rows (queries_open self.old.pending)) [] true self.old self.new result }
     {
-        if self.pending.has_open_queries() {
-            return Err(GfxError::QueryOpen);
-        }
+        self.examine_run(0)?;
         run_pending_by_crew(&mut self.output, &mut self.pending, rt, crew, gate)
     }
 
@@ -456,52 +488,6 @@ impl<A: Allocator + Copy + Send + Sync> ImmediateContext<A> {
             crew,
             gate,
         )
-    }
-
-    /// `pixel_alone` by a crew beside the caller. Refused with PixelRange, QueryOpen, OutOfMemory.
-    pub fn pixel_by_crew<'a, R: Threads + Wait + Sync, G: Gate>(
-        &mut self,
-        rt: &R,
-        x: u32,
-        y: u32,
-        crew: &TileCrew<'a, A>,
-        gate: &G,
-    ) -> Result<Pixel, GfxError>
-        ensures runs { Runs (pixel_rows self.old.surface.size (queries_open self.old.pending) x y) [] true self.old self.new result }
-        ensures value { IfOk result (λ p. p ≡ shown self.old x y) }
-    {
-        let size = self.output.target().size();
-        if x >= size.width || y >= size.height {
-            return Err(GfxError::PixelRange);
-        }
-        self.flush_by_crew(rt, crew, gate)?;
-        let pixel = self.output.target().pixel(x, y);
-        Ok(pixel)
-    }
-
-    /// `get_data_alone` by a crew beside the caller. Refused with QueryNumber, QueryOpen, NotIssued, OutOfMemory.
-    pub fn get_data_by_crew<'a, R: Threads + Wait + Sync, G: Gate>(
-        &mut self,
-        rt: &R,
-        query: u32,
-        crew: &TileCrew<'a, A>,
-        gate: &G,
-    ) -> Result<u64, GfxError>
-        ensures runs { Runs (query_rows (queries_open self.old.pending) (answered self.old query) query) [] true self.old self.new result }
-        ensures value { IfOk result (λ count. Some count ≡ answered self.old query) }
-    {
-        if query >= QUERY_LIMIT {
-            return Err(GfxError::QueryNumber);
-        }
-        if self.pending.has_open_queries() {
-            return Err(GfxError::QueryOpen);
-        }
-        if !self.is_issued(query) {
-            return Err(GfxError::NotIssued);
-        }
-        self.flush_by_crew(rt, crew, gate)?;
-        let answer = self.counted(query);
-        Ok(answer)
     }
 }
 

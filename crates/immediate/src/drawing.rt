@@ -1,9 +1,9 @@
 //! Who runs the tiles of a compiled list: the caller alone, threads that are started beside it, or a crew. Memory is refused
 //! before the first tile is taken, and then nothing is changed; where no tile has words no board is made.
 
-ghost use Rattle.std.specs.Prelude.{◌≡◌, ◌≤◌, replicate, IfOk, IfErr, OnErr};
+ghost use Rattle.std.specs.Prelude.{◌≡◌, ◌≤◌, replicate, IfSome, IfOk, IfErr, OnErr};
 ghost use Rattle.gfxspec.specs.declared.error.GfxError.TheVariants.{OutOfMemory};
-ghost use Rattle.tileblock.specs.Surface.{IsWhole};
+ghost use Rattle.tileblock.specs.Surface.{Surface, IsWhole};
 ghost use Rattle.binner.specs.Compiled.{IsCompilation};
 ghost use Rattle.tileprog.specs.Programs.{ProgramsRan};
 
@@ -37,6 +37,17 @@ fn no_counts(issues: u32) -> ArrayVec<u64, 64>
     counts
 }
 
+/// The counts of a compiled list that touches no tile.
+fn idle_counts<A: Allocator + Copy>(program: &Compiled<A>) -> Option<ArrayVec<u64, 64>>
+    ensures sound { IsCompilation program.now }
+    ensures idle { (target : Surface) → IsWhole target → IfSome result (λ counts. ProgramsRan program.now target target counts.items) }
+{
+    if !program.touched().is_empty() {
+        return None;
+    }
+    Some(no_counts(program.issues()))
+}
+
 /// The tiles of a compiled list on the caller's thread.
 pub(crate) fn draw_alone<A: Allocator + Copy + Send>(
     alloc: &A,
@@ -51,8 +62,7 @@ pub(crate) fn draw_alone<A: Allocator + Copy + Send>(
     ensures memory { IfErr result.0 (λ e. e ≡ OutOfMemory) }
     ensures same { result.1 ≡ program }
 {
-    if program.touched().is_empty() {
-        let counts = no_counts(program.issues());
+    if let Some(counts) = idle_counts(&program) {
         return (Ok(counts), program);
     }
     let job = TileProgram::new(program);
@@ -87,8 +97,7 @@ pub(crate) fn draw_with_workers<
     ensures memory { IfErr result.0 (λ e. e ≡ OutOfMemory) }
     ensures same { result.1 ≡ program }
 {
-    if program.touched().is_empty() {
-        let counts = no_counts(program.issues());
+    if let Some(counts) = idle_counts(&program) {
         return (Ok(counts), program);
     }
     let job = TileProgram::new(program);
@@ -117,8 +126,7 @@ pub(crate) fn draw_by_crew<'a, A: Allocator + Copy + Send + Sync, R: Wait, G: Ga
     ensures memory { IfErr result.0 (λ e. e ≡ OutOfMemory) }
     ensures same { result.1 ≡ program }
 {
-    if program.touched().is_empty() {
-        let counts = no_counts(program.issues());
+    if let Some(counts) = idle_counts(&program) {
         return (Ok(counts), program);
     }
     let job = TileProgram::new(program);

@@ -1,6 +1,6 @@
 //! The target and the query results, as the last run left them, and what a run makes of them.
 
-ghost use Rattle.std.specs.Prelude.{◌≡◌, ℕ, ◌<◌, ◌≤◌, ◌++◌, [], List, None, false, map, replicate, slice_index_or, OnOk, IfOk, IfErr, OnErr, IfSome};
+ghost use Rattle.std.specs.Prelude.{◌≡◌, ℕ, ◌<◌, ◌≤◌, ◌++◌, [], List, Some, None, Ok, Err, false, map, replicate, slice_index, slice_index_or, OnOk, IfOk, IfErr, OnErr, IfSome, MatchOption, MatchResult};
 ghost use Rattle.std.specs.List.{list_any};
 ghost use Rattle.gfxspec.specs.declared.error.GfxError.TheVariants.{OutOfMemory};
 ghost use Rattle.gfxspec.specs.Items.{Item, opening};
@@ -10,7 +10,7 @@ ghost use Rattle.gfxspec.specs.Refusals.{AnswersBy, AreAccepted};
 ghost use Rattle.gfxspec.specs.Tiles.{tile_count};
 ghost use Rattle.tileblock.specs.Surface.{IsWhole, pixel_of, size_rows};
 ghost use Rattle.binmem.specs.Lists.{no_words};
-ghost use Rattle.meaning.specs.Contexts.{result_at};
+ghost use Rattle.meaning.specs.Contexts.{result_at, with_counts};
 ghost use Rattle.cmdlist.specs.Seen.{command_value};
 ghost use Rattle.immediate.specs.Issues.{acts};
 ghost use Rattle.binner.specs.Compiling.{HasCompiled};
@@ -18,7 +18,7 @@ ghost use Rattle.immediate.specs.Outputs.{HasRun, IsRunBy, performed_over};
 ghost use Rattle.immediate.specs.Batched.{HasDrawn};
 
 use crate::counts::store_counts;
-use crate::drawing::{TileCrew, draw_alone, draw_by_crew, draw_with_workers};
+use crate::drawing::{Drawn, TileCrew, draw_alone, draw_by_crew, draw_with_workers};
 use binmem::Bins;
 use binner::{Batch, Compiled, compile, compile_parallel};
 use cmdlist::Command;
@@ -79,6 +79,24 @@ fn some_act<A: Allocator>(commands: &[Command<A>]) -> bool
     commands.iter().any(acts)
 }
 
+/// Keeps what a drawing of commands leaves: their issues' counts, each under its query, and the bins, empty again.
+fn keep<A: Allocator + Copy>(
+    drawn: Drawn<A>,
+    commands: &[Command<A>],
+    results: &mut [Option<u64>; 64],
+    bins: &mut Option<Bins<A>>,
+) -> Result<(), GfxError>
+    ensures kept { MatchResult drawn.0
+        (λ counts. (result ≡ Ok tt) × (results.new ≡ with_counts 0 (λ issue. slice_index counts.items issue) (issues (map command_value commands.now)) results.old))
+        (λ refusal. (result ≡ Err refusal) × (results.new ≡ results.old)) }
+    ensures bins { bins.new ≡ Some (no_words (tile_count drawn.1.size)) }
+{
+    let (counts, compiled) = drawn;
+    *bins = Some(compiled.into_bins());
+    store_counts(results, commands, counts?.as_slice());
+    Ok(())
+}
+
 /// A target, the count of each query's last issue, and empty bins that wait for the next list.
 #[derive(Drop)]
 pub(crate) struct Output<A: Allocator> {
@@ -98,23 +116,7 @@ impl<A: Allocator> Model for Output<A> {
     ghost invariant = { λ o. IsOutput o.target o.results o.bins };
 }
 
-impl<A: Allocator + Copy + Send> Output<A> {
-    /// A new target without results.
-    pub(crate) fn new(alloc: A, width: u32, height: u32) -> Result<Self, GfxError>
-        ensures answer { AnswersBy (size_rows (record { width = width; height = height })) result }
-        ensures size { IfOk result (λ o. o.surface.size ≡ record { width = width; height = height }) }
-        ensures opening { IfOk result (λ o. (x y : ℕ) → x < width → y < height → pixel_of o.surface x y ≡ opening) }
-        ensures results { IfOk result (λ o. o.results ≡ replicate 64 None) }
-    {
-        let target = Target::split(alloc, width, height)?;
-        Ok(Output {
-            alloc,
-            target,
-            results: no_results(),
-            bins: None,
-        })
-    }
-
+impl<A: Allocator> Output<A> {
     /// The target.
     pub(crate) fn target(&self) -> &Target<A>
         ensures target { result.now ≡ self.now.surface }
@@ -132,6 +134,24 @@ impl<A: Allocator + Copy + Send> Output<A> {
             None => None,
         }
     }
+}
+
+impl<A: Allocator + Copy + Send> Output<A> {
+    /// A new target without results.
+    pub(crate) fn new(alloc: A, width: u32, height: u32) -> Result<Self, GfxError>
+        ensures answer { AnswersBy (size_rows (record { width = width; height = height })) result }
+        ensures size { IfOk result (λ o. o.surface.size ≡ record { width = width; height = height }) }
+        ensures opening { IfOk result (λ o. (x y : ℕ) → x < width → y < height → pixel_of o.surface x y ≡ opening) }
+        ensures results { IfOk result (λ o. o.results ≡ replicate 64 None) }
+    {
+        let target = Target::split(alloc, width, height)?;
+        Ok(Output {
+            alloc,
+            target,
+            results: no_results(),
+            bins: None,
+        })
+    }
 
     /// The bins that wait, or new ones.
     fn take_bins(&mut self) -> Result<Bins<A>, GfxError>
@@ -145,6 +165,37 @@ impl<A: Allocator + Copy + Send> Output<A> {
         }
     }
 
+    /// Empty bins for a list that is to be compiled. Where no command draws, clears or begins a query, nothing is to be compiled.
+    fn bins_for(&mut self, commands: &[Command<A>]) -> Result<Option<Bins<A>>, GfxError>
+        ensures same { self.new ≡ self.old }
+        ensures bins { IfOk result (λ bins. MatchOption bins (HasRun (map command_value commands.now) self.old self.old) (λ bins. bins ≡ no_words (tile_count self.old.surface.size))) }
+        ensures memory { IfErr result (λ e. e ≡ OutOfMemory) }
+    {
+        if !some_act(commands) {
+            return Ok(None);
+        }
+        Ok(Some(self.take_bins()?))
+    }
+
+    /// The list that was compiled; where memory was refused, the bins wait again.
+    fn end_compiling(
+        &mut self,
+        compiled: Result<Compiled<A>, (GfxError, Bins<A>)>,
+    ) -> Result<Option<Compiled<A>>, GfxError>
+        requires refused { IfErr compiled (λ e. e ≡ (OutOfMemory, no_words (tile_count self.old.surface.size))) }
+        ensures same { self.new ≡ self.old }
+        ensures compiled { IfOk result (λ list. MatchResult compiled (λ c. list ≡ Some c) (λ _. ⊥)) }
+        ensures memory { IfErr result (λ e. e ≡ OutOfMemory) }
+    {
+        match compiled {
+            Ok(compiled) => Ok(Some(compiled)),
+            Err((refusal, bins)) => {
+                self.bins = Some(bins);
+                Err(refusal)
+            }
+        }
+    }
+
     /// Compiles commands for the target, under the results of the queries. Where none draws, clears or begins a query,
     /// nothing is compiled. Refused with OutOfMemory alone.
     fn compiled(&mut self, commands: &[Command<A>]) -> Result<Option<Compiled<A>>, GfxError>
@@ -153,18 +204,13 @@ impl<A: Allocator + Copy + Send> Output<A> {
         ensures compiled { IfOk result (λ compiled. IsRunBy (map command_value commands.now) self.old compiled) }
         ensures memory { IfErr result (λ e. e ≡ OutOfMemory) }
     {
-        if !some_act(commands) {
+        let Some(bins) = self.bins_for(commands)? else {
             return Ok(None);
-        }
-        let bins = self.take_bins()?;
+        };
+        let size = self.target.size();
         let told = told_by(&self.results);
-        match compile(self.alloc, commands, self.target.size(), &told, bins) {
-            Ok(compiled) => Ok(Some(compiled)),
-            Err((refusal, bins)) => {
-                self.bins = Some(bins);
-                Err(refusal)
-            }
-        }
+        let compiled = compile(self.alloc, commands, size, &told, bins);
+        self.end_compiling(compiled)
     }
 
     /// A batch of no list, for the target.
@@ -232,10 +278,9 @@ impl<A: Allocator + Copy + Send> Output<A> {
         ensures ok { (is : List Item) → HasCompiled batch is → OnOk result (HasDrawn is self.old self.new) }
         ensures err { OnErr result (self.new ≡ self.old) }
     {
-        let (drawn, compiled) = draw_alone(&self.alloc, batch.finish(), &mut self.target);
-        self.bins = Some(compiled.into_bins());
-        drawn?;
-        Ok(())
+        let drawn = draw_alone(&self.alloc, batch.finish(), &mut self.target);
+        let nothing: [Command<A>; 0] = [];
+        keep(drawn, &nothing, &mut self.results, &mut self.bins)
     }
 
     /// Runs commands on the caller's thread, with issues of their own, from the default state on. Refused with OutOfMemory
@@ -249,11 +294,8 @@ impl<A: Allocator + Copy + Send> Output<A> {
         let Some(compiled) = self.compiled(commands)? else {
             return Ok(());
         };
-        let (drawn, compiled) = draw_alone(&self.alloc, compiled, &mut self.target);
-        self.bins = Some(compiled.into_bins());
-        let counts = drawn?;
-        store_counts(&mut self.results, commands, counts.as_slice());
-        Ok(())
+        let drawn = draw_alone(&self.alloc, compiled, &mut self.target);
+        keep(drawn, commands, &mut self.results, &mut self.bins)
     }
 }
 
@@ -273,18 +315,13 @@ impl<A: Allocator + Copy + Send + Sync> Output<A> {
         if workers == 0 {
             return self.compiled(commands);
         }
-        if !some_act(commands) {
+        let Some(bins) = self.bins_for(commands)? else {
             return Ok(None);
-        }
-        let bins = self.take_bins()?;
+        };
+        let size = self.target.size();
         let told = told_by(&self.results);
-        match compile_parallel(rt, self.alloc, commands, self.target.size(), &told, bins) {
-            Ok(compiled) => Ok(Some(compiled)),
-            Err((refusal, bins)) => {
-                self.bins = Some(bins);
-                Err(refusal)
-            }
-        }
+        let compiled = compile_parallel(rt, self.alloc, commands, size, &told, bins);
+        self.end_compiling(compiled)
     }
 
     /// The same as `run_alone` with as many threads beside the caller, each of which passes the gate.
@@ -304,18 +341,8 @@ impl<A: Allocator + Copy + Send + Sync> Output<A> {
         let Some(compiled) = self.compiled_in_threads(rt, commands, workers)? else {
             return Ok(());
         };
-        let (drawn, compiled) = draw_with_workers(
-            rt,
-            &self.alloc,
-            compiled,
-            &mut self.target,
-            workers,
-            gate,
-        );
-        self.bins = Some(compiled.into_bins());
-        let counts = drawn?;
-        store_counts(&mut self.results, commands, counts.as_slice());
-        Ok(())
+        let drawn = draw_with_workers(rt, &self.alloc, compiled, &mut self.target, workers, gate);
+        keep(drawn, commands, &mut self.results, &mut self.bins)
     }
 
     /// The same as `run_alone` by the threads of a crew beside the caller, which passes the gate too.
@@ -334,11 +361,8 @@ impl<A: Allocator + Copy + Send + Sync> Output<A> {
         let Some(compiled) = self.compiled_in_threads(rt, commands, crew.workers())? else {
             return Ok(());
         };
-        let (drawn, compiled) = draw_by_crew(rt, crew, compiled, &mut self.target, gate);
-        self.bins = Some(compiled.into_bins());
-        let counts = drawn?;
-        store_counts(&mut self.results, commands, counts.as_slice());
-        Ok(())
+        let drawn = draw_by_crew(rt, crew, compiled, &mut self.target, gate);
+        keep(drawn, commands, &mut self.results, &mut self.bins)
     }
 
     /// The same as `run_batch_alone` by the threads of a crew beside the caller, which passes the gate too.
@@ -353,9 +377,8 @@ impl<A: Allocator + Copy + Send + Sync> Output<A> {
         ensures ok { (is : List Item) → HasCompiled batch is → OnOk result (HasDrawn is self.old self.new) }
         ensures err { OnErr result (self.new ≡ self.old) }
     {
-        let (drawn, compiled) = draw_by_crew(rt, crew, batch.finish(), &mut self.target, gate);
-        self.bins = Some(compiled.into_bins());
-        drawn?;
-        Ok(())
+        let drawn = draw_by_crew(rt, crew, batch.finish(), &mut self.target, gate);
+        let nothing: [Command<A>; 0] = [];
+        keep(drawn, &nothing, &mut self.results, &mut self.bins)
     }
 }

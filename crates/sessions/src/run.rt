@@ -1,9 +1,9 @@
-//! The calls that run the pending commands, on the caller's thread or by a crew beside it.
+//! Who runs the pending commands: the caller alone, or a crew beside it; and what the immediate context is asked that runs nothing.
 
 ghost use Rattle.std.specs.Prelude.{◌≡◌, ◌<◌, []};
 ghost use Rattle.gfxspec.specs.Recorded.{queries_open};
 ghost use Rattle.gfxspec.specs.Refusals.{AreAccepted};
-ghost use Rattle.sessions.specs.Taking.{verb_of, IsHere, HasRun};
+ghost use Rattle.sessions.specs.Taking.{verb_of, IsHere, RanBy, HasRun};
 
 use answers::Answer;
 use cmdlist::CommandList;
@@ -16,12 +16,17 @@ use std::sync::Wait;
 use std::thread::Threads;
 use workers::Gate;
 
-/// A call that runs the pending commands.
+/// What runs: the pending commands alone, or those and then a list.
 #[derive(Clone, Copy, Debug)]
 pub(crate) enum Running {
     Flush,
     /// Of a context, its list of a number, and whether the state stays.
     Execute(u32, u32, bool),
+}
+
+/// What a line asks.
+#[derive(Clone, Copy, Debug)]
+pub(crate) enum Question {
     Query(u32),
     Pixel(u32, u32),
 }
@@ -30,13 +35,25 @@ pub(crate) enum Running {
 pub(crate) trait RecordsCalls {
     ghost use Rattle.scenetext.specs.Seen.{verb_value};
     ghost use Rattle.recorders.specs.Calls.{TakesCall};
-    ghost use Rattle.immediate.specs.Held.{Held, held_more};
+    ghost use Rattle.immediate.specs.Held.{Held, IsExamined, held_more};
+    ghost use Rattle.std.specs.Prelude.{◌≡◌, OnOk};
+    ghost use Rattle.sessions.specs.Taking.{held_rows, verb_asked, IsInside, stored_answer};
 
     ghost held: { Self → Held };
 
     /// Records the call that a verb is. A verb that is none does nothing.
     fn record_verb<A: Allocator>(&mut self, verb: &Verb<A>) -> Result<(), GfxError>
         ensures { TakesCall (λ (h : Held). h.pending) held_more (held self.old) (verb_value verb.now) (held self.new) result };
+
+    /// Whether a question is refused before anything runs for it.
+    fn examine(&self, question: Question) -> Result<(), GfxError>
+        ensures rows { IsExamined (held_rows (held self.now) (verb_asked question)) result }
+        ensures inside { OnOk result (IsInside (held self.now).surface.size question) };
+
+    /// The answer of what is stored.
+    fn answer(&self, question: Question) -> Answer
+        requires { IsInside (held self.now).surface.size question }
+        ensures { result ≡ stored_answer (held self.now) question };
 }
 
 impl<A: Allocator + Copy + Send> RecordsCalls for ImmediateContext<A> {
@@ -44,6 +61,26 @@ impl<A: Allocator + Copy + Send> RecordsCalls for ImmediateContext<A> {
 
     fn record_verb<B: Allocator>(&mut self, verb: &Verb<B>) -> Result<(), GfxError> {
         take_call(self, verb)
+    }
+
+    fn examine(&self, question: Question) -> Result<(), GfxError> {
+        match question {
+            Question::Query(query) => self.examine_query(query, 0),
+            Question::Pixel(x, y) => self.examine_pixel(x, y, 0),
+        }
+    }
+
+    fn answer(&self, question: Question) -> Answer {
+        match question {
+            Question::Query(query) => {
+                let count = self.counted(query);
+                Answer::Counted { query, count }
+            }
+            Question::Pixel(x, y) => {
+                let value = self.target().pixel(x, y);
+                Answer::Shown { x, y, value }
+            }
+        }
     }
 }
 
@@ -64,32 +101,19 @@ pub(crate) fn finished_list<A: Allocator, S: ListSource<CommandList<A>>>(
     list
 }
 
-/// Makes a call on the caller's thread.
+/// Runs on the caller's thread.
 pub(crate) fn run_alone<A: Allocator + Copy + Send, S: ListSource<CommandList<A>>>(
     context: &mut ImmediateContext<A>,
     lists: &S,
     running: Running,
-) -> Result<Option<Answer>, GfxError>
+) -> Result<(), GfxError>
     requires { IsHere (S.holds lists.now) (verb_of running) }
-    ensures { HasRun (S.agrees lists.now) (S.right lists.now) (verb_of running) context.old context.new result }
+    ensures { HasRun (RanBy (S.agrees lists.now) (S.right lists.now) running context.old context.new) context.old result }
 {
     match running {
-        Running::Flush => {
-            context.flush_alone()?;
-            Ok(None)
-        }
+        Running::Flush => context.flush_alone(),
         Running::Execute(of, number, restore) => {
-            let list = finished_list(lists, of, number);
-            context.execute_alone(list, restore)?;
-            Ok(None)
-        }
-        Running::Query(query) => {
-            let count = context.get_data_alone(query)?;
-            Ok(Some(Answer::Counted { query, count }))
-        }
-        Running::Pixel(x, y) => {
-            let value = context.pixel_alone(x, y)?;
-            Ok(Some(Answer::Shown { x, y, value }))
+            context.execute_alone(finished_list(lists, of, number), restore)
         }
     }
 }
@@ -103,7 +127,7 @@ pub(crate) struct Workers<'w, 'a, A: Allocator + Copy + Send, R, G> {
     pub(crate) gate: &'w G,
 }
 
-/// Makes a call by a crew beside the caller.
+/// Runs by a crew beside the caller.
 pub(crate) fn run_by_crew<
     A: Allocator + Copy + Send + Sync,
     S: ListSource<CommandList<A>>,
@@ -114,28 +138,16 @@ pub(crate) fn run_by_crew<
     context: &mut ImmediateContext<A>,
     lists: &S,
     running: Running,
-) -> Result<Option<Answer>, GfxError>
+) -> Result<(), GfxError>
     requires { IsHere (S.holds lists.now) (verb_of running) }
-    ensures { HasRun (S.agrees lists.now) (S.right lists.now) (verb_of running) context.old context.new result }
+    ensures { HasRun (RanBy (S.agrees lists.now) (S.right lists.now) running context.old context.new) context.old result }
 {
     let (rt, crew, gate) = (workers.rt, &workers.crew, workers.gate);
     match running {
-        Running::Flush => {
-            context.flush_by_crew(rt, crew, gate)?;
-            Ok(None)
-        }
+        Running::Flush => context.flush_by_crew(rt, crew, gate),
         Running::Execute(of, number, restore) => {
             let list = finished_list(lists, of, number);
-            context.execute_by_crew(rt, list, restore, crew, gate)?;
-            Ok(None)
-        }
-        Running::Query(query) => {
-            let count = context.get_data_by_crew(rt, query, crew, gate)?;
-            Ok(Some(Answer::Counted { query, count }))
-        }
-        Running::Pixel(x, y) => {
-            let value = context.pixel_by_crew(rt, x, y, crew, gate)?;
-            Ok(Some(Answer::Shown { x, y, value }))
+            context.execute_by_crew(rt, list, restore, crew, gate)
         }
     }
 }

@@ -1,4 +1,4 @@
-use Rattle.std.proofs.Common.{rules, ◌∙◌, ap, arith, ℕ, length-set}
+use Rattle.std.proofs.Common.{rules, ◌∙◌, arith, length-set}
 use Rattle.immediate.proofs.Telling.{told_next}
 use Rattle.immediate.proofs.output.told_by.Goals as goal
 

@@ -1,14 +1,14 @@
 use Rattle.std.proofs.Common.{rules, true, ap, ◌∙◌, [], ℕ, Some}
+use Rattle.std.specs.Prelude.{is_none}
 use Rattle.meaning.specs.Contexts.{result_at}
-use Rattle.immediate.specs.Held.{Ran}
-use Rattle.immediate.proofs.Runs.{count_there, stored_count}
+use Rattle.immediate.specs.Held.{Ran, held_of}
+use Rattle.immediate.proofs.Runs.{stored_count}
 use Rattle.immediate.proofs.context.ImmediateContext.get_data.Goals as goal
 
 pub returns-clause-value : goal.returns-clause-value
 returns-clause-value g c =
     let q = c.args.query in
-    let new = c.flush.new.self in
+    let new = held_of c.run_pending.new.output c.run_pending.new.pending in
     let ran : Ran [] true c.args.self.now new = search rules in
-    ap (λ (n : ℕ). Some n) c.counted-count.ensures
-    ∙ stored_count (result_at new.results q) (count_there c.args.self.now new q c.is_issued.result ran (search rules) c.is_issued.ensures (search rules))
-    ∙ ran.run.results q (search rules)
+    let issued = c.in_ok-examine_query.ensures.issued in
+    ap (λ (n : ℕ). Some n) c.counted-count.ensures ∙ stored_count (result_at new.results q) (ap is_none (ran.run.results q issued.0) ∙ issued.1) ∙ ran.run.results q issued.0

@@ -1,35 +1,38 @@
-use Rattle.std.proofs.Common.{rules, ap, subst, ◌∙◌, ℕ, [], List, length, map, get_or}
-use Rattle.gfxspec.specs.Recorded.{issues}
-use Rattle.gfxspec.specs.Tiles.{tile_count}
-use Rattle.binmem.specs.Lists.{no_words}
-use Rattle.binner.specs.Compiled.{Compilation}
-use Rattle.meaning.specs.Contexts.{with_counts}
+use Rattle.std.proofs.Common.{subst, ◌∙◌, map}
 use Rattle.cmdlist.specs.Seen.{command_value}
-use Rattle.immediate.specs.Outputs.{IsRunBy}
-use Rattle.immediate.proofs.Runs.{length_counts, run_stored, output_behind, output_refused}
+use Rattle.immediate.specs.Outputs.{IsRunBy, IsCompiled}
+use Rattle.immediate.proofs.Runs.{kept_output, kept_same, kept_memory, kept_run, bins_behind}
 use Rattle.immediate.proofs.output.Output.run_by_crew.Goals as goal
 
 pub invariant_of-self : goal.invariant_of-self
 invariant_of-self g c =
     let list = map command_value c.args.commands.now in
     let i = c.self.inside in
-    output_refused list c.args.self.now c.in-Some.compiled i.target c.draw_by_crew-drawn.new.target i.results i.results [] (c.self.view_is ∙ c.compiled_in_threads.ensures.same)
-    (subst (IsRunBy list c.args.self.now) c.in-Some.is c.in_ok-compiled.ensures.compiled)
-    c.into_bins.result (search rules) c.self.invariant.whole c.self.invariant.many (c.into_bins.ensures ∙ ap (λ (k : Compilation). no_words (tile_count k.size)) c.draw_by_crew-drawn.ensures.same)
-
-pub invariant_of-self-2 : goal.invariant_of-self-2
-invariant_of-self-2 g c =
-    let list = map command_value c.args.commands.now in
-    let i = c.self.inside in
-    output_behind list c.args.self.now c.in-Some.compiled i.target c.draw_by_crew-drawn.new.target i.results c.store_counts.new.results c.in_ok-counts.counts.items (c.self.view_is ∙ c.compiled_in_threads.ensures.same)
-    (subst (IsRunBy list c.args.self.now) c.in-Some.is c.in_ok-compiled.ensures.compiled)
-    c.into_bins.result (search rules) (ap length c.store_counts.ensures ∙ length_counts (λ k. get_or c.as_slice.result.now k 0) 0 (issues list) i.results ∙ c.self.invariant.many) (c.into_bins.ensures ∙ ap (λ (k : Compilation). no_words (tile_count k.size)) c.draw_by_crew-drawn.ensures.same)
+    let compiled : IsCompiled list c.args.self.now c.in-Some.compiled = subst (IsRunBy list c.args.self.now) c.in-Some.is c.in_ok-compiled.ensures.compiled in
+    kept_output (λ counts. counts.items) list c.args.self.now c.in-Some.compiled i.target c.draw_by_crew-drawn.new.target i.results c.keep.new.results (c.self.view_is ∙ c.compiled_in_threads.ensures.same) compiled.size
+    c.draw_by_crew-drawn.result.0 c.keep.result c.keep.new.bins c.keep.ensures.kept c.draw_by_crew-drawn.ensures.ok c.draw_by_crew-drawn.ensures.err c.self.invariant.whole c.self.invariant.many
+    (c.keep.ensures.bins ∙ bins_behind c.draw_by_crew-drawn.ensures.same)
 
 pub returns-clause-ok : goal.returns-clause-ok
 returns-clause-ok g c =
     let list = map command_value c.args.commands.now in
     let i = c.self.inside in
-    run_stored list c.args.self.now c.in-Some.compiled i.target c.draw_by_crew-drawn.new.target i.results c.store_counts.new.results c.in_ok-counts.counts.items (c.self.view_is ∙ c.compiled_in_threads.ensures.same)
-    (subst (IsRunBy list c.args.self.now) c.in-Some.is c.in_ok-compiled.ensures.compiled)
-    c.draw_by_crew-drawn.ensures.sound c.self.invariant.many (search rules)
-    (c.store_counts.ensures ∙ ap (λ (xs : List ℕ). with_counts 0 (λ k. get_or xs k 0) (issues list) i.results) c.as_slice.ensures.value)
+    let compiled : IsCompiled list c.args.self.now c.in-Some.compiled = subst (IsRunBy list c.args.self.now) c.in-Some.is c.in_ok-compiled.ensures.compiled in
+    kept_run (λ counts. counts.items) list c.args.self.now c.in-Some.compiled i.target c.draw_by_crew-drawn.new.target i.results c.keep.new.results (c.self.view_is ∙ c.compiled_in_threads.ensures.same) compiled.size
+    c.draw_by_crew-drawn.result.0 c.keep.result compiled c.draw_by_crew-drawn.ensures.sound c.self.invariant.many c.keep.ensures.kept c.draw_by_crew-drawn.ensures.ok
+
+pub returns-clause-memory : goal.returns-clause-memory
+returns-clause-memory g c =
+    let list = map command_value c.args.commands.now in
+    let i = c.self.inside in
+    let compiled : IsCompiled list c.args.self.now c.in-Some.compiled = subst (IsRunBy list c.args.self.now) c.in-Some.is c.in_ok-compiled.ensures.compiled in
+    kept_memory (λ counts. counts.items) list c.args.self.now c.in-Some.compiled i.target c.draw_by_crew-drawn.new.target i.results c.keep.new.results (c.self.view_is ∙ c.compiled_in_threads.ensures.same) compiled.size
+    c.draw_by_crew-drawn.result.0 c.keep.result c.keep.ensures.kept c.draw_by_crew-drawn.ensures.memory
+
+pub returns-clause-err : goal.returns-clause-err
+returns-clause-err g c =
+    let list = map command_value c.args.commands.now in
+    let i = c.self.inside in
+    let compiled : IsCompiled list c.args.self.now c.in-Some.compiled = subst (IsRunBy list c.args.self.now) c.in-Some.is c.in_ok-compiled.ensures.compiled in
+    kept_same (λ counts. counts.items) list c.args.self.now c.in-Some.compiled i.target c.draw_by_crew-drawn.new.target i.results c.keep.new.results (c.self.view_is ∙ c.compiled_in_threads.ensures.same) compiled.size
+    c.draw_by_crew-drawn.result.0 c.keep.result c.keep.ensures.kept c.draw_by_crew-drawn.ensures.err
