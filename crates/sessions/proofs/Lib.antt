@@ -3,4 +3,4 @@ pub mod Played
 pub mod Steps
 pub mod Endings
 pub mod Gathering
-pub mod Asking
+pub mod Ran
