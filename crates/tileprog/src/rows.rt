@@ -23,20 +23,16 @@ use lanes::StencilTest;
 use std::alloc::Allocator;
 use tileblock::TileBlock;
 
-/// The pixels of a span that the clip's columns and the named edges leave. Where none is named, or all are known to hold, no edge is
-/// looked at; else all three are, which costs no more than those that are named.
+/// The pixels of a span that the clip's columns and the named edges leave. Where none is named, no edge is looked at;
+/// else all three are, which costs no more than those that are named.
 #[inline(always)]
-fn lanes_left(column: &Column, mask: u8, edges: &EdgeWalk<'_>, covered: bool) -> u8
-    requires covered { IsTrue covered → (j : ℕ) → j < 8 → passes_edges column.now.mask edges.now.triangle (centre (column.now.x + j) edges.now.y) ≡ true }
+fn lanes_left(column: &Column, mask: u8, edges: &EdgeWalk<'_>) -> u8
     requires same { mask ≡ column.now.mask }
     requires place { column.now.x ≡ edges.now.x }
     requires decides { Decides column.now.mask edges.now column.now.clip.left column.now.clip.right }
     ensures { (j : ℕ) → j < 8 → has result j ≡ ((nat_le column.now.clip.left (column.now.x + j) && nat_lt (column.now.x + j) column.now.clip.right)
         && passes_edges column.now.mask edges.now.triangle (centre (column.now.x + j) edges.now.y)) }
 {
-    if covered {
-        return column.within;
-    }
     if mask == 0 {
         return column.within;
     }
@@ -63,7 +59,7 @@ pub(crate) fn open_row<A: Allocator>(
     requires kind { tests_of brush.now.state ≡ Open }
     ensures { RowDrew (record { brush = brush.now; plane = plane.now; mask = column.now.mask; clip = column.now.clip }) block.old block.new column.now.x (block.old.rect.top + row) result }
 {
-    let cover = lanes_left(column, mask, edges, false);
+    let cover = lanes_left(column, mask, edges);
     if cover == 0 {
         return 0;
     }
@@ -97,7 +93,7 @@ pub(crate) fn depth_row<A: Allocator, W: Walks>(
     requires kind { tests_of brush.now.state ≡ Depth func write }
     ensures { RowDrew (record { brush = brush.now; plane = (W.place walk.now).plane; mask = column.now.mask; clip = column.now.clip }) block.old block.new column.now.x (block.old.rect.top + row) result }
 {
-    let cover = lanes_left(column, mask, edges, false);
+    let cover = lanes_left(column, mask, edges);
     if cover == 0 {
         return 0;
     }
@@ -116,7 +112,6 @@ pub(crate) fn stencil_row<A: Allocator, W: Walks>(
     row: u32,
     edges: &EdgeWalk<'_>,
     walk: &W,
-    covered: bool,
     known: Option<bool>,
     test: &StencilTest,
     brush: &Brush,
@@ -132,12 +127,11 @@ pub(crate) fn stencil_row<A: Allocator, W: Walks>(
     requires named { IsNamed (W.place walk.now).plane column.now.mask block.old.rect }
     requires kind { tests_of brush.now.state ≡ Stencil }
     requires test { test.now ≡ record { setting = brush.now.state; face = if brush.now.front then brush.now.state.front else brush.now.state.back; reference = brush.now.reference } }
-    requires covered { IsTrue covered → AreCovered true column.now.mask (W.place walk.now).plane.triangle block.old.rect column.now.x row (row + 1) }
     requires known { IfSome known (λ deep. AllHave deep brush.now.state (W.place walk.now).plane block.old column.now.x row (row + 1)) }
     requires unwritten { IfSome known (IsUnwritten brush.now.state) }
     ensures { RowDrew (record { brush = brush.now; plane = (W.place walk.now).plane; mask = column.now.mask; clip = column.now.clip }) block.old block.new column.now.x (block.old.rect.top + row) result }
 {
-    let cover = lanes_left(column, mask, edges, covered);
+    let cover = lanes_left(column, mask, edges);
     if cover == 0 {
         return 0;
     }
@@ -178,7 +172,7 @@ pub(crate) fn cut_row<A: Allocator>(
     requires always { IsTrue always → (v : ℕ) → reference_passes test.now v ≡ true }
     ensures { RowDrew (record { brush = brush.now; plane = plane.now; mask = column.now.mask; clip = column.now.clip }) block.old block.new column.now.x (block.old.rect.top + row) result }
 {
-    let cover = lanes_left(column, mask, edges, false);
+    let cover = lanes_left(column, mask, edges);
     if cover == 0 {
         return 0;
     }

@@ -21,8 +21,8 @@ use lanes::StencilTest;
 use std::alloc::Allocator;
 use tileblock::TileBlock;
 
-/// The rows of a column from `row` on and before `past`, one by one; the answer is how many pixels pass. Where the edges are known to
-/// hold they aren't looked at, and where the depth test's outcome is known no depth is.
+/// The rows of a column from `row` on and before `past`, one by one; the answer is how many pixels pass. Where the depth test's
+/// outcome is known no depth is looked at.
 #[inline(never)]
 fn each_row<A: Allocator, W: Walks>(
     block: &mut TileBlock<A>,
@@ -32,7 +32,6 @@ fn each_row<A: Allocator, W: Walks>(
     past: u32,
     edges: EdgeWalk<'_>,
     mut walk: W,
-    covered: bool,
     known: Option<bool>,
     test: &StencilTest,
     brush: &Brush,
@@ -50,7 +49,6 @@ fn each_row<A: Allocator, W: Walks>(
     requires named { IsNamed (W.place walk).plane column.now.mask block.old.rect }
     requires kind { tests_of brush.now.state ≡ Stencil }
     requires test { test.now ≡ record { setting = brush.now.state; face = if brush.now.front then brush.now.state.front else brush.now.state.back; reference = brush.now.reference } }
-    requires covered { IsTrue covered → AreCovered true column.now.mask (W.place walk).plane.triangle block.old.rect column.now.x row past }
     requires known { IfSome known (λ deep. AllHave deep brush.now.state (W.place walk).plane block.old column.now.x row past) }
     requires unwritten { IfSome known (IsUnwritten brush.now.state) }
     ensures { Continues (record { brush = brush.now; plane = (W.place walk).plane; mask = column.now.mask; clip = column.now.clip }) block.old block.new column.now.x (block.old.rect.top + row) (block.old.rect.top + past) result }
@@ -58,9 +56,7 @@ fn each_row<A: Allocator, W: Walks>(
     let mut edges = edges.copied();
     let mut passed = 0u32;
     for at in row..past {
-        let more = stencil_row(
-            block, column, mask, at, &edges, &walk, covered, known, test, brush,
-        );
+        let more = stencil_row(block, column, mask, at, &edges, &walk, known, test, brush);
         passed += more;
         edges.down();
         walk.next();
@@ -264,7 +260,6 @@ fn walked_rows<A: Allocator, W: Walks>(
         row + 8,
         here,
         depths,
-        false,
         None,
         test,
         brush,
@@ -558,7 +553,6 @@ fn clipped_rows<A: Allocator, W: Walks>(
         past,
         edges,
         walk,
-        false,
         known,
         test,
         brush,
