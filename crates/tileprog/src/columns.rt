@@ -223,8 +223,7 @@ pub(crate) fn draw_column<A: Allocator, W: Walks>(
             depth_column(block, column, edges, walk, *func, *write, *brush)
         }
         MadeTests::Both(test, set) => {
-            let edges = edges.copied();
-            stencil_column(block, column, set, plane, edges, walk.copied(), test, brush)
+            stencil_column(block, column, set, plane, edges, walk, test, brush)
         }
     }
 }

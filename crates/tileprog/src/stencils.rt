@@ -475,20 +475,20 @@ fn each_cell<A: Allocator, W: Walks>(
     mask: u8,
     set: &EdgeSet,
     plane: &Plane,
-    edges: EdgeWalk<'_>,
-    walk: W,
+    edges: &EdgeWalk<'_>,
+    walk: &W,
     test: &StencilTest,
     brush: &Brush,
 ) -> u32
     requires same { mask ≡ column.now.mask }
     requires column { IsColumn column.now block.old.rect }
     requires long { IsLong column.now block.old.rect }
-    requires edges { edges ≡ record edges { triangle = plane.now.triangle; x = column.now.x; y = column.now.clip.top } }
-    requires begun { BeganIn edges block.old.rect }
-    requires walk { W.place walk ≡ record (W.place walk) { plane = plane.now; x = column.now.x; y = column.now.clip.top } }
+    requires edges { edges.now ≡ record edges.now { triangle = plane.now.triangle; x = column.now.x; y = column.now.clip.top } }
+    requires begun { BeganIn edges.now block.old.rect }
+    requires walk { W.place walk.now ≡ record (W.place walk.now) { plane = plane.now; x = column.now.x; y = column.now.clip.top } }
     requires set { set.now ≡ plane.now.triangle }
-    requires left { block.old.rect.left ≤ (W.place walk).left }
-    requires top { block.old.rect.top ≤ (W.place walk).top }
+    requires left { block.old.rect.left ≤ (W.place walk.now).left }
+    requires top { block.old.rect.top ≤ (W.place walk.now).top }
     requires named { IsNamed plane.now column.now.mask block.old.rect }
     requires corners { LiesWithin plane.now column.now.corners }
     requires kind { tests_of brush.now.state ≡ Stencil }
@@ -500,7 +500,7 @@ fn each_cell<A: Allocator, W: Walks>(
         let cell = cell_of(block, set, plane, column, mask, k, brush);
         let row = 8 * k;
         let more = cell_rows(
-            block, column, mask, plane, row, cell, &edges, &walk, test, brush,
+            block, column, mask, plane, row, cell, edges, walk, test, brush,
         );
         passed += more;
     }
@@ -566,18 +566,18 @@ pub(crate) fn stencil_column<A: Allocator, W: Walks>(
     column: &Column,
     set: &EdgeSet,
     plane: &Plane,
-    edges: EdgeWalk<'_>,
-    walk: W,
+    edges: &EdgeWalk<'_>,
+    walk: &W,
     test: &StencilTest,
     brush: &Brush,
 ) -> u32
     requires column { IsColumn column.now block.old.rect }
-    requires edges { edges ≡ record edges { triangle = plane.now.triangle; x = column.now.x; y = column.now.clip.top } }
-    requires begun { BeganIn edges block.old.rect }
-    requires walk { W.place walk ≡ record (W.place walk) { plane = plane.now; x = column.now.x; y = column.now.clip.top } }
+    requires edges { edges.now ≡ record edges.now { triangle = plane.now.triangle; x = column.now.x; y = column.now.clip.top } }
+    requires begun { BeganIn edges.now block.old.rect }
+    requires walk { W.place walk.now ≡ record (W.place walk.now) { plane = plane.now; x = column.now.x; y = column.now.clip.top } }
     requires set { set.now ≡ plane.now.triangle }
-    requires left { block.old.rect.left ≤ (W.place walk).left }
-    requires top { block.old.rect.top ≤ (W.place walk).top }
+    requires left { block.old.rect.left ≤ (W.place walk.now).left }
+    requires top { block.old.rect.top ≤ (W.place walk.now).top }
     requires named { IsNamed plane.now column.now.mask block.old.rect }
     requires corners { LiesWithin plane.now column.now.corners }
     requires kind { tests_of brush.now.state ≡ Stencil }
@@ -586,7 +586,8 @@ pub(crate) fn stencil_column<A: Allocator, W: Walks>(
 {
     let long = is_long(block.rect(), column);
     if !long {
-        return clipped_rows(block, column, plane, edges, walk, test, brush);
+        let edges = edges.copied();
+        return clipped_rows(block, column, plane, edges, walk.copied(), test, brush);
     }
     if column.mask == 0 {
         each_cell(block, column, 0, set, plane, edges, walk, test, brush)
