@@ -1,6 +1,6 @@
 //! Words whose triangle does the same at each pixel of a tile: no loop over columns is needed, and no depth is walked.
 
-ghost use Rattle.std.specs.Prelude.{◌≡◌, ◌<◌, ◌≤◌, ◌-◌, ◌*◌, ℕ, Bool, IsTrue, IfSome};
+ghost use Rattle.std.specs.Prelude.{◌≡◌, ◌<◌, ◌≤◌, ◌-◌, ◌*◌, ℕ, Bool, IsTrue, IfSome, if◌then◌else◌};
 ghost use Rattle.std.specs.Int.{to_le_bytes, w32};
 ghost use Rattle.gfxspec.specs.Color.{written_color};
 ghost use Rattle.gfxspec.specs.DepthStencil.{depth_passes};
@@ -24,7 +24,7 @@ use binner::{StateEntry, TriSetup};
 use gfxspec::{Compare, PixelRect};
 use lanes::StencilTest;
 use logicop::ColorWrite;
-use states::BlendState;
+use states::{BlendState, DepthStencilState};
 use std::alloc::Allocator;
 use tileblock::{DepthBounds, TileBlock};
 
@@ -168,6 +168,15 @@ fn pixels_in(rect: PixelRect) -> u32
     (rect.right - rect.left) * (rect.bottom - rect.top)
 }
 
+/// The stencil test of a state, of one face and with one reference. It isn't inlined: so its numbers lie in memory, eight bytes each, where loops read
+/// them. In registers each was taken apart into its bytes.
+#[inline(never)]
+fn stencil_test(state: &DepthStencilState, front: bool, reference: u8) -> StencilTest
+    ensures { result ≡ record { setting = state.now; face = if front then state.now.front else state.now.back; reference = reference } }
+{
+    StencilTest::of(state, front, reference)
+}
+
 /// A triangle that does the same at each pixel of a tile, all of which it reaches; the answer is how many pass.
 #[inline(never)]
 pub(crate) fn run_alike<A: Allocator>(
@@ -186,7 +195,7 @@ pub(crate) fn run_alike<A: Allocator>(
     ensures few { result ≤ 1024 }
 {
     let rect = block.rect();
-    let test = StencilTest::of(&entry.depth_stencil, triangle.front, entry.reference);
+    let test = stencil_test(&entry.depth_stencil, triangle.front, entry.reference);
     if deep {
         operate(block, &test, true, 255);
         return pixels_in(rect);

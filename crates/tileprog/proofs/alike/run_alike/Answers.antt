@@ -14,7 +14,7 @@ operate-requires-clause-bits g c = λ j h. has_all 255 j refl h
 pub returns-then-deep-clause-pixels : goal.returns-then-deep-clause-pixels
 returns-then-deep-clause-pixels g c = λ flip u v is.
     let b = c.args.block.now in
-    ap (flipped flip) (c.operate.ensures.pixels u v is ∙ (λ i. operated (c.of-test.ensures i) (sym c.if-deep.true i) (pixel_at b u v)))
+    ap (flipped flip) (c.operate.ensures.pixels u v is ∙ (λ i. operated (c.stencil_test-test.ensures i) (sym c.if-deep.true i) (pixel_at b u v)))
     ∙ alike_pixel c.args.triangle.now c.args.entry.now c.args.deep c.requires.alike b u v (c.requires.outcome u v is) flip
 
 pub returns-then-deep-clause-count : goal.returns-then-deep-clause-count
@@ -29,7 +29,7 @@ returns-then-deep-clause-count g c =
 pub returns-clause-pixels : goal.returns-clause-pixels
 returns-clause-pixels g c = λ flip u v is.
     let b = c.args.block.now in
-    ap (flipped flip) (c.operate-2.ensures.pixels u v is ∙ (λ i. operated (c.of-test.ensures i) (sym c.if-deep.false i) (pixel_at b u v)))
+    ap (flipped flip) (c.operate-2.ensures.pixels u v is ∙ (λ i. operated (c.stencil_test-test.ensures i) (sym c.if-deep.false i) (pixel_at b u v)))
     ∙ alike_pixel c.args.triangle.now c.args.entry.now c.args.deep c.requires.alike b u v (c.requires.outcome u v is) flip
 
 pub returns-clause-count : goal.returns-clause-count
