@@ -4,7 +4,9 @@
     tools/compare.py [SCENES [SEED]] [--workers N ..] [--kinds KIND ..] [--program FILE ..] [--without WORD ..]
 
 tools/random_scenes.py says what the scenes are. With several numbers of workers, or several programs, each scene is drawn once with
-each. A scene that differs is left in differs.txt.
+each. A scene that differs is left in differs.txt. Most of the time is the plain device's; PyPy (Debian's pypy3) takes a third of it:
+
+    pypy3 tools/compare.py 10000 --program A B
 """
 
 import argparse
