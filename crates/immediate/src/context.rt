@@ -87,7 +87,7 @@ fn run_pending<A: Allocator + Copy + Send + Sync, R: Threads + Sync, G: Gate + S
 }
 
 /// The same by a crew beside the caller.
-fn run_pending_by_crew<'a, A: Allocator + Copy + Send + Sync, R: Threads + Wait + Sync, G: Gate>(
+fn run_pending_by_crew<'a, A: Allocator + Copy + Send + Sync, R: Wait, G: Gate>(
     output: &mut Output<A>,
     pending: &mut DeferredContext<A>,
     rt: &R,
@@ -298,19 +298,14 @@ impl<A: Allocator + Copy + Send> ImmediateContext<A> {
     }
 
     /// Executions that are to run as one behind the pending commands, of which a list's is the first: it restores the state. There
-    /// are none where the pending commands or the list begin a query, where both have no room in one run, and without memory; with
-    /// threads also where a draw has 4,096 triangles or more.
-    pub fn begin_executions(
-        &mut self,
-        list: &CommandList<A>,
-        with_threads: bool,
-    ) -> Option<Executions<A>>
+    /// are none where the pending commands or the list begin a query, where both have no room in one run, and without memory.
+    pub fn begin_executions(&mut self, list: &CommandList<A>) -> Option<Executions<A>>
         ensures same { self.new ≡ self.old }
         ensures unissued { IfSome result (λ e. (issues self.old.pending ≡ []) × (issues list.now ≡ [])) }
         ensures size { IfSome result (λ e. e.lists.size ≡ self.old.surface.size) }
         ensures means { IfSome result (λ e. HasCompiled e (executed_items self.old list.now)) }
     {
-        begin_behind(&mut self.output, &mut self.pending, list, with_threads)
+        begin_behind(&mut self.output, &mut self.pending, list)
     }
 
     /// Adds the execution of a list, which restores the state. Where there is no memory or no room, all are given up.
@@ -439,7 +434,7 @@ impl<A: Allocator + Copy + Send + Sync> ImmediateContext<A> {
 impl<A: Allocator + Copy + Send + Sync> ImmediateContext<A> {
     /// `flush_alone` by a crew beside the caller. It may wait for a thread that has a tile in its hands. Refused with
     /// QueryOpen, OutOfMemory.
-    pub fn flush_by_crew<'a, R: Threads + Wait + Sync, G: Gate>(
+    pub fn flush_by_crew<'a, R: Wait, G: Gate>(
         &mut self,
         rt: &R,
         crew: &TileCrew<'a, A>,
@@ -452,7 +447,7 @@ impl<A: Allocator + Copy + Send + Sync> ImmediateContext<A> {
     }
 
     /// `execute_alone` by a crew beside the caller. Refused with QueryOpen, OutOfMemory.
-    pub fn execute_by_crew<'a, R: Threads + Wait + Sync, G: Gate>(
+    pub fn execute_by_crew<'a, R: Wait, G: Gate>(
         &mut self,
         rt: &R,
         list: &CommandList<A>,

@@ -22,9 +22,6 @@ use workers::Gate;
 /// How many commands and how many triangles run as one at most: as many as a list has.
 const MOST: usize = LIST_LIMIT as usize;
 
-/// How many triangles a draw has at least that is set up faster by threads, in a run of its own list.
-const LARGE: usize = 4096;
-
 /// Whether a command begins a query.
 fn begins_query<A: Allocator>(command: &Command<A>) -> bool
     ensures { result ≡ is_some (query_begun (command_value command.now)) }
@@ -74,8 +71,6 @@ fn topology_behind<A: Allocator>(
 pub(crate) struct Room {
     commands: usize,
     triangles: usize,
-    /// The triangles of the largest draw.
-    largest: usize,
 }
 
 impl Room {
@@ -83,17 +78,14 @@ impl Room {
     pub(crate) fn of<A: Allocator>(commands: &[Command<A>]) -> Self {
         let mut topology = None;
         let mut triangles = 0usize;
-        let mut largest = 0usize;
         for command in commands {
             topology = topology_behind(command, topology);
             let drawn = triangles_made(topology, vertices_drawn(command));
             triangles = triangles.saturating_add(drawn);
-            largest = largest.max(drawn);
         }
         Room {
             commands: commands.len(),
             triangles,
-            largest,
         }
     }
 
@@ -102,18 +94,12 @@ impl Room {
         Room {
             commands: self.commands.saturating_add(other.commands),
             triangles: self.triangles.saturating_add(other.triangles),
-            largest: self.largest.max(other.largest),
         }
     }
 
     /// Whether there is so much.
     fn is_there(self) -> bool {
         self.commands <= MOST && self.triangles <= MOST
-    }
-
-    /// Whether no draw is so large that threads should set it up.
-    fn has_small_draws(self) -> bool {
-        self.largest < LARGE
     }
 }
 
@@ -147,12 +133,11 @@ impl<A: Allocator> Executions<A> {
     }
 }
 
-/// Executions of which a list's is the first, behind the pending commands. With threads there are none where a draw is large.
+/// Executions of which a list's is the first, behind the pending commands.
 pub(crate) fn begin_behind<A: Allocator + Copy + Send>(
     output: &mut Output<A>,
     pending: &mut DeferredContext<A>,
     list: &CommandList<A>,
-    with_threads: bool,
 ) -> Option<Executions<A>>
     ensures same { (output.new ≡ output.old) × (pending.new ≡ pending.old) }
     ensures unissued { IfSome result (λ e. (issues pending.old ≡ []) × (issues list.now ≡ [])) }
@@ -169,9 +154,6 @@ pub(crate) fn begin_behind<A: Allocator + Copy + Send>(
     }
     let taken = Room::of(first).and(Room::of(second));
     if !taken.is_there() {
-        return None;
-    }
-    if with_threads && !taken.has_small_draws() {
         return None;
     }
     let batch = output.begin_batch(first, second)?;

@@ -345,8 +345,9 @@ impl<A: Allocator + Copy + Send + Sync> Output<A> {
         keep(drawn, commands, &mut self.results, &mut self.bins)
     }
 
-    /// The same as `run_alone` by the threads of a crew beside the caller, which passes the gate too.
-    pub(crate) fn run_by_crew<'a, R: Threads + Wait + Sync, G: Gate>(
+    /// The same as `run_alone` by the threads of a crew beside the caller, which passes the gate too. The caller compiles: threads
+    /// that set triangles up would have to be started, and joined, for each run.
+    pub(crate) fn run_by_crew<'a, R: Wait, G: Gate>(
         &mut self,
         rt: &R,
         commands: &[Command<A>],
@@ -358,7 +359,7 @@ impl<A: Allocator + Copy + Send + Sync> Output<A> {
         ensures memory { IfErr result (λ e. e ≡ OutOfMemory) }
         ensures err { OnErr result (self.new ≡ self.old) }
     {
-        let Some(compiled) = self.compiled_in_threads(rt, commands, crew.workers())? else {
+        let Some(compiled) = self.compiled(commands)? else {
             return Ok(());
         };
         let drawn = draw_by_crew(rt, crew, compiled, &mut self.target, gate);

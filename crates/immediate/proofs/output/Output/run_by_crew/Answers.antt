@@ -9,7 +9,7 @@ invariant_of-self g c =
     let list = map command_value c.args.commands.now in
     let i = c.self.inside in
     let compiled : IsCompiled list c.args.self.now c.in-Some.compiled = subst (IsRunBy list c.args.self.now) c.in-Some.is c.in_ok-compiled.ensures.compiled in
-    kept_output (λ counts. counts.items) list c.args.self.now c.in-Some.compiled i.target c.draw_by_crew-drawn.new.target i.results c.keep.new.results (c.self.view_is ∙ c.compiled_in_threads.ensures.same) compiled.size
+    kept_output (λ counts. counts.items) list c.args.self.now c.in-Some.compiled i.target c.draw_by_crew-drawn.new.target i.results c.keep.new.results (c.self.view_is ∙ c.compiled.ensures.same) compiled.size
     c.draw_by_crew-drawn.result.0 c.keep.result c.keep.new.bins c.keep.ensures.kept c.draw_by_crew-drawn.ensures.ok c.draw_by_crew-drawn.ensures.err c.self.invariant.whole c.self.invariant.many
     (c.keep.ensures.bins ∙ bins_behind c.draw_by_crew-drawn.ensures.same)
 
@@ -18,7 +18,7 @@ returns-clause-ok g c =
     let list = map command_value c.args.commands.now in
     let i = c.self.inside in
     let compiled : IsCompiled list c.args.self.now c.in-Some.compiled = subst (IsRunBy list c.args.self.now) c.in-Some.is c.in_ok-compiled.ensures.compiled in
-    kept_run (λ counts. counts.items) list c.args.self.now c.in-Some.compiled i.target c.draw_by_crew-drawn.new.target i.results c.keep.new.results (c.self.view_is ∙ c.compiled_in_threads.ensures.same) compiled.size
+    kept_run (λ counts. counts.items) list c.args.self.now c.in-Some.compiled i.target c.draw_by_crew-drawn.new.target i.results c.keep.new.results (c.self.view_is ∙ c.compiled.ensures.same) compiled.size
     c.draw_by_crew-drawn.result.0 c.keep.result compiled c.draw_by_crew-drawn.ensures.sound c.self.invariant.many c.keep.ensures.kept c.draw_by_crew-drawn.ensures.ok
 
 pub returns-clause-memory : goal.returns-clause-memory
@@ -26,7 +26,7 @@ returns-clause-memory g c =
     let list = map command_value c.args.commands.now in
     let i = c.self.inside in
     let compiled : IsCompiled list c.args.self.now c.in-Some.compiled = subst (IsRunBy list c.args.self.now) c.in-Some.is c.in_ok-compiled.ensures.compiled in
-    kept_memory (λ counts. counts.items) list c.args.self.now c.in-Some.compiled i.target c.draw_by_crew-drawn.new.target i.results c.keep.new.results (c.self.view_is ∙ c.compiled_in_threads.ensures.same) compiled.size
+    kept_memory (λ counts. counts.items) list c.args.self.now c.in-Some.compiled i.target c.draw_by_crew-drawn.new.target i.results c.keep.new.results (c.self.view_is ∙ c.compiled.ensures.same) compiled.size
     c.draw_by_crew-drawn.result.0 c.keep.result c.keep.ensures.kept c.draw_by_crew-drawn.ensures.memory
 
 pub returns-clause-err : goal.returns-clause-err
@@ -34,5 +34,5 @@ returns-clause-err g c =
     let list = map command_value c.args.commands.now in
     let i = c.self.inside in
     let compiled : IsCompiled list c.args.self.now c.in-Some.compiled = subst (IsRunBy list c.args.self.now) c.in-Some.is c.in_ok-compiled.ensures.compiled in
-    kept_same (λ counts. counts.items) list c.args.self.now c.in-Some.compiled i.target c.draw_by_crew-drawn.new.target i.results c.keep.new.results (c.self.view_is ∙ c.compiled_in_threads.ensures.same) compiled.size
+    kept_same (λ counts. counts.items) list c.args.self.now c.in-Some.compiled i.target c.draw_by_crew-drawn.new.target i.results c.keep.new.results (c.self.view_is ∙ c.compiled.ensures.same) compiled.size
     c.draw_by_crew-drawn.result.0 c.keep.result c.keep.ensures.kept c.draw_by_crew-drawn.ensures.err
