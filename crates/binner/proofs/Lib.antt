@@ -9,6 +9,7 @@ pub mod Pushing
 pub mod Lasting
 pub mod Changing
 pub mod Grid
+pub mod Strips
 pub mod Steps
 pub mod Growing
 pub mod Drawing
