@@ -84,10 +84,6 @@ fn strip_at(edges: &EdgeSet, size: Size, row: u32, first: u32, right: u32) -> St
     ensures known { AreKnown edges.now size row first result }
 {
     let end = (first + STRIP).min(right);
-    if end - first < LEAST_STRIP {
-        let known = Class::Cut(7);
-        return Strip { end, known };
-    }
     let rect = PixelRect {
         left: TILE_SIDE * first,
         top: TILE_SIDE * row,
@@ -98,7 +94,7 @@ fn strip_at(edges: &EdgeSet, size: Size, row: u32, first: u32, right: u32) -> St
     Strip { end, known }
 }
 
-/// The strip that a tile of a row lies in: this one, or else one that begins there.
+/// The strip that a tile of a row lies in: this one, or else one that begins there. Of few tiles nothing is known.
 #[inline(always)]
 fn strip_with(strip: Strip, edges: &EdgeSet, size: Size, row: u32, column: u32, right: u32) -> Strip
     requires size { IsTrue (is_size size) }
@@ -111,6 +107,10 @@ fn strip_with(strip: Strip, edges: &EdgeSet, size: Size, row: u32, column: u32, 
 {
     if column < strip.end {
         return strip;
+    }
+    if right - column < LEAST_STRIP {
+        let known = Class::Cut(7);
+        return Strip { end: right, known };
     }
     strip_at(edges, size, row, column, right)
 }

@@ -1,10 +1,7 @@
 use Rattle.std.proofs.Common.{rules, ◌≡◌, ◌+◌, ◌*◌, subst, min}
 use Rattle.classify.specs.Region.{IsClassOf}
-use Rattle.binner.proofs.Strips.{nothing_known, strip_known}
+use Rattle.binner.proofs.Strips.{strip_known}
 use Rattle.binner.proofs.lists.strip_at.Goals as goal
-
-pub returns-then-end-first-lt-LEAST_STRIP-clause-known : goal.returns-then-end-first-lt-LEAST_STRIP-clause-known
-returns-then-end-first-lt-LEAST_STRIP-clause-known c = nothing_known c.args.edges.now c.args.size c.args.row c.args.first c.min-end.result
 
 pub returns-clause-known : goal.returns-clause-known
 returns-clause-known c =
