@@ -56,7 +56,6 @@ fn gather_executions<A: Allocator + Copy + Send, S: ListSource<CommandList<A>>>(
     lists: &S,
     lines: &[Line<A>],
     from: usize,
-    with_threads: bool,
 ) -> Option<(Executions<A>, usize)>
     requires lines { AreLines [] (map line_value lines.now) }
     requires right { ListsOf (map line_value lines.now) (S.right lists.now) }
@@ -64,7 +63,7 @@ fn gather_executions<A: Allocator + Copy + Send, S: ListSource<CommandList<A>>>(
     ensures gathered { IfSome result (λ found. AreGathered (S.agrees lists.now) (map line_value lines.now) from found.1 context.old found.0) }
 {
     let first = kept_list(lists, lines, from)?;
-    let mut executions = context.begin_executions(first, with_threads)?;
+    let mut executions = context.begin_executions(first)?;
     for place in from + 1..lines.len() {
         let Some(list) = kept_list(lists, lines, place) else {
             return Some((executions, place));
@@ -89,7 +88,7 @@ pub(crate) fn take_executions_alone<A: Allocator + Copy + Send, S: ListSource<Co
     requires right { ListsOf (map line_value lines.now) (S.right lists.now) }
     ensures gone { HasGoneOn (S.agrees lists.now) (map line_value lines.now) from result context.old context.new }
 {
-    let Some((executions, behind)) = gather_executions(context, lists, lines, from, false) else {
+    let Some((executions, behind)) = gather_executions(context, lists, lines, from) else {
         return from;
     };
     match context.run_executions_alone(executions) {
@@ -115,9 +114,7 @@ pub(crate) fn take_executions_by_crew<
     requires right { ListsOf (map line_value lines.now) (S.right lists.now) }
     ensures gone { HasGoneOn (S.agrees lists.now) (map line_value lines.now) from result context.old context.new }
 {
-    let with_threads = workers.crew.workers() > 0;
-    let Some((executions, behind)) = gather_executions(context, lists, lines, from, with_threads)
-    else {
+    let Some((executions, behind)) = gather_executions(context, lists, lines, from) else {
         return from;
     };
     match context.run_executions_by_crew(workers.rt, executions, &workers.crew, workers.gate) {
