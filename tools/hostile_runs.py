@@ -4,8 +4,8 @@
     tools/hostile_runs.py [--program FILE]
 
 Standard descriptors that are closed, in all eight combinations, or can't be held, no descriptor left, a full device, a closed pipe, files and folders that are
-missing or can't be read, threads that don't start, wrong words, `--help`, scripts with a fault or a refused line, one cut at every byte, and
-lists that are full or too full. The answers and images that are wanted come from plain_device.py. A line is printed for each run, `right NAME` or `WRONG NAME: why` (`not
+missing or can't be read, threads that don't start, wrong words, `--help`, scripts with a fault or a refused line, one cut at every byte,
+lists that are full or too full, and scripts of many short lines, whose time has to grow with their length alone. The answers and images that are wanted come from plain_device.py. A line is printed for each run, `right NAME` or `WRONG NAME: why` (`not
 tried` where root runs this, and another user, whom files can be closed to, can't reach the program). The status is 0 where none is
 wrong.
 """
@@ -19,6 +19,7 @@ import resource
 import subprocess
 import sys
 import tempfile
+import time
 
 import package_path
 import plain_device
@@ -57,6 +58,17 @@ ENDED = {
     "no line feed": ("target 4 4", "refused 1 101\n"),
     "unknown word": ("target 4 4\ni jump\n", "refused 2 104\n"),
     "a refused line": ("target 4 4\ni pixel 0 0\ni pixel 4 0\n", "pixel 0 0 0 0 0 0 16777215 0\nrefused 3 15\n"),
+}
+
+# Scripts of many short lines: what stands before the line, the line, and how often it stands. However often that is, the answers and the
+# image are the same.
+LIST = "d0 topology 4\nd0 vb 0 0 5 1 2 3 4 131072 0 5 1 2 3 4 0 131072 5 1 2 3 4\nd0 draw 3 0\nd0 finish 0\n"
+LONG = {
+    "empty lists": ("", "d0 finish 0\n", 100_000),
+    "empty lists of d7": ("", "d7 finish 1\n", 100_000),
+    "executions of a list": (LIST, "i exec d0 0 1\n", 200_000),
+    "executions without the state": (LIST, "i exec d0 0 0\n", 200_000),
+    "flushes with nothing pending": ("", "i flush\n", 100_000),
 }
 
 
@@ -280,6 +292,36 @@ def try_full_lists(runs):
             runs.expect(f"{name}, {workers} workers", Ended(REFUSED, refused, "", b""), [script, "image.tga", "--workers", workers])
 
 
+def least_seconds(runs, words):
+    """The least time of three runs."""
+    times = []
+    for _ in range(3):
+        begun = time.perf_counter()
+        runs.ended(words)
+        times.append(time.perf_counter() - begun)
+    return min(times)
+
+
+def growth(quarter, whole):
+    """Why a script took too long beside one of a quarter of its lines, in seconds, or None. Where time grows with the square it takes 16 times as long."""
+    return f"it took {whole:.2f} s, and a quarter of its lines {quarter:.2f} s" if whole > 8 * quarter + 0.1 else None
+
+
+def try_long_scripts(runs):
+    """Many short lines: answers and image as of a few of them, in a time that grows with their number."""
+    few, quarter, whole = (runs.room / f"{name}.txt" for name in ("few", "quarter", "whole"))
+    for name, (before, line, times) in LONG.items():
+        for script, repeated in ((few, 2), (quarter, times // 4), (whole, times)):
+            script.write_text("target 4 4\n" + before + repeated * line + "i pixel 0 0\n", encoding="ascii")
+        answers, image = plain_device.evaluate(few.read_bytes())
+        for workers in ("0", "3", "15"):
+            rest = ["image.tga", "--workers", workers]
+            complaint = runs.complaint(Ended(DRAWN, answers, "", image), [whole, *rest])
+            if complaint is None:
+                complaint = growth(least_seconds(runs, [quarter, *rest]), least_seconds(runs, [whole, *rest]))
+            runs.say(f"{times:,} {name}, {workers} workers", complaint)
+
+
 def try_words(runs):
     """Words that are not taken: nothing is opened or written, and the first line of the text is that of the parser."""
     for words, wanted in WORDS.items():
@@ -301,6 +343,7 @@ ATTEMPTS = (
     try_scripts,
     try_cuts,
     try_full_lists,
+    try_long_scripts,
     try_words,
 )
 

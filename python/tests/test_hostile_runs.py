@@ -6,7 +6,7 @@ from dataclasses import replace
 
 import pytest
 from conftest import built_program
-from hostile_runs import ENDED, Ended, difference, stored
+from hostile_runs import ENDED, LONG, Ended, difference, growth, stored
 from plain_device import evaluate
 from test_tools import run_tool
 
@@ -43,6 +43,20 @@ def test_a_difference_is_told() -> None:
 
 def test_one_row_has_answers_and_one_has_none() -> None:
     assert stored("counted-then-cleared")[1] and not stored("four-tiles")[1]
+
+
+def test_time_that_grows_with_the_square_is_told() -> None:
+    assert growth(0.5, 2.0) is None and growth(0.001, 0.02) is None
+    told = growth(0.5, 8.0)
+    assert told is not None and "8.00 s" in told
+
+
+@pytest.mark.parametrize("name", LONG)
+def test_how_often_a_line_of_a_long_script_stands_changes_nothing(name: str) -> None:
+    before, line, times = LONG[name]
+    assert times % 4 == 0
+    once, often = (evaluate(("target 4 4\n" + before + count * line + "i pixel 0 0\n").encode("ascii")) for count in (2, 20))
+    assert once == often and once[1]
 
 
 # (the plain evaluation takes a text for whole lines)
