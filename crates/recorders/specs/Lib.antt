@@ -1,4 +1,5 @@
 pub mod Lists
+pub mod Dealing
 pub mod Recording
 pub mod Calls
 pub mod Apart

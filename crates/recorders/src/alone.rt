@@ -1,37 +1,34 @@
 //! All contexts recorded first, by the caller.
 
-ghost use Rattle.std.specs.Prelude.{◌≡◌, ◌<◌, ℕ, Option, MatchOption, map};
-ghost use Rattle.scenetext.specs.Seen.{line_value};
+ghost use Rattle.std.specs.Prelude.{◌≡◌, ◌<◌, ℕ, Option, MatchOption};
 ghost use Rattle.recorders.specs.Ending.{AloneLacks, AreRecorded};
 
 use crate::context::record_lines;
+use crate::dealing::DealtLines;
 use crate::refusal::{RecordingEnd, RefusedLine, first_refused};
 use crate::rows::ListRows;
 use crate::source::ListSource;
 use cmdlist::CommandList;
-use scenetext::Line;
 use std::alloc::{AllocError, Allocator};
 use std::marker::Model;
 
 /// All deferred contexts of a scene, recorded: their lists, and the first line that one of them refused.
 #[derive(Drop)]
 pub struct RecordedLists<'a, A: Allocator> {
-    lines: &'a [Line<A>],
+    lines: &'a DealtLines<'a, A>,
     rows: ListRows<A>,
     ends: [RecordingEnd; 4],
 }
 
 impl<'a, A: Allocator> Model for RecordedLists<'a, A> {
-    ghost use Rattle.std.specs.Prelude.{map};
-    ghost use Rattle.scenetext.specs.Seen.{line_value};
     ghost use Rattle.recorders.specs.Rows.{AreRows};
     ghost use Rattle.recorders.specs.Ending.{Alone, AreEnds};
 
     ghost Value = { Alone };
 
-    ghost view = { λ s. record { lines = map line_value s.lines.now; rows = s.rows; ends = s.ends } };
+    ghost view = { λ s. record { lines = s.lines.now; rows = s.rows; ends = s.ends } };
 
-    ghost invariant = { λ s. AreRows (map line_value s.lines.now) s.rows × AreEnds (map line_value s.lines.now) s.ends };
+    ghost invariant = { λ s. AreRows s.lines.now s.rows × AreEnds s.lines.now s.ends };
 }
 
 impl<'a, A: Allocator> RecordedLists<'a, A> {
@@ -77,8 +74,11 @@ impl<'a, A: Allocator> ListSource<CommandList<A>> for RecordedLists<'a, A> {
 }
 
 /// Records all deferred contexts. This waits for nobody.
-pub fn record_alone<A: Allocator + Copy>(alloc: A, lines: &[Line<A>]) -> RecordedLists<'_, A>
-    ensures { result.lines ≡ map line_value lines.now }
+pub fn record_alone<'a, A: Allocator + Copy>(
+    alloc: A,
+    lines: &'a DealtLines<'a, A>,
+) -> RecordedLists<'a, A>
+    ensures { result.lines ≡ lines.now }
 {
     let mut kept = Vec::new(alloc);
     let ends = [
