@@ -1,4 +1,3 @@
-pub mod Lists
 pub mod Dealing
 pub mod Recording
 pub mod Calls

@@ -6,7 +6,6 @@ use Rattle.scenetext.specs.Scene.{Line}
 use Rattle.port.specs.declared.submission.Submission.{Submission}
 use Rattle.port.specs.History.{PortHistory, port_history, drain_history, AreAll}
 use Rattle.recorders.specs.declared.ports.Passes.{Passes}
-use Rattle.recorders.specs.declared.ports.RecorderResults.{RecorderResults}
 use Rattle.recorders.specs.declared.ports.Returned.{Returned}
 use Rattle.recorders.specs.declared.ports.ByPort.{ByPort}
 use Rattle.recorders.specs.declared.ports.Recorded.{Recorded}
@@ -107,15 +106,15 @@ module _ {A : Type 0} where
   -- ---- at the end
 
   -- what the four recorders hand over
-  pub record AreResults (ls : List Line) (queue : TableId) (results : RecorderResults A) : Type 0 where
+  pub record AreResults (ls : List Line) (queue : TableId) (results : Returned A) : Type 0 where
     pub back : AreAll queue (in_order results.passes)
     pub sent : SentAgrees ls (in_order results.passes)
     pub ends : AreEnds ls results.ends
 
   -- there is no list of this number
-  abbrev pub ResultsLack : RecorderResults A → ℕ → ℕ → Type 0
+  abbrev pub ResultsLack : Returned A → ℕ → ℕ → Type 0
   ResultsLack results k n = EndsLack results.ends k n
 
   -- each pass is back, at its number, and the drain
   abbrev pub AreBack : TableId → Returned A → Type 0
-  AreBack queue r = AreAll queue (in_order r.results.passes) × (r.drain.queue ≡ queue)
+  AreBack queue r = AreAll queue (in_order r.passes) × (r.drain.queue ≡ queue)

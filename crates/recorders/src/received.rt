@@ -8,7 +8,7 @@ ghost use Rattle.recorders.specs.Recorders.{port_of};
 ghost use Rattle.recorders.specs.Receiving.{receipt_frame, receipt_right, ReceiptAgrees, ReceiptHolds, ReceiptLacks, AreNew, AreResults, ResultsLack, AreSameRecorders, EndsWith, IsMore};
 
 use crate::dealing::DealtLines;
-use crate::ports::{ByPort, ListPorts, Passes, RecordedList, RecorderResults, Returned};
+use crate::ports::{ByPort, ListPorts, Passes, RecordedList, Returned};
 use crate::recorder::{Recorder, RecorderSetup, start};
 use crate::refusal::RecordingEnd;
 use crate::rows::ListRows;
@@ -107,8 +107,8 @@ impl<'a, A: Allocator + Copy, R: Threads + Wait> ReceivedLists<'a, A, R> {
 
     /// Joins all recorders, and gives what they handed over.
     pub fn close(self) -> Returned<A>
-        ensures results { AreResults self.entry.lines self.entry.queue result.results }
-        ensures lacks { (k n : ℕ) → k < 8 → ReceiptLacks self.entry k n → ResultsLack result.results k n }
+        ensures results { AreResults self.entry.lines self.entry.queue result }
+        ensures lacks { (k n : ℕ) → k < 8 → ReceiptLacks self.entry k n → ResultsLack result k n }
         ensures drain { result.drain ≡ drain_history self.entry.queue self.entry.taken }
     {
         let ByPort(zero, one, two, three) = self.recorders;
@@ -118,8 +118,11 @@ impl<'a, A: Allocator + Copy, R: Threads + Wait> ReceivedLists<'a, A, R> {
         let three = three.close(self.rt);
         let passes = ByPort(zero.pass, one.pass, two.pass, three.pass);
         let ends = [zero.end, one.end, two.end, three.end];
-        let (results, drain) = (RecorderResults { passes, ends }, self.drain);
-        Returned { results, drain }
+        Returned {
+            passes,
+            ends,
+            drain: self.drain,
+        }
     }
 }
 
