@@ -1,7 +1,7 @@
 -- From one place of a taker to the next: the lines between are others'.
 use Rattle.std.proofs.Common.{◌≡◌, ◌∙◌, ap, sym, subst, refl, ℕ, zero, suc, ◌+◌, ◌%◌, ◌==◌, ◌<◌, ◌≤◌, ⊎_elim, arith, Bool, true, false, true≢false, cond, List, [], ◌∷◌, ◌++◌, length, drop, map, set, append_assoc}
 use Rattle.std.specs.Prelude.{slice_index_or}
-use Rattle.std.proofs.lemmas.Bool.{cases_lt, cases_eq, eqb-true, eq-eqb}
+use Rattle.std.proofs.lemmas.Bool.{cases_lt, eqb-true, eq-eqb}
 use Rattle.std.proofs.lemmas.List.{length-drop, length-map, get_or-map, get_or_default, drop_more, get_or_past, get_or-set_same, get_or-set_other}
 use Rattle.scenetext.specs.Scene.{Actor, Immediate, Deferred, Line}
 use Rattle.scenetext.specs.Spelling.{is_deferred}
@@ -100,22 +100,22 @@ none_of k t (Deferred j) same other = by (j == k) refl
 dealt_more : (ls : List Line) (i k : ℕ) (rows : List (List ℕ)) → k < length rows → i < length ls → taker_of (line_at ls i).actor ≡ k
     → ((t : ℕ) → slice_index_or rows t [] ++ places_of t i (drop i ls) ≡ places_of t 0 ls)
     → (t : ℕ) → slice_index_or (set rows k (slice_index_or rows k [] ++ i ∷ [])) t [] ++ places_of t (i + 1) (drop (i + 1) ls) ≡ places_of t 0 ls
-dealt_more ls i k rows low below is h t =
-    ⊎_elim (λ e. subst (λ r. slice_index_or (set rows k (slice_index_or rows k [] ++ i ∷ [])) r [] ++ rest r ≡ places_of r 0 ls) e
-    (ap (λ xs. xs ++ rest k) (get_or-set_same rows k (slice_index_or rows k [] ++ i ∷ []) [] low) ∙ append_assoc (slice_index_or rows k []) (i ∷ []) (rest k)
-    ∙ ap (λ xs. slice_index_or rows k [] ++ xs) (sym (split k ∙ ap (λ b. cond b (i ∷ rest k) (rest k)) (eq-eqb _ k is))) ∙ h k))
-    (λ other. ap (λ xs. xs ++ rest t) (get_or-set_other rows k t (slice_index_or rows k [] ++ i ∷ []) [] (λ e. other (sym e)))
-    ∙ ap (λ xs. slice_index_or rows t [] ++ xs) (sym (split t ∙ ap (λ b. cond b (i ∷ rest t) (rest t)) (unlike t (taker_of (line_at ls i).actor == t) refl (λ e. other (sym is ∙ e))))) ∙ h t) (cases_eq k t)
+dealt_more ls i k rows low below is h t = by (k == t) refl (sym (ap (places_of t i) (drop_more ls i a_line below) ∙ ap (λ j. cond (j == t) (i ∷ rest) rest) is))
   where
-    rest : ℕ → List ℕ
-    rest r = places_of r (i + 1) (drop (i + 1) ls)
+    rest : List ℕ
+    rest = places_of t (i + 1) (drop (i + 1) ls)
 
-    split : (r : ℕ) → places_of r i (drop i ls) ≡ cond (taker_of (line_at ls i).actor == r) (i ∷ rest r) (rest r)
-    split r = ap (places_of r i) (drop_more ls i a_line below)
+    new : List ℕ
+    new = slice_index_or rows k [] ++ i ∷ []
 
-    unlike : (r : ℕ) (b : Bool) → (taker_of (line_at ls i).actor == r) ≡ b → (taker_of (line_at ls i).actor ≡ r → ⊥) → (taker_of (line_at ls i).actor == r) ≡ false
-    unlike r true e other = absurd (other (eqb-true _ r e))
-    unlike r false e other = e
+    by : (b : Bool) → (k == t) ≡ b → cond (k == t) (i ∷ rest) rest ≡ places_of t i (drop i ls) → slice_index_or (set rows k new) t [] ++ rest ≡ places_of t 0 ls
+    by true e before =
+        let same : k ≡ t = eqb-true k t e in
+        ap (λ xs. xs ++ rest) (ap (λ j. slice_index_or (set rows k new) j []) (sym same) ∙ get_or-set_same rows k new [] low) ∙ append_assoc (slice_index_or rows k []) (i ∷ []) rest
+        ∙ ap (λ j. slice_index_or rows j [] ++ i ∷ rest) same ∙ ap (λ xs. slice_index_or rows t [] ++ xs) (ap (λ b. cond b (i ∷ rest) rest) (sym e) ∙ before) ∙ h t
+    by false e before =
+        ap (λ xs. xs ++ rest) (get_or-set_other rows k t new [] (λ same. absurd (true≢false (sym (eq-eqb k t (sym same)) ∙ e))))
+        ∙ ap (λ xs. slice_index_or rows t [] ++ xs) (ap (λ b. cond b (i ∷ rest) rest) (sym e) ∙ before) ∙ h t
 
 -- onto a row of a vector of rows
 pub dealt_next : {X : Type 0} (view : X → List ℕ) (xs : List X) (ls : List Line) (i k : ℕ) (old new : X) → k < length xs → old ≡ slice_index_or xs k old → view new ≡ view old ++ i ∷ [] → i < length ls → taker_of (line_at ls i).actor ≡ k

@@ -1,5 +1,5 @@
 -- How many lists a deferred context has finished.
-use Rattle.std.proofs.Common.{◌≡◌, refl, ℕ, ◌+◌, arith, Bool, true, false, cond, ◌&&◌, List, [], ◌∷◌, length}
+use Rattle.std.proofs.Common.{◌≡◌, ℕ, ◌+◌, arith, Bool, true, false, cond, ◌&&◌, List, [], ◌∷◌, length}
 use Rattle.std.specs.Prelude.{fold, count_by}
 use Rattle.std.proofs.lemmas.List.{length_push}
 use Rattle.std.proofs.lemmas.List.Sums.{sum_by-cons}

@@ -1,5 +1,5 @@
 -- The caller's side of the ports: which lists came from which recorder (this project's own).
-use Rattle.std.specs.Prelude.{ℕ, ◌≡◌, ◌<◌, ◌≤◌, List, [], length, All, Option, Some, None}
+use Rattle.std.specs.Prelude.{ℕ, ◌≡◌, ◌<◌, ◌≤◌, List, [], All, Option, Some, None}
 use Rattle.atomic_table.specs.Seated.{TableId}
 use Rattle.gfxspec.specs.Commands.{Command}
 use Rattle.scenetext.specs.Scene.{Line}
@@ -15,7 +15,6 @@ use Rattle.recorders.specs.Ports.{at_port, in_order}
 use Rattle.recorders.specs.Sinks.{lists_sent}
 use Rattle.recorders.specs.Apart.{listed, IsListed}
 use Rattle.recorders.specs.Recorders.{AreEnded, end_in, port_of}
-use Rattle.recorders.specs.Rows.{row}
 use Rattle.recorders.specs.Asking.{Asked}
 use Rattle.recorders.specs.Ending.{AreEnds, EndsLack}
 
@@ -91,9 +90,6 @@ module _ {A : Type 0} where
 
   abbrev pub ReceiptAgrees : Receipts A → Type 0
   ReceiptAgrees s = TakenAgrees s.lines s.taken
-
-  abbrev pub ReceiptHolds : Receipts A → ℕ → ℕ → Type 0
-  ReceiptHolds s k n = n < length (row s.rows k)
 
   abbrev pub ReceiptLacks : Receipts A → ℕ → ℕ → Type 0
   ReceiptLacks s k n = LacksBy (at_port s.recorders (port_of k)).result k n

@@ -1,7 +1,7 @@
 //! All contexts recorded first, by the caller.
 
 ghost use Rattle.std.specs.Prelude.{◌≡◌, ◌<◌, ℕ, Option, MatchOption};
-ghost use Rattle.recorders.specs.Ending.{AloneLacks, AreRecorded};
+ghost use Rattle.recorders.specs.Ending.{EndsLack, AreRecorded};
 
 use crate::context::record_lines;
 use crate::dealing::DealtLines;
@@ -34,24 +34,27 @@ impl<'a, A: Allocator> Model for RecordedLists<'a, A> {
 impl<'a, A: Allocator> RecordedLists<'a, A> {
     /// The first line that a deferred context refused. A list that was missing is not finished before it.
     pub fn first_refused(&self) -> Option<RefusedLine>
-        ensures { (missing : Option (ℕ × ℕ)) → MatchOption missing (Unit {0}) (λ name. AloneLacks self.now name.0 name.1) → AreRecorded self.now.lines result missing }
+        ensures { (missing : Option (ℕ × ℕ)) → MatchOption missing (Unit {0}) (λ name. EndsLack self.now.ends name.0 name.1) → AreRecorded self.now.lines result missing }
     {
         first_refused(&self.ends)
     }
 }
 
 impl<'a, A: Allocator> ListSource<CommandList<A>> for RecordedLists<'a, A> {
-    ghost use Rattle.recorders.specs.Ending.{alone_frame, alone_right, AloneAgrees, AloneHolds, AloneLacks};
+    ghost use Rattle.std.specs.Prelude.{◌<◌, None, length};
+    ghost use Rattle.recorders.specs.Apart.{listed};
+    ghost use Rattle.recorders.specs.Rows.{row};
+    ghost use Rattle.recorders.specs.Ending.{EndsLack};
 
-    ghost frame = { alone_frame };
+    ghost frame = { λ s. record { lines = s.lines; queue = None } };
 
-    ghost right = { alone_right };
+    ghost right = { λ s k n. listed s.lines k n };
 
-    ghost agrees = { AloneAgrees };
+    ghost agrees = { λ s. Unit {0} };
 
-    ghost holds = { AloneHolds };
+    ghost holds = { λ s k n. n < length (row s.rows k) };
 
-    ghost lacks = { AloneLacks };
+    ghost lacks = { λ s k n. EndsLack s.ends k n };
 
     fn seek(&mut self, context: u32, number: u32) -> Result<bool, AllocError> {
         if self.rows.has(context, number) {

@@ -5,7 +5,7 @@ ghost use Rattle.port.specs.History.{drain_history};
 ghost use Rattle.recorders.specs.Apart.{IsListed};
 ghost use Rattle.recorders.specs.Ports.{at_port};
 ghost use Rattle.recorders.specs.Recorders.{port_of};
-ghost use Rattle.recorders.specs.Receiving.{receipt_frame, receipt_right, ReceiptAgrees, ReceiptHolds, ReceiptLacks, AreNew, AreResults, ResultsLack, AreSameRecorders, EndsWith, IsMore};
+ghost use Rattle.recorders.specs.Receiving.{receipt_frame, ReceiptLacks, AreNew, AreResults, ResultsLack, AreSameRecorders, EndsWith, IsMore};
 
 use crate::dealing::DealtLines;
 use crate::ports::{ByPort, ListPorts, Passes, RecordedList, Returned};
@@ -128,7 +128,9 @@ impl<'a, A: Allocator + Copy, R: Threads + Wait> ReceivedLists<'a, A, R> {
 
 impl<'a, A: Allocator + Copy, R: Threads + Wait> ListSource<CommandList<A>>
     for ReceivedLists<'a, A, R> {
-    ghost use Rattle.recorders.specs.Receiving.{receipt_frame, receipt_right, ReceiptAgrees, ReceiptHolds, ReceiptLacks};
+    ghost use Rattle.std.specs.Prelude.{◌<◌, length};
+    ghost use Rattle.recorders.specs.Rows.{row};
+    ghost use Rattle.recorders.specs.Receiving.{receipt_frame, receipt_right, ReceiptAgrees, ReceiptLacks};
 
     ghost frame = { receipt_frame };
 
@@ -136,7 +138,7 @@ impl<'a, A: Allocator + Copy, R: Threads + Wait> ListSource<CommandList<A>>
 
     ghost agrees = { ReceiptAgrees };
 
-    ghost holds = { ReceiptHolds };
+    ghost holds = { λ s k n. n < length (row s.rows k) };
 
     ghost lacks = { ReceiptLacks };
 
