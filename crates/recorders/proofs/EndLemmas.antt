@@ -6,7 +6,7 @@ use Rattle.std.proofs.lemmas.List.Elements.{All-cons, All-nil, All-head, All-tai
 use Rattle.atomic_table.specs.Seated.{TableId}
 use Rattle.gfxspec.specs.Commands.{Command}
 use Rattle.scenetext.specs.Scene.{Line}
-use Rattle.port.specs.History.{PortHistory}
+use Rattle.port.specs.History.{PortHistory, DrainHistory}
 use Rattle.recorders.specs.declared.ports.Recorded.{Recorded}
 use Rattle.recorders.specs.declared.refusal.RefusedLine.{RefusedLine}
 use Rattle.recorders.specs.declared.refusal.ContextEnd.{ContextEnd}
@@ -119,8 +119,8 @@ all_ended ls a b c d p q r s = (refl, each_port (λ n. AreEnded ls n (pair_at (a
 all_four : {X : Type 0} (P : X → Type 0) (a b c d : X) → P a → P b → P c → P d → All P (a ∷ b ∷ c ∷ d ∷ [])
 all_four P a b c d p q r s = All-cons P a (b ∷ c ∷ d ∷ []) p (All-cons P b (c ∷ d ∷ []) q (All-cons P c (d ∷ []) r (All-cons P d [] s (All-nil P))))
 
-pub all_results : {A : Type 0} (ls : List Line) (queue : TableId) (a b c d : RecorderResult A) → IsResultOf ls queue 0 a → IsResultOf ls queue 1 b → IsResultOf ls queue 2 c → IsResultOf ls queue 3 d → AreResults {A = A} ls queue (record { passes = record { 0 = a.pass; 1 = b.pass; 2 = c.pass; 3 = d.pass }; ends = a.end ∷ b.end ∷ c.end ∷ d.end ∷ [] })
-all_results ls queue a b c d p q r s = record {
+pub all_results : {A : Type 0} (ls : List Line) (queue : TableId) (drain : DrainHistory (Recorded (List Command))) (a b c d : RecorderResult A) → IsResultOf ls queue 0 a → IsResultOf ls queue 1 b → IsResultOf ls queue 2 c → IsResultOf ls queue 3 d → AreResults {A = A} ls queue (record { passes = record { 0 = a.pass; 1 = b.pass; 2 = c.pass; 3 = d.pass }; ends = a.end ∷ b.end ∷ c.end ∷ d.end ∷ []; drain = drain })
+all_results ls queue drain a b c d p q r s = record {
   back = (
     (λ i. p.port_is i ∷ q.port_is i ∷ r.port_is i ∷ s.port_is i ∷ []),
     all_four (λ (h : PortHistory (Recorded (List Command))). h.queue ≡ queue) _ _ _ _ p.queue_is q.queue_is r.queue_is s.queue_is,

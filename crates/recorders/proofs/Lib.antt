@@ -1,7 +1,8 @@
 pub mod Recordings
 pub mod Made
 pub mod Growing
-pub mod Steps
 pub mod RowLemmas
+pub mod Places
+pub mod Steps
 pub mod PortLemmas
 pub mod EndLemmas

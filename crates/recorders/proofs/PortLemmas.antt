@@ -8,7 +8,7 @@ use Rattle.gfxspec.specs.Commands.{Command}
 use Rattle.scenetext.specs.Scene.{Line}
 use Rattle.port.specs.declared.submission.Submission.{Submission}
 use Rattle.port.specs.History.{DrainHistory, drain_history}
-use Rattle.recorders.specs.declared.ports.RecorderResults.{RecorderResults}
+use Rattle.recorders.specs.declared.ports.Returned.{Returned}
 use Rattle.recorders.specs.declared.ports.Recorded.{Recorded}
 use Rattle.recorders.specs.declared.recorder.RecorderResult.{RecorderResult}
 use Rattle.recorders.specs.Sinks.{Way, Sender, lists_sent, sender_lists, sender_way}
@@ -53,7 +53,7 @@ more_more a b = record { frame = b.frame ∙ a.frame; agrees = λ h. a.agrees (b
 some_same : {X : Type 0} (a b : X) → Some a ≡ Some b → a ≡ b
 some_same a b h = ap (λ o. unwrap_or o a) h
 
-pub results_for : {A : Type 0} (ls : List Line) (queue : TableId) (s : Receipts A) (results : RecorderResults A) → receipt_frame s ≡ record { lines = ls; queue = Some queue } → AreResults s.lines s.queue results → AreResults ls queue results
+pub results_for : {A : Type 0} (ls : List Line) (queue : TableId) (s : Receipts A) (results : Returned A) → receipt_frame s ≡ record { lines = ls; queue = Some queue } → AreResults s.lines s.queue results → AreResults ls queue results
 results_for ls queue s results e h =
     subst (λ q. AreResults ls q results) (some_same s.queue queue (ap (λ (x : Asked). x.queue) e)) (subst (λ xs. AreResults xs s.queue results) (ap (λ (x : Asked). x.lines) e) h)
 

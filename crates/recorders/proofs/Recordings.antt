@@ -1,11 +1,10 @@
 -- How many lists a deferred context has finished.
-use Rattle.std.proofs.Common.{◌≡◌, refl, ℕ, ◌+◌, ◌<◌, arith, Bool, true, false, cond, ◌&&◌, List, [], ◌∷◌, length}
-use Rattle.std.specs.Prelude.{fold, count_by, slice_index_or}
+use Rattle.std.proofs.Common.{◌≡◌, ℕ, ◌+◌, arith, Bool, true, false, cond, ◌&&◌, List, [], ◌∷◌, length}
+use Rattle.std.specs.Prelude.{fold, count_by}
 use Rattle.std.proofs.lemmas.List.{length_push}
 use Rattle.std.proofs.lemmas.List.Sums.{sum_by-cons}
 use Rattle.scenetext.specs.Scene.{Verb, Finish, Line}
 use Rattle.scenetext.specs.Spelling.{is_finish, is_deferred, finishes_list}
-use Rattle.recorders.specs.Lists.{list_of, current_of}
 use Rattle.recorders.specs.Recording.{Recording, nothing_recorded, with_verb, with_line, recording_of}
 
 counted : (k : ℕ) (r : Recording) (ls : List Line) → length (fold (with_line k) r ls).lists ≡ length r.lists + count_by (finishes_list k) ls
@@ -23,11 +22,3 @@ counted k r (l ∷ ls) =
 
 pub lists_counted : (k : ℕ) (earlier : List Line) → length (recording_of k earlier).lists ≡ count_by (finishes_list k) earlier
 lists_counted k earlier = let h = counted k nothing_recorded earlier in omega (arith, h)
-
--- ---- the words of lines
-
-pub current_is : (k : ℕ) (earlier : List Line) → current_of k earlier ≡ (recording_of k earlier).current
-current_is k earlier = refl
-
-pub list_is : (k n : ℕ) (earlier : List Line) → n < length (recording_of k earlier).lists → list_of k n earlier ≡ slice_index_or (recording_of k earlier).lists n []
-list_is k n earlier h = refl

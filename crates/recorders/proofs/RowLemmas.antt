@@ -31,26 +31,30 @@ added ls rows new x (Err e) ok err is h = subst (AreRows ls) (sym err) h
 pub rows_none : (ls : List Line) (rows : List (List (List Command))) → ((k : ℕ) → row rows k ≡ []) → AreRows ls rows
 rows_none ls rows none k n low = let empty = ap length (none k) in absurd (omega (arith, low, empty))
 
-pub none_push : (rows : List (List (List Command))) (k : ℕ) → row (rows ++ [] ∷ []) k ≡ row rows k
+none_push : {Y : Type 0} (rows : List (List Y)) (k : ℕ) → slice_index_or (rows ++ [] ∷ []) k [] ≡ slice_index_or rows k []
 none_push [] zero = refl
 none_push [] (suc k) = refl
 none_push (r ∷ rows) zero = refl
 none_push (r ∷ rows) (suc k) = none_push rows k
 
-pub still_none : {X Y E : Type 0} (view : X → List (List Command)) (xs ys : List X) (x : X) (r : Result Y E) → ys ≡ cond (is_ok r) (xs ++ x ∷ []) xs → view x ≡ [] → ((k : ℕ) → row (map view xs) k ≡ []) → (k : ℕ) → row (map view ys) k ≡ []
+pub still_none : {X Y Z E : Type 0} (view : X → List Y) (xs ys : List X) (x : X) (r : Result Z E) → ys ≡ cond (is_ok r) (xs ++ x ∷ []) xs → view x ≡ [] → ((k : ℕ) → slice_index_or (map view xs) k [] ≡ []) → (k : ℕ) → slice_index_or (map view ys) k [] ≡ []
 still_none view xs ys x (Ok u) is empty none k =
-    ap (λ zs. row (map view zs) k) is ∙ ap (λ rows. row rows k) (map-append view xs (x ∷ [])) ∙ ap (λ l. row (map view xs ++ l ∷ []) k) empty ∙ none_push (map view xs) k ∙ none k
-still_none view xs ys x (Err e) is empty none k = ap (λ zs. row (map view zs) k) is ∙ none k
+    ap (λ zs. slice_index_or (map view zs) k []) is ∙ ap (λ rows. slice_index_or rows k []) (map-append view xs (x ∷ [])) ∙ ap (λ l. slice_index_or (map view xs ++ l ∷ []) k []) empty ∙ none_push (map view xs) k ∙ none k
+still_none view xs ys x (Err e) is empty none k = ap (λ zs. slice_index_or (map view zs) k []) is ∙ none k
 
 -- ---- a row of a vector of rows
 
+-- an element was pushed onto it
+pub pushed : {X Y : Type 0} (view : X → List Y) (xs : List X) (k : ℕ) (y : Y) (old new : X) → k < length xs → old ≡ slice_index_or xs k old → view new ≡ view old ++ y ∷ [] → map view (set xs k new) ≡ set (map view xs) k (slice_index_or (map view xs) k [] ++ y ∷ [])
+pushed view xs k y old new low at more =
+    map-set view xs k new ∙ ap (set (map view xs) k) (more ∙ ap (λ ys. ys ++ y ∷ []) (ap view at ∙ sym (get_or-map view xs k old [] low)))
+
 -- the next list was pushed onto it
 pub put_next : {X : Type 0} (view : X → List (List Command)) (xs : List X) (now : List (List (List Command))) (x : Recorded (List Command)) (asked old new : X) → map view xs ≡ now → x.context < length xs → asked ≡ slice_index_or xs x.context asked → x.number ≡ length (view asked) → old ≡ slice_index_or xs x.context old → view new ≡ view old ++ x.list ∷ [] → IsNext now x × (map view (set xs x.context new) ≡ with_list now x.context x.list)
-put_next {X = X} view xs now x asked old new is low asked_at count at more =
-    let here = λ (o : X) (e : o ≡ slice_index_or xs x.context o). ap view e ∙ sym (get_or-map view xs x.context o [] low) in
+put_next view xs now x asked old new is low asked_at count at more =
     subst (λ rows. IsNext rows x × (map view (set xs x.context new) ≡ with_list rows x.context x.list)) is (
-      (subst (λ m. x.context < m) (sym (length-map xs view)) low, count ∙ ap length (here asked asked_at)),
-      map-set view xs x.context new ∙ ap (set (map view xs) x.context) (more ∙ ap (λ ls. ls ++ x.list ∷ []) (here old at)),
+      (subst (λ m. x.context < m) (sym (length-map xs view)) low, count ∙ ap length (ap view asked_at ∙ sym (get_or-map view xs x.context asked [] low))),
+      pushed view xs x.context x.list old new low at more,
     )
 
 pub on_err : {X Y : Type 0} {P : Type 0} (r : Result X Y) → P → OnErr r P

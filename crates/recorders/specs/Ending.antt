@@ -5,10 +5,8 @@ use Rattle.scenetext.specs.Scene.{Line}
 use Rattle.recorders.specs.declared.refusal.RefusedLine.{RefusedLine}
 use Rattle.recorders.specs.declared.refusal.ContextEnd.{ContextEnd}
 use Rattle.recorders.specs.declared.refusal.RecordingEnd.{RecordingEnd}
-use Rattle.recorders.specs.Apart.{listed, lists_behind, AcceptsTo, IsStopOf, stop_or}
+use Rattle.recorders.specs.Apart.{lists_behind, AcceptsTo, IsStopOf, stop_or}
 use Rattle.recorders.specs.Recorders.{AreEnded, end_in, port_of}
-use Rattle.recorders.specs.Rows.{row}
-use Rattle.recorders.specs.Asking.{Asked}
 
 -- the first of two refused lines in their order
 abbrev pub earlier_of : Option RefusedLine → Option RefusedLine → Option RefusedLine
@@ -61,18 +59,3 @@ pub record Alone : Type 0 where
   pub lines : List Line
   pub rows : List (List (List Command))
   pub ends : List RecordingEnd
-
-abbrev pub alone_frame : Alone → Asked
-alone_frame s = record { lines = s.lines; queue = None }
-
-abbrev pub alone_right : Alone → ℕ → ℕ → List Command
-alone_right s k n = listed s.lines k n
-
-abbrev pub AloneAgrees : Alone → Type 0
-AloneAgrees s = Unit {0}
-
-abbrev pub AloneHolds : Alone → ℕ → ℕ → Type 0
-AloneHolds s k n = n < length (row s.rows k)
-
-abbrev pub AloneLacks : Alone → ℕ → ℕ → Type 0
-AloneLacks s k n = EndsLack s.ends k n

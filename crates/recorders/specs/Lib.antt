@@ -1,4 +1,4 @@
-pub mod Lists
+pub mod Dealing
 pub mod Recording
 pub mod Calls
 pub mod Apart

@@ -1,12 +1,11 @@
 -- The caller's side of the ports: which lists came from which recorder (this project's own).
-use Rattle.std.specs.Prelude.{ℕ, ◌≡◌, ◌<◌, ◌≤◌, List, [], length, All, Option, Some, None}
+use Rattle.std.specs.Prelude.{ℕ, ◌≡◌, ◌<◌, ◌≤◌, List, [], All, Option, Some, None}
 use Rattle.atomic_table.specs.Seated.{TableId}
 use Rattle.gfxspec.specs.Commands.{Command}
 use Rattle.scenetext.specs.Scene.{Line}
 use Rattle.port.specs.declared.submission.Submission.{Submission}
 use Rattle.port.specs.History.{PortHistory, port_history, drain_history, AreAll}
 use Rattle.recorders.specs.declared.ports.Passes.{Passes}
-use Rattle.recorders.specs.declared.ports.RecorderResults.{RecorderResults}
 use Rattle.recorders.specs.declared.ports.Returned.{Returned}
 use Rattle.recorders.specs.declared.ports.ByPort.{ByPort}
 use Rattle.recorders.specs.declared.ports.Recorded.{Recorded}
@@ -16,7 +15,6 @@ use Rattle.recorders.specs.Ports.{at_port, in_order}
 use Rattle.recorders.specs.Sinks.{lists_sent}
 use Rattle.recorders.specs.Apart.{listed, IsListed}
 use Rattle.recorders.specs.Recorders.{AreEnded, end_in, port_of}
-use Rattle.recorders.specs.Rows.{row}
 use Rattle.recorders.specs.Asking.{Asked}
 use Rattle.recorders.specs.Ending.{AreEnds, EndsLack}
 
@@ -93,9 +91,6 @@ module _ {A : Type 0} where
   abbrev pub ReceiptAgrees : Receipts A → Type 0
   ReceiptAgrees s = TakenAgrees s.lines s.taken
 
-  abbrev pub ReceiptHolds : Receipts A → ℕ → ℕ → Type 0
-  ReceiptHolds s k n = n < length (row s.rows k)
-
   abbrev pub ReceiptLacks : Receipts A → ℕ → ℕ → Type 0
   ReceiptLacks s k n = LacksBy (at_port s.recorders (port_of k)).result k n
 
@@ -107,15 +102,15 @@ module _ {A : Type 0} where
   -- ---- at the end
 
   -- what the four recorders hand over
-  pub record AreResults (ls : List Line) (queue : TableId) (results : RecorderResults A) : Type 0 where
+  pub record AreResults (ls : List Line) (queue : TableId) (results : Returned A) : Type 0 where
     pub back : AreAll queue (in_order results.passes)
     pub sent : SentAgrees ls (in_order results.passes)
     pub ends : AreEnds ls results.ends
 
   -- there is no list of this number
-  abbrev pub ResultsLack : RecorderResults A → ℕ → ℕ → Type 0
+  abbrev pub ResultsLack : Returned A → ℕ → ℕ → Type 0
   ResultsLack results k n = EndsLack results.ends k n
 
   -- each pass is back, at its number, and the drain
   abbrev pub AreBack : TableId → Returned A → Type 0
-  AreBack queue r = AreAll queue (in_order r.results.passes) × (r.drain.queue ≡ queue)
+  AreBack queue r = AreAll queue (in_order r.passes) × (r.drain.queue ≡ queue)

@@ -1,60 +1,60 @@
 //! All contexts recorded first, by the caller.
 
-ghost use Rattle.std.specs.Prelude.{◌≡◌, ◌<◌, ℕ, Option, MatchOption, map};
-ghost use Rattle.scenetext.specs.Seen.{line_value};
-ghost use Rattle.recorders.specs.Ending.{AloneLacks, AreRecorded};
+ghost use Rattle.std.specs.Prelude.{◌≡◌, ◌<◌, ℕ, Option, MatchOption};
+ghost use Rattle.recorders.specs.Ending.{EndsLack, AreRecorded};
 
 use crate::context::record_lines;
+use crate::dealing::DealtLines;
 use crate::refusal::{RecordingEnd, RefusedLine, first_refused};
 use crate::rows::ListRows;
 use crate::source::ListSource;
 use cmdlist::CommandList;
-use scenetext::Line;
 use std::alloc::{AllocError, Allocator};
 use std::marker::Model;
 
 /// All deferred contexts of a scene, recorded: their lists, and the first line that one of them refused.
 #[derive(Drop)]
 pub struct RecordedLists<'a, A: Allocator> {
-    lines: &'a [Line<A>],
+    lines: &'a DealtLines<'a, A>,
     rows: ListRows<A>,
     ends: [RecordingEnd; 4],
 }
 
 impl<'a, A: Allocator> Model for RecordedLists<'a, A> {
-    ghost use Rattle.std.specs.Prelude.{map};
-    ghost use Rattle.scenetext.specs.Seen.{line_value};
     ghost use Rattle.recorders.specs.Rows.{AreRows};
     ghost use Rattle.recorders.specs.Ending.{Alone, AreEnds};
 
     ghost Value = { Alone };
 
-    ghost view = { λ s. record { lines = map line_value s.lines.now; rows = s.rows; ends = s.ends } };
+    ghost view = { λ s. record { lines = s.lines.now; rows = s.rows; ends = s.ends } };
 
-    ghost invariant = { λ s. AreRows (map line_value s.lines.now) s.rows × AreEnds (map line_value s.lines.now) s.ends };
+    ghost invariant = { λ s. AreRows s.lines.now s.rows × AreEnds s.lines.now s.ends };
 }
 
 impl<'a, A: Allocator> RecordedLists<'a, A> {
     /// The first line that a deferred context refused. A list that was missing is not finished before it.
     pub fn first_refused(&self) -> Option<RefusedLine>
-        ensures { (missing : Option (ℕ × ℕ)) → MatchOption missing (Unit {0}) (λ name. AloneLacks self.now name.0 name.1) → AreRecorded self.now.lines result missing }
+        ensures { (missing : Option (ℕ × ℕ)) → MatchOption missing (Unit {0}) (λ name. EndsLack self.now.ends name.0 name.1) → AreRecorded self.now.lines result missing }
     {
         first_refused(&self.ends)
     }
 }
 
 impl<'a, A: Allocator> ListSource<CommandList<A>> for RecordedLists<'a, A> {
-    ghost use Rattle.recorders.specs.Ending.{alone_frame, alone_right, AloneAgrees, AloneHolds, AloneLacks};
+    ghost use Rattle.std.specs.Prelude.{◌<◌, None, length};
+    ghost use Rattle.recorders.specs.Apart.{listed};
+    ghost use Rattle.recorders.specs.Rows.{row};
+    ghost use Rattle.recorders.specs.Ending.{EndsLack};
 
-    ghost frame = { alone_frame };
+    ghost frame = { λ s. record { lines = s.lines; queue = None } };
 
-    ghost right = { alone_right };
+    ghost right = { λ s k n. listed s.lines k n };
 
-    ghost agrees = { AloneAgrees };
+    ghost agrees = { λ s. Unit {0} };
 
-    ghost holds = { AloneHolds };
+    ghost holds = { λ s k n. n < length (row s.rows k) };
 
-    ghost lacks = { AloneLacks };
+    ghost lacks = { λ s k n. EndsLack s.ends k n };
 
     fn seek(&mut self, context: u32, number: u32) -> Result<bool, AllocError> {
         if self.rows.has(context, number) {
@@ -77,8 +77,11 @@ impl<'a, A: Allocator> ListSource<CommandList<A>> for RecordedLists<'a, A> {
 }
 
 /// Records all deferred contexts. This waits for nobody.
-pub fn record_alone<A: Allocator + Copy>(alloc: A, lines: &[Line<A>]) -> RecordedLists<'_, A>
-    ensures { result.lines ≡ map line_value lines.now }
+pub fn record_alone<'a, A: Allocator + Copy>(
+    alloc: A,
+    lines: &'a DealtLines<'a, A>,
+) -> RecordedLists<'a, A>
+    ensures { result.lines ≡ lines.now }
 {
     let mut kept = Vec::new(alloc);
     let ends = [

@@ -1,12 +1,13 @@
 //! A deferred context that takes its lines, and the two contexts of a recorder.
 
-ghost use Rattle.std.specs.Prelude.{◌≡◌, ◌<◌, ◌+◌, ◌^◌, OnOk, IfErr, map};
+ghost use Rattle.std.specs.Prelude.{◌≡◌, ◌<◌, ◌+◌, ◌^◌, OnOk, IfErr};
 ghost use Rattle.scenetext.specs.Seen.{actor_value, verb_value, line_value};
 ghost use Rattle.scenetext.specs.Spelling.{is_deferred};
 ghost use Rattle.recorders.specs.Taking.{starting, VerbTaken, VerbRefused, HasTaken};
 ghost use Rattle.recorders.specs.Recorders.{IsRecording};
 
 use crate::calls::take_call;
+use crate::dealing::DealtLines;
 use crate::ports::Recorded;
 use crate::refusal::{ContextEnd, RecordingEnd, RefusedLine};
 use crate::sink::ListSink;
@@ -96,18 +97,19 @@ impl<A: Allocator + Copy> ContextRecorder<A> {
 /// Takes the lines of contexts `number` and `number + 4`, and puts the lists that they finish.
 pub(crate) fn record_lines<A: Allocator + Copy, S: ListSink<CommandList<A>>>(
     alloc: A,
-    lines: &[Line<A>],
+    lines: &DealtLines<'_, A>,
     number: u32,
     sink: &mut S,
 ) -> RecordingEnd
     requires { number < 4 }
     ensures way { S.way sink.new ≡ S.way sink.old }
-    ensures recorded { IsRecording (map line_value lines.now) number (S.put_lists sink.old) (S.put_lists sink.new) result }
+    ensures recorded { IsRecording lines.now number (S.put_lists sink.old) (S.put_lists sink.new) result }
 {
     let mut first = ContextRecorder::new(alloc, number);
     let mut second = ContextRecorder::new(alloc, number + 4);
-    for place in 0..lines.len() {
-        let line = &lines[place];
+    let taker = number as usize;
+    for next in 0..lines.count(taker) {
+        let (place, line) = lines.line(taker, next);
         first.take(place, line, sink);
         second.take(place, line, sink);
     }

@@ -5,9 +5,9 @@
 //! are recorded apart, contexts k and k + 4 by one recorder, while the caller takes the lines of the immediate context and
 //! asks for lists by context and number, through `ListSource`. Lines are counted from 0 here.
 //!
-//! From a line to its context: `receive` starts a thread for each pair of contexts that has lines (`recorder::start`), and
-//! `record_alone` has none; both come to `context::record_lines`, which takes the pair's lines in one pass, up to the first
-//! that each refuses. `take_call` makes the call that a verb is on a `cmdlist::DeferredContext`; a finished list goes by the
+//! From a line to its context: `deal` goes over the lines once, and says whose each is. `receive` starts a thread for each
+//! pair of contexts that has lines (`recorder::start`), and `record_alone` has none; both come to `context::record_lines`,
+//! which takes the pair's lines in one pass, up to the first that each refuses. `take_call` makes the call that a verb is on a `cmdlist::DeferredContext`; a finished list goes by the
 //! pair's port to the caller (`sink::ListSender`), or is kept.
 //!
 //! The trick: each list carries its context and number. While threads run, nothing else is known of one that came by a
@@ -19,6 +19,7 @@
 mod alone;
 mod calls;
 mod context;
+mod dealing;
 mod ports;
 mod received;
 mod recorder;
@@ -29,6 +30,7 @@ mod source;
 
 pub use alone::{RecordedLists, record_alone};
 pub use calls::take_call;
+pub use dealing::{CALLER, DealtLines, deal};
 pub use ports::{ListPorts, Passes, Returned, open_ports, settle};
 pub use received::{ReceivedLists, receive};
 pub use recorder::RecorderSetup;

@@ -38,17 +38,11 @@ pub struct Passes<A: Allocator> {
     pub(crate) drain: DrainPass<RecordedList<A>>,
 }
 
-/// What the four joined recorders hand over: their passes, and how their contexts ended.
-#[derive(Drop)]
-pub struct RecorderResults<A: Allocator> {
-    pub(crate) passes: ByPort<ListPass<A>>,
-    pub(crate) ends: [RecordingEnd; 4],
-}
-
-/// What joined recorders hand over, and the caller's right to take.
+/// What the four joined recorders hand over, their passes and how their contexts ended, and the caller's right to take.
 #[derive(Drop)]
 pub struct Returned<A: Allocator> {
-    pub(crate) results: RecorderResults<A>,
+    pub(crate) passes: ByPort<ListPass<A>>,
+    pub(crate) ends: [RecordingEnd; 4],
     pub(crate) drain: DrainPass<RecordedList<A>>,
 }
 
@@ -71,12 +65,15 @@ pub fn settle<A: Allocator, R: Wait>(
     returned: Returned<A>,
 ) -> Option<RefusedLine>
     requires { AreBack ports.queue returned }
-    ensures agrees { (ls : List PlainLine) → AreResults ls ports.queue returned.results → TakenAgrees ls returned.drain.taken }
-    ensures refused { (ls : List PlainLine) (missing : Option (ℕ × ℕ)) → AreResults ls ports.queue returned.results
-        → MatchOption missing (Unit {0}) (λ name. name.0 < 8 → ResultsLack returned.results name.0 name.1) → AreRecorded ls result missing }
+    ensures agrees { (ls : List PlainLine) → AreResults ls ports.queue returned → TakenAgrees ls returned.drain.taken }
+    ensures refused { (ls : List PlainLine) (missing : Option (ℕ × ℕ)) → AreResults ls ports.queue returned
+        → MatchOption missing (Unit {0}) (λ name. name.0 < 8 → ResultsLack returned name.0 name.1) → AreRecorded ls result missing }
 {
-    let Returned { results, drain } = returned;
-    let RecorderResults { passes, ends } = results;
+    let Returned {
+        passes,
+        ends,
+        drain,
+    } = returned;
     let ByPort(zero, one, two, three) = passes;
     ports.drain_and_settle(rt, [zero, one, two, three], drain);
     first_refused(&ends)

@@ -1,21 +1,20 @@
 //! The lists that the recorders send, as the caller gets them.
 
-ghost use Rattle.std.specs.Prelude.{◌≡◌, ◌<◌, ℕ, All, map, Some, IfOk, MatchBool};
-ghost use Rattle.scenetext.specs.Seen.{line_value};
+ghost use Rattle.std.specs.Prelude.{◌≡◌, ◌<◌, ℕ, All, Some, IfOk, MatchBool};
 ghost use Rattle.port.specs.History.{drain_history};
 ghost use Rattle.recorders.specs.Apart.{IsListed};
 ghost use Rattle.recorders.specs.Ports.{at_port};
 ghost use Rattle.recorders.specs.Recorders.{port_of};
-ghost use Rattle.recorders.specs.Receiving.{receipt_frame, receipt_right, ReceiptAgrees, ReceiptHolds, ReceiptLacks, AreNew, AreResults, ResultsLack, AreSameRecorders, EndsWith, IsMore};
+ghost use Rattle.recorders.specs.Receiving.{receipt_frame, ReceiptLacks, AreNew, AreResults, ResultsLack, AreSameRecorders, EndsWith, IsMore};
 
-use crate::ports::{ByPort, ListPorts, Passes, RecordedList, RecorderResults, Returned};
+use crate::dealing::DealtLines;
+use crate::ports::{ByPort, ListPorts, Passes, RecordedList, Returned};
 use crate::recorder::{Recorder, RecorderSetup, start};
 use crate::refusal::RecordingEnd;
 use crate::rows::ListRows;
 use crate::source::ListSource;
 use cmdlist::CommandList;
 use port::DrainPass;
-use scenetext::Line;
 use std::alloc::{AllocError, Allocator};
 use std::marker::Model;
 use std::sync::Wait;
@@ -27,7 +26,7 @@ use workers::Gate;
 pub struct ReceivedLists<'a, A: Allocator, R: Threads + Wait> {
     rt: &'a R,
     alloc: A,
-    lines: &'a [Line<A>],
+    lines: &'a DealtLines<'a, A>,
     ports: &'a ListPorts<A>,
     drain: DrainPass<RecordedList<A>>,
     recorders: ByPort<Recorder<'a, A>>,
@@ -35,16 +34,15 @@ pub struct ReceivedLists<'a, A: Allocator, R: Threads + Wait> {
 }
 
 impl<'a, A: Allocator, R: Threads + Wait> Model for ReceivedLists<'a, A, R> {
-    ghost use Rattle.std.specs.Prelude.{◌≡◌, map};
-    ghost use Rattle.scenetext.specs.Seen.{line_value};
+    ghost use Rattle.std.specs.Prelude.{◌≡◌};
     ghost use Rattle.recorders.specs.Rows.{AreRows};
     ghost use Rattle.recorders.specs.Receiving.{Receipts, AreRecorders, TakenAgrees};
 
     ghost Value = { Receipts A };
 
-    ghost view = { λ s. record { lines = map line_value s.lines.now; queue = s.ports.now.queue; taken = s.drain.taken; recorders = s.recorders; rows = s.rows } };
+    ghost view = { λ s. record { lines = s.lines.now; queue = s.ports.now.queue; taken = s.drain.taken; recorders = s.recorders; rows = s.rows } };
 
-    ghost invariant = { λ s. (s.drain.queue ≡ s.ports.now.queue) × AreRecorders (map line_value s.lines.now) s.ports.now.queue s.recorders × (TakenAgrees (map line_value s.lines.now) s.drain.taken → AreRows (map line_value s.lines.now) s.rows) };
+    ghost invariant = { λ s. (s.drain.queue ≡ s.ports.now.queue) × AreRecorders s.lines.now s.ports.now.queue s.recorders × (TakenAgrees s.lines.now s.drain.taken → AreRows s.lines.now s.rows) };
 }
 
 /// Joins the recorder of a context, and takes the lists that it did not send, and how its contexts ended.
@@ -109,8 +107,8 @@ impl<'a, A: Allocator + Copy, R: Threads + Wait> ReceivedLists<'a, A, R> {
 
     /// Joins all recorders, and gives what they handed over.
     pub fn close(self) -> Returned<A>
-        ensures results { AreResults self.entry.lines self.entry.queue result.results }
-        ensures lacks { (k n : ℕ) → k < 8 → ReceiptLacks self.entry k n → ResultsLack result.results k n }
+        ensures results { AreResults self.entry.lines self.entry.queue result }
+        ensures lacks { (k n : ℕ) → k < 8 → ReceiptLacks self.entry k n → ResultsLack result k n }
         ensures drain { result.drain ≡ drain_history self.entry.queue self.entry.taken }
     {
         let ByPort(zero, one, two, three) = self.recorders;
@@ -120,14 +118,19 @@ impl<'a, A: Allocator + Copy, R: Threads + Wait> ReceivedLists<'a, A, R> {
         let three = three.close(self.rt);
         let passes = ByPort(zero.pass, one.pass, two.pass, three.pass);
         let ends = [zero.end, one.end, two.end, three.end];
-        let (results, drain) = (RecorderResults { passes, ends }, self.drain);
-        Returned { results, drain }
+        Returned {
+            passes,
+            ends,
+            drain: self.drain,
+        }
     }
 }
 
 impl<'a, A: Allocator + Copy, R: Threads + Wait> ListSource<CommandList<A>>
     for ReceivedLists<'a, A, R> {
-    ghost use Rattle.recorders.specs.Receiving.{receipt_frame, receipt_right, ReceiptAgrees, ReceiptHolds, ReceiptLacks};
+    ghost use Rattle.std.specs.Prelude.{◌<◌, length};
+    ghost use Rattle.recorders.specs.Rows.{row};
+    ghost use Rattle.recorders.specs.Receiving.{receipt_frame, receipt_right, ReceiptAgrees, ReceiptLacks};
 
     ghost frame = { receipt_frame };
 
@@ -135,7 +138,7 @@ impl<'a, A: Allocator + Copy, R: Threads + Wait> ListSource<CommandList<A>>
 
     ghost agrees = { ReceiptAgrees };
 
-    ghost holds = { ReceiptHolds };
+    ghost holds = { λ s k n. n < length (row s.rows k) };
 
     ghost lacks = { ReceiptLacks };
 
@@ -176,7 +179,7 @@ pub fn receive<
     passes: Passes<A>,
 ) -> ReceivedLists<'s, A, R>
     requires { AreNew setup.ports.now.queue passes }
-    ensures frame { receipt_frame result ≡ record { lines = map line_value setup.entry.lines.now; queue = Some setup.entry.ports.now.queue } }
+    ensures frame { receipt_frame result ≡ record { lines = setup.entry.lines.now; queue = Some setup.entry.ports.now.queue } }
 {
     let recorders = ByPort(
         start(scope, &setup, passes.recorders.0, 0),

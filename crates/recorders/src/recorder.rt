@@ -1,16 +1,15 @@
 //! A recorder's thread, as the caller holds it.
 
-ghost use Rattle.std.specs.Prelude.{◌≡◌, ◌<◌, [], All, map, MatchOption, IsSome};
+ghost use Rattle.std.specs.Prelude.{◌≡◌, ◌<◌, [], All, MatchOption, IsSome};
 ghost use Rattle.port.specs.History.{port_history};
-ghost use Rattle.scenetext.specs.Seen.{line_value};
 ghost use Rattle.recorders.specs.Apart.{IsListed};
 ghost use Rattle.recorders.specs.Receiving.{IsResultOf, EndsWith};
 
 use crate::context::record_lines;
+use crate::dealing::DealtLines;
 use crate::ports::{ListPass, ListPorts, RecordedList};
 use crate::refusal::RecordingEnd;
 use crate::sink::ListSender;
-use scenetext::{Actor, Line};
 use std::alloc::Allocator;
 use std::marker::Model;
 use std::mem;
@@ -25,7 +24,7 @@ pub struct RecorderSetup<'s, A: Allocator, R, G> {
     pub alloc: A,
     pub ports: &'s ListPorts<A>,
     pub gate: &'s G,
-    pub lines: &'s [Line<A>],
+    pub lines: &'s DealtLines<'s, A>,
 }
 
 /// What a recorder hands over: its pass, the lists that it did not send, and how its two contexts ended.
@@ -39,17 +38,15 @@ pub struct RecorderResult<A: Allocator> {
 /// What a recorder was asked for. Its promise is what it hands over.
 #[derive(Drop)]
 pub(crate) struct RecorderTask<'a, A: Allocator> {
-    lines: &'a [Line<A>],
+    lines: &'a DealtLines<'a, A>,
     ports: &'a ListPorts<A>,
     port: u32,
 }
 
 impl<'a, A: Allocator> Promise<RecorderResult<A>> for RecorderTask<'a, A> {
-    ghost use Rattle.std.specs.Prelude.{map};
-    ghost use Rattle.scenetext.specs.Seen.{line_value};
     ghost use Rattle.recorders.specs.Receiving.{IsResultOf};
 
-    ghost kept_by = { λ p r. IsResultOf (map line_value p.lines.now) p.ports.now.queue p.port r };
+    ghost kept_by = { λ p r. IsResultOf p.lines.now p.ports.now.queue p.port r };
 }
 
 /// A recorder's thread, or what it handed over.
@@ -61,37 +58,31 @@ pub(crate) struct Recorder<'a, A: Allocator> {
 }
 
 impl<'a, A: Allocator> Model for Recorder<'a, A> {
-    ghost use Rattle.std.specs.Prelude.{◌≡◌, None, map, MatchOption, IsSome};
-    ghost use Rattle.scenetext.specs.Seen.{line_value};
+    ghost use Rattle.std.specs.Prelude.{◌≡◌, None, MatchOption, IsSome};
     ghost use Rattle.recorders.specs.Receiving.{RecorderSeen, IsResultOf};
 
     ghost Value = { RecorderSeen A };
 
-    ghost view = { λ d. record { task = record { lines = map line_value d.task.lines.now; queue = d.task.ports.now.queue; number = d.task.port }; result = d.done } };
+    ghost view = { λ d. record { task = record { lines = d.task.lines.now; queue = d.task.ports.now.queue; number = d.task.port }; result = d.done } };
 
-    ghost invariant = { λ d. MatchOption d.thread (IsSome d.done) (λ h. (h.promise ≡ d.task) × (d.done ≡ None)) × MatchOption d.done (Unit {0}) (IsResultOf (map line_value d.task.lines.now) d.task.ports.now.queue d.task.port) };
+    ghost invariant = { λ d. MatchOption d.thread (IsSome d.done) (λ h. (h.promise ≡ d.task) × (d.done ≡ None)) × MatchOption d.done (Unit {0}) (IsResultOf d.task.lines.now d.task.ports.now.queue d.task.port) };
 }
 
 /// Takes the lines of contexts `number` and `number + 4`, and sends their lists.
 fn record_and_send<A: Allocator + Copy, R: Wait, G: Gate>(
     alloc: A,
-    lines: &[Line<A>],
+    lines: &DealtLines<'_, A>,
     sender: ListSender<'_, A, R, G>,
     number: u32,
 ) -> RecorderResult<A>
     requires sender { sender ≡ record { queue = sender.queue; port = number; sent = []; kept = [] } }
     requires number { number < 4 }
-    ensures { IsResultOf (map line_value lines.now) sender.entry.queue number result }
+    ensures { IsResultOf lines.now sender.entry.queue number result }
 {
     let mut sender = sender;
     let end = record_lines(alloc, lines, number, &mut sender);
     let ListSender { pass, kept, .. } = sender;
     RecorderResult { pass, kept, end }
-}
-
-/// Whether a line is of one of the contexts of a recorder.
-fn has_lines<A: Allocator>(lines: &[Line<A>], number: u32) -> bool {
-    lines.iter().any(|line| matches!(line.actor, Actor::Deferred(context) if context % 4 == number))
 }
 
 /// Starts a recorder. Where it has no lines, or no thread starts, the caller records.
@@ -109,7 +100,7 @@ pub(crate) fn start<
 ) -> Recorder<'s, A>
     requires pass { pass ≡ port_history setup.now.ports.now.queue port [] }
     requires port { port < 4 }
-    ensures { result.task ≡ record { lines = map line_value setup.now.lines.now; queue = setup.now.ports.now.queue; number = port } }
+    ensures { result.task ≡ record { lines = setup.now.lines.now; queue = setup.now.ports.now.queue; number = port } }
 {
     let (alloc, ports, lines) = (setup.alloc, setup.ports, setup.lines);
     let sender = ListSender {
@@ -121,7 +112,7 @@ pub(crate) fn start<
     };
     let task = RecorderTask { lines, ports, port };
     let promise = RecorderTask { ..task };
-    if !has_lines(lines, port) {
+    if lines.count(port as usize) == 0 {
         let done = Some(record_and_send(alloc, lines, sender, port));
         let thread = None;
         return Recorder { task, thread, done };

@@ -1,6 +1,6 @@
 //! The lists of the eight contexts that are here.
 
-ghost use Rattle.std.specs.Prelude.{◌≡◌, ◌<◌, ℕ, [], List, length, OnOk, OnErr, MatchBool, All, slice_index_or};
+ghost use Rattle.std.specs.Prelude.{◌≡◌, ◌<◌, ℕ, [], List, length, map, OnOk, OnErr, MatchBool, All, slice_index_or};
 ghost use Rattle.scenetext.specs.Scene.{Line as PlainLine};
 ghost use Rattle.recorders.specs.Apart.{IsListed};
 ghost use Rattle.recorders.specs.Rows.{AreRows, IsNext, row, with_list};
@@ -71,14 +71,23 @@ impl<A: Allocator> ListRows<A> {
     }
 }
 
+/// So many empty rows, or as many as there is memory for.
+pub(crate) fn empty_rows<T: Drop, A: Allocator + Copy>(alloc: A, count: usize) -> Vec<Vec<T, A>, A>
+    ensures { (k : ℕ) → slice_index_or (map (λ row. row.items) result.items) k [] ≡ [] }
+{
+    let mut rows = Vec::new(alloc);
+    for _ in 0..count {
+        let _ = rows.push(Vec::new(alloc));
+    }
+    rows
+}
+
 impl<A: Allocator + Copy> ListRows<A> {
     pub(crate) fn new(alloc: A) -> Self
         ensures { (k : ℕ) → row result k ≡ [] }
     {
-        let mut rows = Vec::new(alloc);
-        for _ in 0..8 {
-            let _ = rows.push(Vec::new(alloc));
+        ListRows {
+            rows: empty_rows(alloc, 8),
         }
-        ListRows { rows }
     }
 }

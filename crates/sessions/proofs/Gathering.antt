@@ -1,5 +1,5 @@
 -- Executions that are taken together, line by line.
-use Rattle.std.proofs.Common.{◌≡◌, ◌∙◌, ap, sym, subst, refl, arith, ℕ, ◌+◌, ◌<◌, ◌≤◌, true, List, [], ◌∷◌, ◌++◌, length, take, below_more, None}
+use Rattle.std.proofs.Common.{◌≡◌, ◌∙◌, ap, sym, subst, refl, arith, ℕ, ◌+◌, ◌<◌, ◌≤◌, true, List, [], ◌∷◌, ◌++◌, take}
 use Rattle.std.proofs.lemmas.List.{take_more}
 use Rattle.gfxspec.specs.declared.geometry.Size.{Size}
 use Rattle.gfxspec.specs.Items.{Item, after_items}
@@ -12,51 +12,53 @@ use Rattle.meaning.specs.Standing.{Stands}
 use Rattle.meaning.proofs.Contexts.{shows, stands_executed}
 use Rattle.tileblock.specs.Surface.{pixel_of}
 use Rattle.scenetext.specs.Scene.{Immediate, Execute, Verb, Line}
-use Rattle.scenetext.specs.Spelling.{is_immediate_actor, IsVerb, AreLines}
-use Rattle.recorders.specs.Lists.{list_of}
-use Rattle.recorders.specs.Apart.{a_line, line_at}
+use Rattle.scenetext.specs.Spelling.{IsVerb, AreLines}
+use Rattle.recorders.specs.Apart.{a_line, line_at, listed}
 use Rattle.immediate.specs.Held.{Held, context_of, outputs_of}
 use Rattle.immediate.specs.Outputs.{performed_over}
 use Rattle.immediate.specs.Batched.{HasExecuted, executed_items}
 use Rattle.immediate.proofs.Drawn.{none_open, answers_stay, run_behind}
 use Rattle.sessions.specs.Lists.{actor_steps, steps_of}
 use Rattle.sessions.specs.Answers.{answer_of, refusal}
-use Rattle.sessions.specs.Playing.{ListsOf, ImmediateAccepts, IsTold, HasReached}
+use Rattle.sessions.specs.Playing.{own_count, own_place, ListsOf, ImmediateAccepts, IsTold, HasReached}
 use Rattle.binner.specs.declared.compiling.Compiling.{Compiling}
 use Rattle.binner.specs.Compiling.{HasCompiled}
-use Rattle.sessions.specs.Gathering.{IsKept, with_items, Follows, AreGathered, HasGoneOn}
+use Rattle.sessions.specs.Gathering.{ExecutesAndKeeps, IsKept, with_items, Follows, AreGathered, HasGoneOn}
 use Rattle.sessions.proofs.Played.{steps_of-push}
-use Rattle.sessions.proofs.Steps.{is_line, told_none, IsNext, executed_list}
+use Rattle.sessions.proofs.Steps.{told_none, accepts_more, ArePassed, IsNext, next_line, executed_list}
 
 -- its list is one of the eight contexts'
-pub names_one : (ls : List Line) (i : ℕ) (l : Line) (k n : ℕ) → IsNext ls i l → l.verb ≡ Execute k n true → k < 8
-names_one ls i l k n next at = (subst IsVerb at next.is.verb).0
+pub names_one : (ls : List Line) (n k m : ℕ) → AreLines [] ls → ExecutesAndKeeps ls n k m → k < 8
+names_one ls n k m sound at = (subst IsVerb at.1 (next_line ls n _ sound at.0 refl).is.verb).0
 
-pub turned : (l : Line) (v : Verb) → l.actor ≡ Immediate → l.verb ≡ v → l ≡ record { actor = Immediate; verb = v }
+turned : (l : Line) (v : Verb) → l.actor ≡ Immediate → l.verb ≡ v → l ≡ record { actor = Immediate; verb = v }
 turned l v a e = rw (a, e) refl
 
 -- ---- one more line
 
-module _ {agrees : Type 0} (size : Size) (ls : List Line) (i : ℕ) (h : Held) (text : List ℕ) (w : ℕ → ℕ → List Command) (list : List Command) (sound : AreLines [] ls) (right : ListsOf ls w) (kept : IsKept agrees w ls i list) (ok : agrees) (accepted : ImmediateAccepts size ls i) (told : IsTold size ls i text) where
+follows_on : (size : Size) (ls : List Line) (i j : ℕ) (h : Held) (is : List Item) (text : List ℕ) → ArePassed size ls i j → Follows size ls i h is text → Follows size ls j h is text
+follows_on size ls i j h is text p f =
+    record { stands = subst (λ ss. Stands size ss (with_items h is)) p.steps f.stands; accepted = p.accepts f.accepted; told = p.told text f.told }
+
+module _ {agrees : Type 0} (size : Size) (ls : List Line) (n : ℕ) (h : Held) (text : List ℕ) (w : ℕ → ℕ → List Command) (list : List Command) (sound : AreLines [] ls) (right : ListsOf ls w) (kept : IsKept agrees w ls n list) (ok : agrees) (accepted : ImmediateAccepts size ls (own_place ls n)) (told : IsTold size ls (own_place ls n) text) where
   -- of a context that shows these items, drawn on what is held
-  pub one_follows : (c : Context) (js : List Item) → Stands size (steps_of (take i ls)) c → queries_open c.pending ≡ [] → after_finish true c.pending ≡ after_finish true h.pending → ((x y : ℕ) → shown c x y ≡ after_items js x y (pixel_of h.surface x y)) → ((q : ℕ) → answered size c q ≡ result_at h.results q) → issues list ≡ [] → Follows size ls (i + 1) h (js ++ items (performed_over (outputs_of h) list)) text
+  pub one_follows : (c : Context) (js : List Item) → Stands size (steps_of (take (own_place ls n) ls)) c → queries_open c.pending ≡ [] → after_finish true c.pending ≡ after_finish true h.pending → ((x y : ℕ) → shown c x y ≡ after_items js x y (pixel_of h.surface x y)) → ((q : ℕ) → answered size c q ≡ result_at h.results q) → issues list ≡ [] → Follows size ls (own_place ls (n + 1)) h (js ++ items (performed_over (outputs_of h) list)) text
   one_follows c js stands closed same shows_items answers none =
+      let i : ℕ = own_place ls n in
       let steps : List Step = steps_of (take i ls) in
-      let next : IsNext ls i (line_at ls i) = record { here = refl; below = kept.inside; is = is_line ls i kept.inside sound } in
-      let execution : list ≡ list_of kept.context kept.number (take i ls) =
-      kept.named ok ∙ executed_list ls i (line_at ls i) next w right kept.context kept.number true (ap (λ (m : Line). m.verb) kept.line) in
+      let next : IsNext ls n (line_at ls i) = next_line ls n (line_at ls i) sound kept.executes.0 refl in
+      let line = turned (line_at ls i) _ next.own kept.executes.1 in
+      let execution : list ≡ listed (take i ls) kept.context kept.number = kept.named ok ∙ executed_list ls n (line_at ls i) next w right kept.context kept.number true kept.executes.1 in
       let all : List Item = js ++ items (performed_over (outputs_of h) list) in
-      record {
+      follows_on size ls (i + 1) (own_place ls (n + 1)) h all text (next.on size) record {
         stands =
             subst (λ ss. Stands size ss (with_items h all))
-            (ap (λ x. steps ++ Executes x true ∷ []) execution ∙ ap (λ (m : Line). steps ++ actor_steps (take i ls) m.actor m.verb) (sym kept.line)
-            ∙ sym (steps_of-push (take i ls) (line_at ls i)) ∙ ap steps_of (sym (take_more ls i a_line kept.inside)))
+            (ap (λ x. steps ++ Executes x true ∷ []) execution ∙ ap (λ (m : Line). steps ++ actor_steps (take i ls) m.actor m.verb) (sym line)
+            ∙ sym (steps_of-push (take i ls) (line_at ls i)) ∙ ap steps_of (sym (take_more ls i a_line next.below)))
             (subst (λ (p : List Command). Stands size (steps ++ Executes list true ∷ []) record { stored = λ x y. after_items all x y (pixel_of h.surface x y); results = h.results; pending = p }) same
             (stands_executed size steps c stands list true _ closed kept.none_open kept.accepted (run_behind size h c js shows_items answers list true kept.accepted none)));
-        accepted =
-            below_more (λ j. is_immediate_actor (line_at ls j).actor ≡ true → refusal size (take j ls) (line_at ls j) ≡ None) i accepted
-            (λ o. ap (refusal size (take i ls)) kept.line ∙ ap (λ q. first_row (flush_rows q)) (sym (shows size steps c stands).queries ∙ closed));
-        told = told_none size ls i text kept.inside told (ap (λ (m : Line). answer_of size (take i ls) m.verb) kept.line);
+        accepted = accepts_more size ls i accepted (λ o. ap (refusal size (take i ls)) line ∙ ap (λ q. first_row (flush_rows q)) (sym (shows size steps c stands).queries ∙ closed));
+        told = told_none size ls i text next.below told (ap (answer_of size (take i ls)) kept.executes.1);
       }
 
 -- ---- the run
@@ -91,7 +93,7 @@ module _ {A : Type 0} (agrees : Type 0) (ls : List Line) (from : ℕ) (h : Held)
   pub first_gathered : (list : List Command) (e : Compiling A) → IsKept agrees w ls from list → issues list ≡ [] → issues h.pending ≡ [] → e.lists.size ≡ h.surface.size → HasCompiled e (executed_items h list) → AreGathered agrees ls from (from + 1) h e
   first_gathered list e kept none unissued size means = record {
     start = omega arith;
-    end = more_inside from (length ls) kept.inside;
+    end = more_inside from (own_count ls) kept.executes.0;
     size = size;
     items = executed_items h list;
     compiled = means;
@@ -102,7 +104,7 @@ module _ {A : Type 0} (agrees : Type 0) (ls : List Line) (from : ℕ) (h : Held)
   pub one_gathered : (i : ℕ) (list : List Command) (e f : Compiling A) → IsKept agrees w ls i list → issues list ≡ [] → AreGathered agrees ls from i h e → f.lists.size ≡ h.surface.size → ((is : List Item) → HasCompiled e is → HasCompiled f (is ++ items (performed_over (outputs_of h) list))) → AreGathered agrees ls from (i + 1) h f
   one_gathered i list e f kept none g size means = record {
     start = later from i g.start;
-    end = more_inside i (length ls) kept.inside;
+    end = more_inside i (own_count ls) kept.executes.0;
     size = size;
     items = g.items ++ items (performed_over (outputs_of h) list);
     compiled = means g.items g.compiled;
@@ -117,12 +119,12 @@ gone_on agrees ls from to h d e g c same ran = record {
   start = g.start;
   end = λ p. g.end;
   reached = λ ok size text r.
-      all_follow size ls to h d text g.items r.played.size_is (subst (λ (x : Held). HasExecuted g.items x d) same (ran g.items g.compiled)) (g.follows ok size text r);
+      all_follow size ls (own_place ls to) h d text g.items r.played.size_is (subst (λ (x : Held). HasExecuted g.items x d) same (ran g.items g.compiled)) (g.follows ok size text r);
 }
 
 pub stays : (agrees : Type 0) (ls : List Line) (from : ℕ) (h d : Held) → d ≡ h → HasGoneOn agrees ls from from h d
 stays agrees ls from h d same = record {
   start = omega arith;
   end = λ p. p;
-  reached = λ ok size text r. subst (λ x. HasReached size ls from x text) (sym same) r;
+  reached = λ ok size text r. subst (λ x. HasReached size ls (own_place ls from) x text) (sym same) r;
 }

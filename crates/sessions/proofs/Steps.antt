@@ -1,35 +1,35 @@
 -- Lines that are accepted and answered, one by one, and one more line of the immediate context.
-use Rattle.std.proofs.Common.{◌≡◌, ◌≢◌, ◌∙◌, ap, sym, subst, refl, ℕ, ◌+◌, ◌<◌, ◌≤◌, inl, inr, ⊎_elim, arith, Bool, true, false, true≢false, List, [], ◌∷◌, ◌++◌, length, take, map, get_or, below_more, None, Option, zero, suc, ◌-◌, drop, append_assoc}
-use Rattle.std.specs.Prelude.{Err, option_to_list, if◌then◌else◌}
+use Rattle.std.proofs.Common.{◌≡◌, ◌∙◌, ap, sym, subst, refl, ℕ, ◌+◌, ◌<◌, ◌≤◌, inl, inr, ⊎_elim, arith, Bool, true, false, true≢false, List, [], ◌∷◌, ◌++◌, length, take, map, get_or, below_more, None, Option, zero, suc, ◌-◌, ◌%◌, ◌==◌, drop, append_assoc}
+use Rattle.std.specs.Prelude.{Result, Ok, Err, IfErr, if◌then◌else◌}
 use Rattle.std.proofs.lemmas.List.{length-map, take_more, append-nil, get_or-map, length-append}
 use Rattle.gfxspec.specs.declared.geometry.Size.{Size}
 use Rattle.gfxspec.specs.declared.error.GfxError.{GfxError}
-use Rattle.gfxspec.specs.declared.error.GfxError.TheVariants.{OutOfMemory}
 use Rattle.gfxspec.specs.Commands.{Command}
 use Rattle.gfxspec.specs.Refusals.{first_row}
-use Rattle.meaning.specs.Standing.{IsNew}
+use Rattle.meaning.specs.Standing.{Stands, IsNew}
 use Rattle.meaning.proofs.Contexts.{stands_new}
-use Rattle.scenetext.specs.declared.scene.Actor as code_actor
-use Rattle.scenetext.specs.declared.scene.Actor.TheVariants as actors
-use Rattle.scenetext.specs.Seen.{actor_value, verb_value}
-use Rattle.scenetext.specs.Scene.{Immediate, Deferred, Verb, Call, Flush, Execute, Query, Pixel, Line}
+use Rattle.scenetext.specs.Seen.{verb_value}
+use Rattle.scenetext.specs.Scene.{Actor, Immediate, Deferred, Verb, Call, Flush, Execute, Query, Pixel, Line}
 use Rattle.scenetext.specs.Spelling.{is_immediate_actor, may_take, HasList, IsLine, AreLines}
-use Rattle.recorders.specs.Lists.{list_of}
 use Rattle.recorders.specs.Recording.{recording_of}
-use Rattle.recorders.specs.Apart.{a_line, line_at, Cause}
-use Rattle.recorders.proofs.Recordings.{list_is, lists_counted}
+use Rattle.recorders.specs.Apart.{a_line, line_at, listed, Cause}
+use Rattle.recorders.proofs.Recordings.{lists_counted}
 use Rattle.recorders.proofs.Growing.{listed_early}
+use Rattle.recorders.specs.Dealing.{taker_of}
+use Rattle.recorders.proofs.Places.{IsFirst, first_place, next_place}
 use Rattle.recorders.specs.Calls.{TakesCall}
 use Rattle.immediate.specs.Held.{Held, context_of, held_more}
 use Rattle.sessions.specs.declared.play.Interruption.{Interruption}
 use Rattle.sessions.specs.declared.play.Interruption.TheVariants.{Refused}
-use Rattle.sessions.specs.Lists.{actor_steps}
+use Rattle.sessions.specs.Lists.{actor_steps, steps_of}
 use Rattle.answers.specs.declared.line.Answer.{Answer}
 use Rattle.answers.specs.Lines.{answer_lines, answer_line}
 use Rattle.sessions.specs.Answers.{answer_of, line_rows, refusal, answers_behind, answers_or, answers_from}
-use Rattle.sessions.specs.Playing.{IsPlayed, ListsOf, ImmediateAccepts, HasReached, IsInterrupted, IsTold}
+use Rattle.sessions.specs.Playing.{own_count, own_place, IsPlayed, ListsOf, ImmediateAccepts, HasReached, IsInterrupted, IsTold}
 use Rattle.sessions.specs.Taking.{held_rows, HasTaken, held_answers, Interrupts}
-use Rattle.sessions.proofs.Played.{rows_are, played_elsewhere, next_played, answers_are}
+use Rattle.sessions.proofs.Played.{steps_of-push, rows_are, next_played, answers_are}
+use Rattle.std.proofs.lemmas.Bool.{eqb-true}
+use Rattle.std.proofs.Math.Nat.{mod-lt}
 use Rattle.std.proofs.lemmas.List.Concat.{flat_map-append}
 use Rattle.std.proofs.Math.Seq.{take-add, take-append_seam}
 use Rattle.scenetext.specs.declared.scene.Verb as code_verb
@@ -115,103 +115,144 @@ accepted_from size e (l ∷ ls) (suc i) few none =
     ∙ sym (append_assoc first (answers_behind size (e ++ l ∷ []) (take i ls)) _)
     ∙ ap (λ x. (first ++ answers_behind size (e ++ l ∷ []) (take i ls)) ++ answers_from size x (drop i ls)) (append_assoc e (l ∷ []) (take i ls))
 
--- line i of the scene is this
-pub record IsNext (ls : List Line) (i : ℕ) (l : Line) : Type 0 where
-  pub here : l ≡ line_at ls i
-  pub below : i < length ls
-  pub is : IsLine (take i ls) l
+pub accepts_more : (size : Size) (ls : List Line) (i : ℕ) → ImmediateAccepts size ls i → (is_immediate_actor (line_at ls i).actor ≡ true → refusal size (take i ls) (line_at ls i) ≡ None) → ImmediateAccepts size ls (i + 1)
+accepts_more size ls i h one = below_more (λ j. is_immediate_actor (line_at ls j).actor ≡ true → refusal size (take j ls) (line_at ls j) ≡ None) i h one
 
-pub next_line : {X : Type 0} (f : X → Line) (xs : List X) (i : ℕ) (x : X) → AreLines [] (map f xs) → i < length xs → x ≡ get_or xs i x → IsNext (map f xs) i (f x)
-next_line f xs i x sound below at =
-    let inside : i < length (map f xs) = subst (λ n. i < n) (sym (length-map xs f)) below in
-    let here = line_is f xs i x below at in
-    record { here = here; below = inside; is = subst (IsLine (take i (map f xs))) (sym here) (is_line (map f xs) i inside sound) }
+-- ---- lines of others
+
+-- a context of the caller's, or another's
+own_actor : (a : Actor) → (taker_of a == 4) ≡ true → a ≡ Immediate
+own_actor Immediate own = refl
+own_actor (Deferred k) own = let low : k % 4 < 4 = mod-lt k (omega arith) in absurd (omega (arith, low, eqb-true (k % 4) 4 own))
+
+other_actor : (a : Actor) → (taker_of a == 4) ≡ false → (k : ℕ) × (a ≡ Deferred k)
+other_actor Immediate other = absurd cc
+other_actor (Deferred k) other = (k, refl)
+
+-- lines from i to j that change nothing for the immediate context
+pub record ArePassed (size : Size) (ls : List Line) (i j : ℕ) : Type 0 where
+  pub steps : steps_of (take i ls) ≡ steps_of (take j ls)
+  pub accepts : ImmediateAccepts size ls i → ImmediateAccepts size ls j
+  pub told : (text : List ℕ) → IsTold size ls i text → IsTold size ls j text
+
+module _ (size : Size) (ls : List Line) (sound : AreLines [] ls) where
+  silent : (e : List Line) (v : Verb) → may_take v false ≡ true → answer_of size e v ≡ []
+  silent e (Query q) may = absurd (true≢false (sym may))
+  silent e (Pixel x y) may = absurd (true≢false (sym may))
+  silent e v may = refl
+
+  one_passed : (i k : ℕ) → i < length ls → (line_at ls i).actor ≡ Deferred k → ArePassed size ls i (i + 1)
+  one_passed i k below other = record {
+    steps =
+        sym (ap steps_of (take_more ls i a_line below) ∙ steps_of-push (take i ls) (line_at ls i)
+        ∙ ap (λ a. steps_of (take i ls) ++ actor_steps (take i ls) a (line_at ls i).verb) other ∙ append-nil (steps_of (take i ls)));
+    accepts = λ h. accepts_more size ls i h (λ own. absurd (true≢false (sym own ∙ ap is_immediate_actor other)));
+    told = λ text h.
+        told_none size ls i text below h (silent (take i ls) (line_at ls i).verb (ap (λ a. may_take (line_at ls i).verb (is_immediate_actor a)) (sym other) ∙ (is_line ls i below sound).taken));
+  }
+
+  all_passed : (i d : ℕ) → i + d ≤ length ls → ((m : ℕ) → i ≤ m → m < i + d → (taker_of (line_at ls m).actor == 4) ≡ false) → ArePassed size ls i (i + d)
+  all_passed i zero low others = let none : i ≡ i + 0 = omega arith in subst (ArePassed size ls i) none record { steps = refl; accepts = λ h. h; told = λ text h. h }
+  all_passed i (suc d) low others =
+      let before = all_passed i d (omega (arith, low)) (λ m p q. others m p (omega (arith, q))) in
+      let other = other_actor (line_at ls (i + d)).actor (others (i + d) (omega arith) (omega arith)) in
+      let one = one_passed (i + d) other.0 (omega (arith, low)) other.1 in
+      let more : i + d + 1 ≡ i + suc d = omega arith in
+      subst (ArePassed size ls i) more record { steps = before.steps ∙ one.steps; accepts = λ h. one.accepts (before.accepts h); told = λ text h. one.told text (before.told text h) }
+
+  pub passed : (i j : ℕ) → IsFirst ls 4 i j → ArePassed size ls i j
+  passed i j first =
+      let sum : i + (j - i) ≡ j = omega (arith, first.start) in
+      subst (ArePassed size ls i) sum (all_passed i (j - i) (omega (arith, sum, first.within)) (λ m p low. first.others m p (omega (arith, sum, low))))
+
+pub reached_on : (size : Size) (ls : List Line) (i j : ℕ) (c : Held) (text : List ℕ) → ArePassed size ls i j → HasReached size ls i c text → HasReached size ls j c text
+reached_on size ls i j c text p h = record {
+  played = record { size_is = h.played.size_is; stands = subst (λ ss. Stands size ss (context_of c)) p.steps h.played.stands };
+  accepted = p.accepts h.accepted;
+  told = p.told text h.told;
+}
+
+-- line n of the immediate context is this
+pub record IsNext (ls : List Line) (n : ℕ) (l : Line) : Type 0 where
+  pub here : l ≡ line_at ls (own_place ls n)
+  pub below : own_place ls n < length ls
+  pub is : IsLine (take (own_place ls n) ls) l
+  pub own : l.actor ≡ Immediate
+  pub on : (size : Size) → ArePassed size ls (own_place ls n + 1) (own_place ls (n + 1))
+
+pub next_line : (ls : List Line) (n : ℕ) (l : Line) → AreLines [] ls → n < own_count ls → l ≡ line_at ls (own_place ls n) → IsNext ls n l
+next_line ls n l sound low here =
+    let place = next_place ls 4 n low in
+    record {
+      here = here;
+      below = place.inside;
+      is = subst (IsLine (take (own_place ls n) ls)) (sym here) (is_line ls (own_place ls n) place.inside sound);
+      own = ap (λ (m : Line). m.actor) here ∙ own_actor (line_at ls (own_place ls n)).actor place.own;
+      on = λ size. passed size ls sound _ _ place.next;
+    }
 
 -- the list that an execution names
-pub executed_list : (ls : List Line) (i : ℕ) (l : Line) → IsNext ls i l → (w : ℕ → ℕ → List Command) → ListsOf ls w → (k n : ℕ) (restore : Bool) → l.verb ≡ Execute k n restore → w k n ≡ list_of k n (take i ls)
-executed_list ls i l next w right k n restore at =
+pub executed_list : (ls : List Line) (j : ℕ) (l : Line) → IsNext ls j l → (w : ℕ → ℕ → List Command) → ListsOf ls w → (k n : ℕ) (restore : Bool) → l.verb ≡ Execute k n restore → w k n ≡ listed (take (own_place ls j) ls) k n
+executed_list ls j l next w right k n restore at =
+    let i = own_place ls j in
     let has : HasList (take i ls) (Execute k n restore) = subst (HasList (take i ls)) at next.is.has_list in
     let few : n < length (recording_of k (take i ls)).lists = subst (λ m. n < m) (sym (lists_counted k (take i ls))) has in
-    right k n ∙ listed_early k i n ls few ∙ sym (list_is k n (take i ls) few)
+    right k n ∙ listed_early k i n ls few
 
 -- ---- one more line
 
-module _ (size : Size) (ls : List Line) (i : ℕ) (l : Line) (c : Held) (text : List ℕ) (next : IsNext ls i l) (h : HasReached size ls i c text) where
+module _ (size : Size) (ls : List Line) (n : ℕ) (l : Line) (c : Held) (text : List ℕ) (next : IsNext ls n l) (h : HasReached size ls (own_place ls n) c text) where
+  abbrev i : ℕ
+  i = own_place ls n
+
   here : l ≡ line_at ls i
   here = next.here
 
   below : i < length ls
   below = next.below
 
-  more : take i ls ++ l ∷ [] ≡ take (i + 1) ls
-  more = ap (λ m. take i ls ++ m ∷ []) here ∙ sym (take_more ls i a_line below)
+  turned : record { actor = Immediate; verb = l.verb } ≡ l
+  turned = ap (λ a. record { actor = a; verb = l.verb }) (sym next.own)
 
-  accepts_more : (is_immediate_actor (line_at ls i).actor ≡ true → refusal size (take i ls) (line_at ls i) ≡ None) → ImmediateAccepts size ls (i + 1)
-  accepts_more one = below_more (λ j. is_immediate_actor (line_at ls j).actor ≡ true → refusal size (take j ls) (line_at ls j) ≡ None) i h.accepted one
+  refusal_is : refusal size (take i ls) (line_at ls i) ≡ first_row (held_rows c l.verb)
+  refusal_is =
+      ap (refusal size (take i ls)) (sym here) ∙ ap (λ a. first_row (line_rows size (take i ls) a l.verb)) next.own
+      ∙ sym (rows_are size (take i ls) c h.played l.verb)
 
-  -- a line of another context
-  pub reached_other : (k : ℕ) → l.actor ≡ Deferred k → HasReached size ls (i + 1) c text
-  reached_other k other = record {
-    played = subst (λ x. IsPlayed size x c) more (played_elsewhere size (take i ls) c h.played l (ap (λ a. actor_steps (take i ls) a l.verb) other));
-    accepted = accepts_more (λ own. absurd (true≢false (sym own ∙ ap (λ (m : Line). is_immediate_actor m.actor) (sym here) ∙ ap is_immediate_actor other)));
-    told = told_none size ls i text below h.told (ap (λ (m : Line). answer_of size (take i ls) m.verb) (sym here) ∙ silent l.verb (ap (λ a. may_take l.verb (is_immediate_actor a)) (sym other) ∙ next.is.taken));
-  }
-    where
-      silent : (v : Verb) → may_take v false ≡ true → answer_of size (take i ls) v ≡ []
-      silent (Query q) may = absurd (true≢false (sym may))
-      silent (Pixel x y) may = absurd (true≢false (sym may))
-      silent v may = refl
+  pub reached_next : (w : ℕ → ℕ → List Command) (d : Held) (new : List ℕ) → ListsOf ls w → first_row (held_rows c l.verb) ≡ None → HasTaken w l.verb c d → new ≡ text ++ answer_lines (held_answers l.verb c) → HasReached size ls (own_place ls (n + 1)) d new
+  reached_next w d new right none took grown =
+      let step = next_played size (take i ls) c h.played w l.verb d (executed_list ls n l next w right) next.is.verb none took in
+      let says = answers_are size (take i ls) c h.played l.verb none in
+      reached_on size ls (i + 1) (own_place ls (n + 1)) d new (next.on size) record {
+        played = subst (λ x. IsPlayed size x d) (ap (λ m. take i ls ++ m ∷ []) (turned ∙ here) ∙ sym (take_more ls i a_line below)) step;
+        accepted = accepts_more size ls i h.accepted (λ o. refusal_is ∙ none);
+        told = told_more size ls i text new (held_answers l.verb c) below h.told (ap (λ (m : Line). answer_of size (take i ls) m.verb) (sym here) ∙ says) grown;
+      }
 
-  module _ (own : l.actor ≡ Immediate) where
-    turned : record { actor = Immediate; verb = l.verb } ≡ l
-    turned = ap (λ a. record { actor = a; verb = l.verb }) (sym own)
-
-    refusal_is : refusal size (take i ls) (line_at ls i) ≡ first_row (held_rows c l.verb)
-    refusal_is =
-        ap (refusal size (take i ls)) (sym here) ∙ ap (λ a. first_row (line_rows size (take i ls) a l.verb)) own
-        ∙ sym (rows_are size (take i ls) c h.played l.verb)
-
-    pub reached_next : (w : ℕ → ℕ → List Command) (d : Held) (reply : Option Answer) (new : List ℕ) → ListsOf ls w → first_row (held_rows c l.verb) ≡ None → HasTaken w l.verb c d → option_to_list reply ≡ held_answers l.verb c → new ≡ text ++ answer_lines (option_to_list reply) → HasReached size ls (i + 1) d new
-    reached_next w d reply new right none took answer grown =
-        let step = next_played size (take i ls) c h.played w l.verb d (executed_list ls i l next w right) next.is.verb none took in
-        let says = answers_are size (take i ls) c h.played l.verb none in
-        record {
-          played = subst (λ x. IsPlayed size x d) (ap (λ m. take i ls ++ m ∷ []) turned ∙ more) step;
-          accepted = accepts_more (λ o. refusal_is ∙ none);
-          told = told_more size ls i text new (option_to_list reply) below h.told (ap (λ (m : Line). answer_of size (take i ls) m.verb) (sym here) ∙ says ∙ sym answer) grown;
-        }
-
-    pub interrupted : (why : Interruption) → Interrupts (first_row (held_rows c l.verb)) l.verb why → IsInterrupted size ls i why text
-    interrupted why cause = record {
-      below = omega (arith, below);
-      accepted = h.accepted;
-      told = h.told;
-      cause = subst (λ (m : Line). Interrupts (refusal size (take i ls) (line_at ls i)) m.verb why) here (subst (λ o. Interrupts o l.verb why) (sym refusal_is) cause);
-    }
-
-  -- memory was refused for its answer
-  pub untold : (new : List ℕ) (why : Interruption) → why ≡ Refused OutOfMemory → new ≡ text → IsInterrupted size ls i why new
-  untold new why memory same = record {
+  pub interrupted : (why : Interruption) (new : List ℕ) → new ≡ text → Interrupts (first_row (held_rows c l.verb)) l.verb why → IsInterrupted size ls i why new
+  interrupted why new same cause = record {
     below = omega (arith, below);
     accepted = h.accepted;
     told = same ∙ h.told;
-    cause = subst (Interrupts (refusal size (take i ls) (line_at ls i)) (line_at ls i).verb) (sym memory) (inr refl);
+    cause = subst (λ (m : Line). Interrupts (refusal size (take i ls) (line_at ls i)) m.verb why) here (subst (λ o. Interrupts o l.verb why) (sym refusal_is) cause);
   }
 
 -- ---- a refused call
 
-pub call_cause : (v : Verb) (h d : Held) (e : GfxError) → TakesCall (λ (x : Held). x.pending) held_more h v d (Err e) → Cause (first_row (held_rows h v)) e
-call_cause (Call k) h d e took = ⊎_elim (λ row. inl row) (λ memory. inr memory.1) took.answer
-call_cause v h d e took = let no = took.0 in absurd cc
+pub call_cause : (v : Verb) (h d : Held) (result : Result (Unit {0}) GfxError) → TakesCall (λ (x : Held). x.pending) held_more h v d result → IfErr result (Cause (first_row (held_rows h v)))
+call_cause v h d (Ok done) took = tt
+call_cause (Call k) h d (Err e) took = ⊎_elim (λ row. inl row) (λ memory. inr memory.1) took.answer
+call_cause v h d (Err e) took = let no = took.0 in absurd cc
 
 -- ---- before the first line, and behind the last
 
-pub none_reached : (ls : List Line) (c : Held) (text : List ℕ) → IsNew c.surface.size (context_of c) → text ≡ [] → HasReached c.surface.size ls 0 c text
-none_reached ls c text new none = record {
-  played = record { size_is = refl; stands = stands_new c.surface.size (context_of c) new };
-  accepted = λ j low own. absurd (omega (arith, low));
-  told = none;
-}
+pub none_reached : (ls : List Line) (c : Held) (text : List ℕ) → AreLines [] ls → IsNew c.surface.size (context_of c) → text ≡ [] → HasReached c.surface.size ls (own_place ls 0) c text
+none_reached ls c text sound new none =
+    reached_on c.surface.size ls 0 (own_place ls 0) c text (passed c.surface.size ls sound 0 _ (first_place ls 4)) record {
+      played = record { size_is = refl; stands = stands_new c.surface.size (context_of c) new };
+      accepted = λ j low own. absurd (omega (arith, low));
+      told = none;
+    }
 
 behind_all : (ls : List Line) → line_at ls (length ls) ≡ a_line
 behind_all [] = refl
@@ -226,9 +267,3 @@ last_interrupted size ls c text why e h cause is = record {
       subst (Interrupts (refusal size (take (length ls) ls) (line_at ls (length ls))) (line_at ls (length ls)).verb) (sym is)
       (subst (λ o. Cause o e) (rows_are size (take (length ls) ls) c h.played Flush ∙ ap (refusal size (take (length ls) ls)) (sym (behind_all ls))) cause);
 }
-
--- ---- actors of the code
-
-pub some_deferred : (a : code_actor.Actor) → a ≢ actors.Immediate → (k : ℕ) × (actor_value a ≡ Deferred k)
-some_deferred actors.Immediate h = absurd (h refl)
-some_deferred (actors.Deferred k) h = (k, refl)

@@ -1,5 +1,5 @@
--- Executions that are taken together, behind the pending commands: lines of the immediate context that execute lists and keep the state.
-use Rattle.std.specs.Prelude.{ℕ, ◌≡◌, ◌<◌, ◌≤◌, true, List, [], length, take}
+-- Executions that are taken together, behind the pending commands: lines of the immediate context that execute lists and keep the state. Its lines are counted without those of others.
+use Rattle.std.specs.Prelude.{ℕ, ◌≡◌, ◌<◌, ◌≤◌, true, List, [], take}
 use Rattle.gfxspec.specs.declared.geometry.Size.{Size}
 use Rattle.gfxspec.specs.Items.{Item, after_items}
 use Rattle.gfxspec.specs.Commands.{Command}
@@ -10,22 +10,21 @@ use Rattle.meaning.specs.Standing.{Stands}
 use Rattle.tileblock.specs.Surface.{pixel_of}
 use Rattle.binner.specs.declared.compiling.Compiling.{Compiling}
 use Rattle.binner.specs.Compiling.{HasCompiled}
-use Rattle.scenetext.specs.Scene.{Immediate, Execute, Line}
+use Rattle.scenetext.specs.Scene.{Execute, Line}
 use Rattle.recorders.specs.Apart.{line_at}
 use Rattle.immediate.specs.Held.{Held}
 use Rattle.sessions.specs.Lists.{steps_of}
-use Rattle.sessions.specs.Playing.{ImmediateAccepts, IsTold, HasReached}
+use Rattle.sessions.specs.Playing.{own_count, own_place, ImmediateAccepts, IsTold, HasReached}
 
--- the line is one of the immediate context that executes list n of context k and keeps the state
-abbrev pub ExecutesAndKeeps : Line → ℕ → ℕ → Type 0
-ExecutesAndKeeps l k n = (l.actor ≡ Immediate) × (l.verb ≡ Execute k n true)
+-- line n of the immediate context executes list m of context k, and keeps the state
+abbrev pub ExecutesAndKeeps : List Line → ℕ → ℕ → ℕ → Type 0
+ExecutesAndKeeps ls n k m = (n < own_count ls) × ((line_at ls (own_place ls n)).verb ≡ Execute k m true)
 
--- line i does so with this list
-pub record IsKept (agrees : Type 0) (w : ℕ → ℕ → List Command) (ls : List Line) (i : ℕ) (list : List Command) : Type 0 where
-  pub inside : i < length ls
+-- it does so with this list
+pub record IsKept (agrees : Type 0) (w : ℕ → ℕ → List Command) (ls : List Line) (n : ℕ) (list : List Command) : Type 0 where
   pub context : ℕ
   pub number : ℕ
-  pub line : line_at ls i ≡ record { actor = Immediate; verb = Execute context number true }
+  pub executes : ExecutesAndKeeps ls n context number
   pub named : agrees → list ≡ w context number
   pub accepted : AreAccepted list
   pub none_open : queries_open list ≡ []
@@ -41,17 +40,17 @@ pub record Follows (size : Size) (ls : List Line) (i : ℕ) (h : Held) (is : Lis
   pub accepted : ImmediateAccepts size ls i
   pub told : IsTold size ls i text
 
--- executions wait that have the items of the lines from one place to another
+-- executions wait that have the items of the immediate context's lines from one number to another
 pub record AreGathered {A : Type 0} (agrees : Type 0) (ls : List Line) (from to : ℕ) (h : Held) (e : Compiling A) : Type 0 where
   pub start : from ≤ to
-  pub end : to ≤ length ls
+  pub end : to ≤ own_count ls
   pub size : e.lists.size ≡ h.surface.size
   pub items : List Item
   pub compiled : HasCompiled e items
-  pub follows : agrees → (size : Size) (text : List ℕ) → HasReached size ls from h text → Follows size ls to h items text
+  pub follows : agrees → (size : Size) (text : List ℕ) → HasReached size ls (own_place ls from) h text → Follows size ls (own_place ls to) h items text
 
--- the lines from one place to another are taken, and answer nothing
+-- its lines from one number to another are taken, and answer nothing
 pub record HasGoneOn (agrees : Type 0) (ls : List Line) (from to : ℕ) (old new : Held) : Type 0 where
   pub start : from ≤ to
-  pub end : from ≤ length ls → to ≤ length ls
-  pub reached : agrees → (size : Size) (text : List ℕ) → HasReached size ls from old text → HasReached size ls to new text
+  pub end : from ≤ own_count ls → to ≤ own_count ls
+  pub reached : agrees → (size : Size) (text : List ℕ) → HasReached size ls (own_place ls from) old text → HasReached size ls (own_place ls to) new text

@@ -36,14 +36,17 @@ pub(crate) trait RecordsCalls {
     ghost use Rattle.scenetext.specs.Seen.{verb_value};
     ghost use Rattle.recorders.specs.Calls.{TakesCall};
     ghost use Rattle.immediate.specs.Held.{Held, IsExamined, held_more};
-    ghost use Rattle.std.specs.Prelude.{◌≡◌, OnOk};
+    ghost use Rattle.std.specs.Prelude.{◌≡◌, OnOk, IfErr};
+    ghost use Rattle.gfxspec.specs.Refusals.{first_row};
+    ghost use Rattle.recorders.specs.Apart.{Cause};
     ghost use Rattle.sessions.specs.Taking.{held_rows, verb_asked, IsInside, stored_answer};
 
     ghost held: { Self → Held };
 
     /// Records the call that a verb is. A verb that is none does nothing.
     fn record_verb<A: Allocator>(&mut self, verb: &Verb<A>) -> Result<(), GfxError>
-        ensures { TakesCall (λ (h : Held). h.pending) held_more (held self.old) (verb_value verb.now) (held self.new) result };
+        ensures taken { TakesCall (λ (h : Held). h.pending) held_more (held self.old) (verb_value verb.now) (held self.new) result }
+        ensures cause { IfErr result (Cause (first_row (held_rows (held self.old) (verb_value verb.now)))) };
 
     /// Whether a question is refused before anything runs for it.
     fn examine(&self, question: Question) -> Result<(), GfxError>

@@ -1,7 +1,5 @@
 //! A script, performed in threads as far as to what there is to write.
 
-ghost use Rattle.std.specs.Prelude.{map};
-ghost use Rattle.scenetext.specs.Seen.{line_value};
 ghost use Rattle.recorders.specs.Apart.{listed};
 ghost use Rattle.recorders.specs.Receiving.{AreNew};
 ghost use Rattle.sessions.specs.Playing.{MayPlay};
@@ -13,12 +11,13 @@ use crate::perform::begin;
 use crate::play::{Played, play_by_crew};
 use crate::run::Workers;
 use immediate::{ImmediateContext, TileCrew};
-use recorders::{ListPorts, Passes, RecorderSetup, Returned, open_ports, receive, settle};
-use scenetext::Line;
+use recorders::{
+    DealtLines, ListPorts, Passes, RecorderSetup, Returned, deal, open_ports, receive, settle,
+};
 use std::alloc::Allocator;
 use std::sync::Wait;
 use std::thread;
-use std::thread::{Scope, Threads};
+use std::thread::Threads;
 use workers::{Gate, start_crew};
 
 /// What comes out of the scope of the recorders.
@@ -28,40 +27,8 @@ struct Round<A: Allocator> {
     returned: Returned<A>,
 }
 
-/// Starts the recorders, takes the lines of the immediate context, and waits for the recorders.
-fn play_round<
-    's,
-    'a,
-    E,
-    A: Allocator + Copy + Send + Sync + 's,
-    R: Threads + Wait + Sync + 's,
-    G: Gate + Sync + 's,
->(
-    workers: &Workers<'s, 'a, A, R, G>,
-    scope: &'s Scope<'s, E>,
-    ports: &'s ListPorts<A>,
-    passes: Passes<A>,
-    lines: &'s [Line<A>],
-    immediate: ImmediateContext<A>,
-) -> Round<A>
-    requires start { AreNew ports.now.queue passes }
-    requires may { MayPlay (map line_value lines.now) (listed (map line_value lines.now)) immediate }
-    ensures { IsRound immediate.surface.size (map line_value lines.now) ports.now.queue result }
-{
-    let setup = RecorderSetup {
-        rt: workers.rt,
-        alloc: workers.alloc,
-        ports,
-        gate: workers.gate,
-        lines,
-    };
-    let mut received = receive(scope, setup, passes);
-    let played = play_by_crew(workers, immediate, &mut received, lines);
-    let returned = received.close();
-    Round { played, returned }
-}
-
-/// The same in a scope of its own, beside the threads of the crew, which go home at the end.
+/// Starts the recorders beside the threads of the crew, takes the lines of the immediate context, and waits for the recorders. The
+/// crew goes home at the end.
 fn play_in_scope<
     'w,
     'a,
@@ -72,25 +39,33 @@ fn play_in_scope<
     workers: &Workers<'w, 'a, A, R, G>,
     ports: &ListPorts<A>,
     passes: Passes<A>,
-    lines: &[Line<A>],
+    lines: &DealtLines<'_, A>,
     immediate: ImmediateContext<A>,
 ) -> Round<A>
     requires start { AreNew ports.now.queue passes }
-    requires may { MayPlay (map line_value lines.now) (listed (map line_value lines.now)) immediate }
-    ensures { IsRound immediate.surface.size (map line_value lines.now) ports.now.queue result }
+    requires may { MayPlay lines.now (listed lines.now) immediate }
+    ensures { IsRound immediate.surface.size lines.now ports.now.queue result }
 {
     thread::scope(
         thread::scope_env(),
         workers.rt,
         |scope| -> Round<A>
-            requires { AreNew ports.now.queue passes
-                × MayPlay (map line_value lines.now) (listed (map line_value lines.now)) immediate }
-            ensures { IsRound immediate.surface.size (map line_value lines.entry.now) ports.entry.now.queue result }
+            requires { AreNew ports.now.queue passes × MayPlay lines.now (listed lines.now) immediate }
+            ensures { IsRound immediate.surface.size lines.entry.now ports.entry.now.queue result }
         {
             start_crew(workers.rt, scope, &workers.crew, workers.gate);
-            let round = play_round(workers, scope, ports, passes, lines, immediate);
+            let setup = RecorderSetup {
+                rt: workers.rt,
+                alloc: workers.alloc,
+                ports,
+                gate: workers.gate,
+                lines,
+            };
+            let mut received = receive(scope, setup, passes);
+            let played = play_by_crew(workers, immediate, &mut received, lines);
+            let returned = received.close();
             workers.crew.close(workers.rt);
-            round
+            Round { played, returned }
         },
     )
 }
@@ -108,9 +83,11 @@ pub(crate) fn perform_in_threads<
         Ok(begun) => begun,
         Err(stopped) => return stopped,
     };
-    let (ports, passes) = match open_ports(alloc) {
-        Ok(opened) => opened,
-        Err(_) => return stopped(alloc, 0, 1),
+    let Ok(lines) = deal(alloc, scene.lines.as_slice()) else {
+        return stopped(alloc, 0, 1);
+    };
+    let Ok((ports, passes)) = open_ports(alloc) else {
+        return stopped(alloc, 0, 1);
     };
     let workers = Workers {
         rt,
@@ -118,8 +95,7 @@ pub(crate) fn perform_in_threads<
         crew: TileCrew::new(&alloc, workers),
         gate,
     };
-    let lines = scene.lines.as_slice();
-    let round = play_in_scope(&workers, &ports, passes, lines, immediate);
+    let round = play_in_scope(&workers, &ports, passes, &lines, immediate);
     let deferred = settle(rt, ports, round.returned);
     end(&scene, deferred, round.played)
 }

@@ -1,7 +1,6 @@
-use Rattle.std.proofs.Common.{rules, ◌≡◌, sym, subst, map, []}
+use Rattle.std.proofs.Common.{rules, ◌≡◌, sym, subst, []}
 use Rattle.std.specs.Prelude.{All}
 use Rattle.std.proofs.lemmas.List.Elements.{All-nil}
-use Rattle.scenetext.specs.Seen.{line_value}
 use Rattle.recorders.specs.Apart.{IsListed}
 use Rattle.recorders.proofs.EndLemmas.{all_ended}
 use Rattle.recorders.proofs.RowLemmas.{rows_none}
@@ -9,7 +8,7 @@ use Rattle.recorders.proofs.alone.record_alone.Goals as goal
 
 pub invariant_of-result : goal.invariant_of-result
 invariant_of-result g c =
-    let ls = map line_value c.args.lines.now in
+    let ls = c.args.lines.now in
     let empty : c.new-kept.result.items ≡ [] = search rules in
     let none = subst (All (IsListed ls)) (sym empty) (All-nil (IsListed ls)) in
     let a = c.record_lines.ensures.recorded in

@@ -1,16 +1,19 @@
-use Rattle.std.proofs.Common.{rules, ◌∙◌, ap, subst, map}
-use Rattle.scenetext.specs.Seen.{line_value}
+use Rattle.std.proofs.Common.{◌∙◌, ap, sym, subst, []}
 use Rattle.scenetext.specs.SeenScene.{scene_value}
+use Rattle.scenetext.specs.Spelling.{AreLines}
 use Rattle.recorders.specs.Apart.{listed}
 use Rattle.recorders.specs.Asking.{Asked}
 use Rattle.recorders.specs.Ending.{AreRecorded}
 use Rattle.sessions.specs.Playing.{HasPlayed, missing_in}
-use Rattle.sessions.specs.Writing.{drawing}
+use Rattle.sessions.specs.Writing.{Writes, drawing, gathering}
 use Rattle.sessions.proofs.perform.perform_alone.Goals as goal
+
+pub returns-in_default : goal.returns-in_default
+returns-in_default g c = subst (Writes c.args.text.items) (sym c.stopped.ensures) gathering
 
 pub play_alone-played-requires-clause-may : goal.play_alone-played-requires-clause-may
 play_alone-played-requires-clause-may g c κs within = record {
-  sound = search rules;
+  sound = subst (AreLines []) (sym (c.in-Ok-deal.ensures ∙ c.as_slice.ensures)) c.in-Ok.ensures.begun.spells.scene_is.1;
   lists = λ k n. ap (λ ls. listed ls k n) c.record_alone-recorded.ensures;
   start = c.in-Ok.ensures.begun.new;
 }
@@ -24,15 +27,14 @@ end-requires-clause-scene g c = c.in-Ok.ensures.begun.spells.scene_is
 pub end-requires-clause-recorded : goal.end-requires-clause-recorded
 end-requires-clause-recorded g c =
     let played = c.play_alone-played in
-    let lines = ap (λ (a : Asked). a.lines) played.ensures.frame ∙ c.record_alone-recorded.ensures ∙ c.as_slice-lines.ensures in
+    let lines = ap (λ (a : Asked). a.lines) played.ensures.frame ∙ c.record_alone-recorded.ensures ∙ c.in-Ok-deal.ensures ∙ c.as_slice.ensures in
     subst (λ ls. AreRecorded ls c.first_refused.result (missing_in played.result.interruption)) lines (c.first_refused.ensures (missing_in played.result.interruption) played.ensures.missing)
 
 pub end-requires-clause-played : goal.end-requires-clause-played
 end-requires-clause-played g c =
     let p = c.play_alone-played.result in
-    let scene = c.in-Ok.begun.0 in
-    subst (λ ls. HasPlayed scene.size ls p) c.as_slice-lines.ensures
-    (subst (λ s. HasPlayed s (map line_value c.as_slice-lines.result.now) p) c.in-Ok.ensures.begun.size_is (c.play_alone-played.ensures.played tt))
+    subst (λ ls. HasPlayed c.in-Ok.begun.0.size ls p) (c.in-Ok-deal.ensures ∙ c.as_slice.ensures)
+    (subst (λ s. HasPlayed s c.in-Ok-deal.lines p) c.in-Ok.ensures.begun.size_is (c.play_alone-played.ensures.played tt))
 
 pub returns : goal.returns
 returns g c = drawing (scene_value c.in-Ok.begun.0) _ c.in-Ok.ensures.begun.spells c.end.ensures

@@ -1,81 +1,77 @@
-use Rattle.std.proofs.Common.{rules, ◌≡◌, ◌≤◌, ◌∙◌, ap, sym, subst, length, map, ◌+◌}
-use Rattle.std.proofs.lemmas.List.{length-map}
-use Rattle.scenetext.specs.Seen.{line_value, actor_value}
-use Rattle.std.specs.declared.vec.Vec.{Vec}
-use Rattle.sessions.specs.Playing.{HasReached, IsInterrupted}
-use Rattle.sessions.proofs.Steps.{next_line, reached_next, reached_other, interrupted, untold, last_interrupted, some_deferred}
+use Rattle.std.proofs.Common.{rules, ◌≡◌, ◌≤◌, ◌<◌, ◌∙◌, ap, sym, subst, refl, length, ◌+◌}
+use Rattle.sessions.specs.Playing.{own_count, own_place, HasReached, IsInterrupted}
+use Rattle.recorders.proofs.Places.{last_place}
+use Rattle.sessions.proofs.Steps.{next_line, reached_next, interrupted, last_interrupted, none_reached}
 use Rattle.sessions.proofs.Gathering.{more_inside}
 use Rattle.sessions.proofs.play.play.Goals as goal
-use Rattle.sessions.proofs.play.play.Goals.{in-Immediate+in-Ok+in_default-add_answer, in_default}
+
+pub loop-next-init : goal.loop-next-init
+loop-next-init g c = record {
+  below = search rules;
+  frame = refl;
+  right = refl;
+  agrees = λ ok. ok;
+  reached = λ ok. none_reached c.args.lines.now (g.C.RecordsCalls.held c.args.immediate) c.new-answers.result.items c.requires.may.sound c.requires.may.start (search rules);
+}
 
 pub take_verb-requires-clause-verb : goal.take_verb-requires-clause-verb
 take_verb-requires-clause-verb g c =
-    let next = next_line line_value c.args.lines.now c.loop-place.place c.index-lines-place.result c.requires.may.sound (search rules) c.index-lines-place.is in
-    next.is.verb
+    let few : c.loop-next.next < own_count c.args.lines.now = search rules in
+    (next_line _ _ _ c.requires.may.sound few c.line-place.ensures.line).is.verb
 
 pub returns-in-Err-clause-played : goal.returns-in-Err-clause-played
-returns-in-Err-clause-played g c =
+returns-in-Err-clause-played g c ok =
     let size = (g.C.RecordsCalls.held c.args.immediate).surface.size in
-    let next = next_line line_value c.args.lines.now c.loop-place.place c.index-lines-place.result c.requires.may.sound (search rules) c.index-lines-place.is in
-    let held = c.loop-place.invariant in
-    λ ok. interrupted size _ _ _ (g.C.RecordsCalls.held c.loop-place.context) _ next (held.reached (c.take_verb.ensures.agrees ok)) (ap actor_value c.in-Immediate.is) c.in-Err.why c.in-Err.ensures.why
+    let few : c.loop-next.next < own_count c.args.lines.now = search rules in
+    let next = next_line _ _ _ c.requires.may.sound few c.line-place.ensures.line in
+    let reached = c.loop-next.invariant.reached (c.take_verb.ensures.agrees ok) in
+    subst (λ p. IsInterrupted size c.args.lines.now p c.in-Err.why c.take_verb.new.answers.items) (sym c.line-place.ensures.place)
+    (interrupted size _ _ _ (g.C.RecordsCalls.held c.loop-next.context) _ next reached c.in-Err.why _ c.in-Err.ensures.untold c.in-Err.ensures.why)
 
-pub returns-in-Err-add_answer-clause-played : goal.returns-in-Err-add_answer-clause-played
-returns-in-Err-add_answer-clause-played g c =
+pub loop-next-preserved-then-is_some : goal.loop-next-preserved-then-is_some
+loop-next-preserved-then-is_some g c =
     let size = (g.C.RecordsCalls.held c.args.immediate).surface.size in
-    let next = next_line line_value c.args.lines.now c.loop-place.place c.index-lines-place.result c.requires.may.sound (search rules) c.index-lines-place.is in
-    let held = c.loop-place.invariant in
-    λ ok. untold size _ _ _ (g.C.RecordsCalls.held c.loop-place.context) _ next (held.reached (c.take_verb.ensures.agrees ok)) _ c.from.result c.from.ensures c.in-Err-add_answer.ensures.kept
-
-pub loop-place-preserved : goal.loop-place-preserved
-loop-place-preserved g c =
-    let size = (g.C.RecordsCalls.held c.args.immediate).surface.size in
-    let ls = map line_value c.args.lines.now in
-    let next = next_line line_value c.args.lines.now c.loop-place.place c.index-lines-place.result c.requires.may.sound (search rules) c.index-lines-place.is in
-    let held = c.loop-place.invariant in
-    let behind : (g.S.ListSource.frame c.match-line.lists ≡ g.S.ListSource.frame c.args.lists.now) × (g.S.ListSource.right c.match-line.lists ≡ g.S.ListSource.right c.args.lists.now) × (g.S.ListSource.agrees c.match-line.lists → g.S.ListSource.agrees c.args.lists.now) × (g.S.ListSource.agrees c.match-line.lists → HasReached size ls (c.loop-place.place + 1) (g.C.RecordsCalls.held c.match-line.context) c.match-line.answers.items)
-    = elim c.match-line.branch [
-      | in-Immediate+in-Ok+in_default-add_answer w ↦
-          let right = w.take_verb.ensures.right ∙ held.right in (
-            ap g.S.ListSource.frame w.lists-is ∙ w.take_verb.ensures.frame ∙ held.frame,
-            ap g.S.ListSource.right w.lists-is ∙ right,
-            λ ok. held.agrees (w.take_verb.ensures.agrees (subst g.S.ListSource.agrees w.lists-is ok)),
-            λ ok.
-                let ok' = subst g.S.ListSource.agrees w.lists-is ok in
-                let h = held.reached (w.take_verb.ensures.agrees ok') in
-                subst (λ x. HasReached size (map line_value c.args.lines.now) (c.loop-place.place + 1) (g.C.RecordsCalls.held x) c.match-line.answers.items) (sym w.context-is)
-                (subst (λ (a : Vec _ _). HasReached size (map line_value c.args.lines.now) (c.loop-place.place + 1) (g.C.RecordsCalls.held w.take_verb.new.context) a.items) (sym w.answers-is)
-                (reached_next size _ _ _ (g.C.RecordsCalls.held c.loop-place.context) _ next h (ap actor_value w.in-Immediate.is) (g.S.ListSource.right w.take_verb.new.lists) (g.C.RecordsCalls.held w.take_verb.new.context) w.in-Ok.reply _ (λ k n. ap (λ f. f k n) right ∙ c.requires.may.lists k n) w.in-Ok.ensures.answer (w.in-Ok.ensures.taken ok') w.in-Ok.ensures.reply w.in_default-add_answer.ensures.added)),
-          )
-      | in_default w ↦
-          let other = some_deferred c.index-lines-place.result.actor w.in_default.not-Immediate in (
-            ap g.S.ListSource.frame w.lists-is ∙ held.frame,
-            ap g.S.ListSource.right w.lists-is ∙ held.right,
-            λ ok. held.agrees (subst g.S.ListSource.agrees w.lists-is ok),
-            λ ok.
-                let h = held.reached (subst g.S.ListSource.agrees w.lists-is ok) in
-                subst (λ x. HasReached size (map line_value c.args.lines.now) (c.loop-place.place + 1) (g.C.RecordsCalls.held x) c.match-line.answers.items) (sym w.context-is)
-                (subst (λ (a : Vec _ _). HasReached size (map line_value c.args.lines.now) (c.loop-place.place + 1) (g.C.RecordsCalls.held c.loop-place.context) a.items) (sym w.answers-is)
-                (reached_other size _ _ _ (g.C.RecordsCalls.held c.loop-place.context) _ next h other.0 other.1)),
-          )
-    ] in
-    let gone = c.requires.goes_on _ _ _ _ _ c.go_on-place.ensures in
+    let few : c.loop-next.next < own_count c.args.lines.now = search rules in
+    let next = next_line _ _ _ c.requires.may.sound few c.line-place.ensures.line in
+    let held = c.loop-next.invariant in
+    let taken = c.take_verb in
+    let right = taken.ensures.right ∙ held.right in
+    let gone = c.requires.goes_on _ _ _ _ _ c.go_on-next.ensures in
     record {
-      below = subst (λ n. c.go_on-place.result ≤ n) (length-map c.args.lines.now line_value) (gone.end (more_inside c.loop-place.place (length ls) next.below));
-      frame = behind.0;
-      right = behind.1;
-      agrees = behind.2;
-      reached = λ ok. gone.reached ok size c.match-line.answers.items (behind.3 ok);
+      below = gone.end (more_inside c.loop-next.next (own_count c.args.lines.now) few);
+      frame = taken.ensures.frame ∙ held.frame;
+      right = right;
+      agrees = λ ok. held.agrees (taken.ensures.agrees ok);
+      reached = λ ok.
+          gone.reached ok size taken.new.answers.items
+          (reached_next size _ _ _ (g.C.RecordsCalls.held c.loop-next.context) _ next (held.reached (taken.ensures.agrees ok)) (g.S.ListSource.right taken.new.lists) (g.C.RecordsCalls.held taken.new.context) _ (λ k n. ap (λ f. f k n) right ∙ c.requires.may.lists k n) c.in_default.ensures.accepted (c.in_default.ensures.taken ok) c.in_default.ensures.told);
+    }
+
+pub loop-next-preserved : goal.loop-next-preserved
+loop-next-preserved g c =
+    let size = (g.C.RecordsCalls.held c.args.immediate).surface.size in
+    let few : c.loop-next.next < own_count c.args.lines.now = search rules in
+    let next = next_line _ _ _ c.requires.may.sound few c.line-place.ensures.line in
+    let held = c.loop-next.invariant in
+    let taken = c.take_verb in
+    let right = taken.ensures.right ∙ held.right in
+    record {
+      below = more_inside c.loop-next.next (own_count c.args.lines.now) few;
+      frame = taken.ensures.frame ∙ held.frame;
+      right = right;
+      agrees = λ ok. held.agrees (taken.ensures.agrees ok);
+      reached = λ ok.
+          reached_next size _ _ _ (g.C.RecordsCalls.held c.loop-next.context) _ next (held.reached (taken.ensures.agrees ok)) (g.S.ListSource.right taken.new.lists) (g.C.RecordsCalls.held taken.new.context) _ (λ k n. ap (λ f. f k n) right ∙ c.requires.may.lists k n) c.in_default.ensures.accepted (c.in_default.ensures.taken ok) c.in_default.ensures.told;
     }
 
 pub returns-in-Err-run-clause-played : goal.returns-in-Err-run-clause-played
 returns-in-Err-run-clause-played g c ok =
     let size = (g.C.RecordsCalls.held c.args.immediate).surface.size in
-    let ls = map line_value c.args.lines.now in
-    let text = c.loop-place.answers.items in
-    let count = length-map c.args.lines.now line_value in
-    let end : c.loop-place.place ≡ length c.args.lines.now = search rules in
-    let reached = subst (λ n. HasReached size ls n (g.C.RecordsCalls.held c.loop-place.context) text) (end ∙ sym count) (c.loop-place.invariant.reached ok) in
+    let ls = c.args.lines.now in
+    let text = c.loop-next.answers.items in
+    let most : own_count ls ≤ c.loop-next.next = search rules in
+    let end = last_place ls 4 c.loop-next.next most in
+    let reached = subst (λ n. HasReached size ls n (g.C.RecordsCalls.held c.loop-next.context) text) end (c.loop-next.invariant.reached ok) in
     let ran = c.requires.runs _ _ _ _ _ c.in-Err-run.ensures in
-    subst (λ n. IsInterrupted size ls n c.from-in-Err-run.result text) count
-    (last_interrupted size ls (g.C.RecordsCalls.held c.loop-place.context) text c.from-in-Err-run.result c.in-Err-run.refusal reached ran.cause c.from-in-Err-run.ensures)
+    subst (λ n. IsInterrupted size ls n c.from.result text) (sym c.len.ensures)
+    (last_interrupted size ls (g.C.RecordsCalls.held c.loop-next.context) text c.from.result c.in-Err-run.refusal reached ran.cause c.from.ensures)

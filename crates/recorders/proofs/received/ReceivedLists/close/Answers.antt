@@ -10,7 +10,7 @@ use Rattle.recorders.proofs.received.ReceivedLists.close.Goals as goal
 pub returns-clause-results : goal.returns-clause-results
 returns-clause-results g c =
     let at = subst (λ (r : Receipts _). AreRecorders r.lines r.queue c.self.inside.recorders) c.self.view_is c.self.invariant.1 in
-    all_results _ _ _ _ _ _ (result_at _ _ _ (at 0 (omega arith)) c.close-zero.ensures.result) (result_at _ _ _ (at 1 (omega arith)) c.close-one.ensures.result) (result_at _ _ _ (at 2 (omega arith)) c.close-two.ensures.result) (result_at _ _ _ (at 3 (omega arith)) c.close-three.ensures.result)
+    all_results _ _ _ _ _ _ _ (result_at _ _ _ (at 0 (omega arith)) c.close-zero.ensures.result) (result_at _ _ _ (at 1 (omega arith)) c.close-one.ensures.result) (result_at _ _ _ (at 2 (omega arith)) c.close-two.ensures.result) (result_at _ _ _ (at 3 (omega arith)) c.close-three.ensures.result)
 
 pub returns-clause-lacks : goal.returns-clause-lacks
 returns-clause-lacks g c k n low lacks =

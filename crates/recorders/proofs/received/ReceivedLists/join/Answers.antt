@@ -1,6 +1,5 @@
-use Rattle.std.proofs.Common.{◌∙◌, ap, sym, subst, map}
+use Rattle.std.proofs.Common.{◌∙◌, ap, sym, subst}
 use Rattle.std.specs.Prelude.{All}
-use Rattle.scenetext.specs.Seen.{line_value}
 use Rattle.recorders.specs.Recorders.{port_of}
 use Rattle.recorders.specs.Apart.{IsListed}
 use Rattle.recorders.specs.Asking.{Asked}
@@ -15,7 +14,7 @@ invariant_of-self-2 g c =
     let same = ap (λ (r : Receipts _). r.lines) c.self-2.view_is ∙ ap (λ (a : Asked). a.lines) c.take_all.ensures.more.frame in (
       c.self-2.invariant.0,
       c.self-2.invariant.1,
-      λ agrees. c.add_all.ensures (map line_value c.self-2.inside.lines.now)
+      λ agrees. c.add_all.ensures c.self-2.inside.lines.now
           (subst (λ ls. All (IsListed ls) c.join_of-kept.result.0.items) (before ∙ sym same) c.join_of-kept.ensures.listed) (c.self-2.invariant.2 agrees),
     )
 

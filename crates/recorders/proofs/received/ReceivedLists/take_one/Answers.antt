@@ -1,13 +1,12 @@
-use Rattle.std.proofs.Common.{◌∙◌, ap, subst, map, [], ◌∷◌}
+use Rattle.std.proofs.Common.{◌∙◌, ap, subst, [], ◌∷◌}
 use Rattle.port.specs.History.{DrainHistory}
-use Rattle.scenetext.specs.Seen.{line_value}
 use Rattle.recorders.specs.Receiving.{Receipts, TakenAgrees, ReceiptAgrees, receipt_frame}
 use Rattle.recorders.proofs.PortLemmas.{agrees_before, took}
 use Rattle.recorders.proofs.received.ReceivedLists.take_one.Goals as goal
 
 pub invariant_of-self-2 : goal.invariant_of-self-2
 invariant_of-self-2 g c =
-    let ls = map line_value c.self.inside.lines.now in
+    let ls = c.self.inside.lines.now in
     let next = c.in-Some.ensures.2 in (
       ap (λ (p : DrainHistory _). p.queue) next ∙ c.self.invariant.0,
       c.self.invariant.1,
@@ -16,7 +15,7 @@ invariant_of-self-2 g c =
 
 pub returns : goal.returns
 returns g c =
-    let ls = map line_value c.self.inside.lines.now in
+    let ls = c.self.inside.lines.now in
     let all = ap (λ (p : DrainHistory _). p.taken) c.in-Some.ensures.2 in
     record {
       more = record {
