@@ -11,7 +11,7 @@ use Rattle.meaning.specs.Contexts.{Context, shown, answered, result_at}
 use Rattle.meaning.specs.Standing.{Stands}
 use Rattle.meaning.proofs.Contexts.{shows, stands_executed}
 use Rattle.tileblock.specs.Surface.{pixel_of}
-use Rattle.scenetext.specs.Scene.{Immediate, Execute, Verb, Line}
+use Rattle.scenetext.specs.Scene.{Immediate, Verb, Line}
 use Rattle.scenetext.specs.Spelling.{IsVerb, AreLines}
 use Rattle.recorders.specs.Apart.{a_line, line_at, listed}
 use Rattle.immediate.specs.Held.{Held, context_of, outputs_of}

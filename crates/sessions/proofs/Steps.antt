@@ -1,6 +1,6 @@
 -- Lines that are accepted and answered, one by one, and one more line of the immediate context.
-use Rattle.std.proofs.Common.{◌≡◌, ◌∙◌, ap, sym, subst, refl, ℕ, ◌+◌, ◌<◌, ◌≤◌, inl, inr, ⊎_elim, arith, Bool, true, false, true≢false, List, [], ◌∷◌, ◌++◌, length, take, map, get_or, below_more, None, Option, zero, suc, ◌-◌, ◌%◌, ◌==◌, drop, append_assoc}
-use Rattle.std.specs.Prelude.{Result, Ok, Err, IfErr, if◌then◌else◌}
+use Rattle.std.proofs.Common.{◌≡◌, ◌∙◌, ap, sym, subst, refl, ℕ, ◌+◌, ◌<◌, ◌≤◌, arith, Bool, true, false, true≢false, List, [], ◌∷◌, ◌++◌, length, take, map, get_or, below_more, None, zero, suc, ◌-◌, ◌%◌, ◌==◌, drop, append_assoc}
+use Rattle.std.specs.Prelude.{if◌then◌else◌}
 use Rattle.std.proofs.lemmas.List.{length-map, take_more, append-nil, get_or-map, length-append}
 use Rattle.gfxspec.specs.declared.geometry.Size.{Size}
 use Rattle.gfxspec.specs.declared.error.GfxError.{GfxError}
@@ -9,7 +9,7 @@ use Rattle.gfxspec.specs.Refusals.{first_row}
 use Rattle.meaning.specs.Standing.{Stands, IsNew}
 use Rattle.meaning.proofs.Contexts.{stands_new}
 use Rattle.scenetext.specs.Seen.{verb_value}
-use Rattle.scenetext.specs.Scene.{Actor, Immediate, Deferred, Verb, Call, Flush, Execute, Query, Pixel, Line}
+use Rattle.scenetext.specs.Scene.{Actor, Immediate, Deferred, Verb, Flush, Execute, Query, Pixel, Line}
 use Rattle.scenetext.specs.Spelling.{is_immediate_actor, may_take, HasList, IsLine, AreLines}
 use Rattle.recorders.specs.Recording.{recording_of}
 use Rattle.recorders.specs.Apart.{a_line, line_at, listed, Cause}
@@ -17,8 +17,7 @@ use Rattle.recorders.proofs.Recordings.{lists_counted}
 use Rattle.recorders.proofs.Growing.{listed_early}
 use Rattle.recorders.specs.Dealing.{taker_of}
 use Rattle.recorders.proofs.Places.{IsFirst, first_place, next_place}
-use Rattle.recorders.specs.Calls.{TakesCall}
-use Rattle.immediate.specs.Held.{Held, context_of, held_more}
+use Rattle.immediate.specs.Held.{Held, context_of}
 use Rattle.sessions.specs.declared.play.Interruption.{Interruption}
 use Rattle.sessions.specs.declared.play.Interruption.TheVariants.{Refused}
 use Rattle.sessions.specs.Lists.{actor_steps, steps_of}
@@ -236,13 +235,6 @@ module _ (size : Size) (ls : List Line) (n : ℕ) (l : Line) (c : Held) (text : 
     told = same ∙ h.told;
     cause = subst (λ (m : Line). Interrupts (refusal size (take i ls) (line_at ls i)) m.verb why) here (subst (λ o. Interrupts o l.verb why) (sym refusal_is) cause);
   }
-
--- ---- a refused call
-
-pub call_cause : (v : Verb) (h d : Held) (result : Result (Unit {0}) GfxError) → TakesCall (λ (x : Held). x.pending) held_more h v d result → IfErr result (Cause (first_row (held_rows h v)))
-call_cause v h d (Ok done) took = tt
-call_cause (Call k) h d (Err e) took = ⊎_elim (λ row. inl row) (λ memory. inr memory.1) took.answer
-call_cause v h d (Err e) took = let no = took.0 in absurd cc
 
 -- ---- before the first line, and behind the last
 

@@ -4,17 +4,14 @@
 ghost use Rattle.std.specs.Prelude.{◌≡◌, IfSome, []};
 ghost use Rattle.scenetext.specs.Spelling.{AreLines};
 ghost use Rattle.sessions.specs.Playing.{ListsOf};
-ghost use Rattle.sessions.specs.Gathering.{ExecutesAndKeeps, IsKept, AreGathered, HasGoneOn};
+ghost use Rattle.sessions.specs.Gathering.{ExecutesAndKeeps, IsKept, AreGathered};
 
-use crate::run::{Workers, finished_list};
+use crate::run::finished_list;
 use cmdlist::CommandList;
 use immediate::{Executions, ImmediateContext};
 use recorders::{CALLER, DealtLines, ListSource};
 use scenetext::Verb;
 use std::alloc::Allocator;
-use std::sync::Wait;
-use std::thread::Threads;
-use workers::Gate;
 
 /// The context and number of the list that a line of the immediate context executes, where that keeps the state.
 pub(crate) fn kept_execution<A: Allocator>(
@@ -53,7 +50,7 @@ fn kept_list<'l, A: Allocator, S: ListSource<CommandList<A>>>(
 
 /// The executions of the immediate context's lines from one on that keep the state, up to the first that isn't one, whose list
 /// hasn't come yet or has no room. With them comes its number among the context's lines.
-fn gather_executions<A: Allocator + Copy + Send, S: ListSource<CommandList<A>>>(
+pub(crate) fn gather_executions<A: Allocator + Copy + Send, S: ListSource<CommandList<A>>>(
     context: &mut ImmediateContext<A>,
     lists: &S,
     lines: &DealtLines<'_, A>,
@@ -77,51 +74,4 @@ fn gather_executions<A: Allocator + Copy + Send, S: ListSource<CommandList<A>>>(
         executions = context.add_execution(executions, list)?;
     }
     Some((executions, count))
-}
-
-/// Takes executions from a line of the immediate context on together, on the caller's thread, and answers the number of its line
-/// behind them. Where there are none, or no memory, it takes no line.
-pub(crate) fn take_executions_alone<A: Allocator + Copy + Send, S: ListSource<CommandList<A>>>(
-    context: &mut ImmediateContext<A>,
-    lists: &S,
-    lines: &DealtLines<'_, A>,
-    from: usize,
-) -> usize
-    requires lines { AreLines [] lines.now }
-    requires right { ListsOf lines.now (S.right lists.now) }
-    ensures gone { HasGoneOn (S.agrees lists.now) lines.now from result context.old context.new }
-{
-    let Some((executions, behind)) = gather_executions(context, lists, lines, from) else {
-        return from;
-    };
-    match context.run_executions_alone(executions) {
-        Ok(()) => behind,
-        Err(_) => from,
-    }
-}
-
-/// The same by a crew beside the caller.
-pub(crate) fn take_executions_by_crew<
-    A: Allocator + Copy + Send + Sync,
-    S: ListSource<CommandList<A>>,
-    R: Threads + Wait + Sync,
-    G: Gate,
->(
-    workers: &Workers<'_, '_, A, R, G>,
-    context: &mut ImmediateContext<A>,
-    lists: &S,
-    lines: &DealtLines<'_, A>,
-    from: usize,
-) -> usize
-    requires lines { AreLines [] lines.now }
-    requires right { ListsOf lines.now (S.right lists.now) }
-    ensures gone { HasGoneOn (S.agrees lists.now) lines.now from result context.old context.new }
-{
-    let Some((executions, behind)) = gather_executions(context, lists, lines, from) else {
-        return from;
-    };
-    match context.run_executions_by_crew(workers.rt, executions, &workers.crew, workers.gate) {
-        Ok(()) => behind,
-        Err(_) => from,
-    }
 }

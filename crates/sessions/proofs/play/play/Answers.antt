@@ -1,5 +1,5 @@
-use Rattle.std.proofs.Common.{rules, ◌≡◌, ◌≤◌, ◌<◌, ◌∙◌, ap, sym, subst, refl, length, ◌+◌}
-use Rattle.sessions.specs.Playing.{own_count, own_place, HasReached, IsInterrupted}
+use Rattle.std.proofs.Common.{rules, ◌≤◌, ◌<◌, ◌∙◌, ap, sym, subst, refl}
+use Rattle.sessions.specs.Playing.{own_count, HasReached, IsInterrupted}
 use Rattle.recorders.proofs.Places.{last_place}
 use Rattle.sessions.proofs.Steps.{next_line, reached_next, interrupted, last_interrupted, none_reached}
 use Rattle.sessions.proofs.Gathering.{more_inside}
