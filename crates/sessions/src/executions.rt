@@ -1,5 +1,4 @@
-//! Executions that stand behind one another, taken together: they run as one behind the pending commands, so each tile is gone over
-//! once for all of them.
+//! Executions that stand behind one another are run as one behind the pending commands, so each tile is gone over once.
 
 ghost use Rattle.std.specs.Prelude.{◌≡◌, IfSome, []};
 ghost use Rattle.scenetext.specs.Spelling.{AreLines};
