@@ -1,5 +1,4 @@
-//! Executions that stand behind one another, taken together: they run as one behind the pending commands, so each tile is gone over
-//! once for all of them.
+//! Executions that stand behind one another are run as one behind the pending commands, so each tile is gone over once.
 
 ghost use Rattle.std.specs.Prelude.{◌≡◌, IfSome, []};
 ghost use Rattle.scenetext.specs.Spelling.{AreLines};
@@ -14,10 +13,7 @@ use scenetext::Verb;
 use std::alloc::Allocator;
 
 /// The context and number of the list that a line of the immediate context executes, where that keeps the state.
-pub(crate) fn kept_execution<A: Allocator>(
-    lines: &DealtLines<'_, A>,
-    next: usize,
-) -> Option<(u32, u32)>
+pub(crate) fn execution<A: Allocator>(lines: &DealtLines<'_, A>, next: usize) -> Option<(u32, u32)>
     ensures { IfSome result (λ name. ExecutesAndKeeps lines.now next name.0 name.1) }
 {
     if next >= lines.count(CALLER) {
@@ -38,14 +34,13 @@ fn kept_list<'l, A: Allocator, S: ListSource<CommandList<A>>>(
     requires { AreLines [] lines.now }
     ensures { IfSome result (λ list. IsKept (S.agrees lists.now) (S.right lists.now) lines.now next list.now) }
 {
-    let Some((of, number)) = kept_execution(lines, next) else {
+    let Some((of, number)) = execution(lines, next) else {
         return None;
     };
     if !lists.is_here(of, number) {
         return None;
     }
-    let list = finished_list(lists, of, number);
-    Some(list)
+    Some(finished_list(lists, of, number))
 }
 
 /// The executions of the immediate context's lines from one on that keep the state, up to the first that isn't one, whose list

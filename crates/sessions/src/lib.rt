@@ -2,8 +2,8 @@
 //!
 //! The deferred contexts are recorded apart (crate recorders), and the immediate context takes its own lines and asks for
 //! their lists. It may answer lines behind one that another context refuses; in the end the least refused line counts, and the
-//! answers of the lines before it stay. `session_alone` records first and draws then, on
-//! the caller's thread; `session` draws while up to four threads record, with workers beside the caller.
+//! answers of the lines before it stay. `session_alone` records first and draws then, on the caller's thread; `session` draws
+//! while up to four threads record, with workers beside the caller.
 #![tactic(auto)]
 
 mod bytes;

@@ -1,9 +1,8 @@
-//! Who runs the pending commands: the caller alone, or a crew beside it; and what the immediate context is asked that runs nothing.
+//! What runs the pending commands, and what the immediate context is asked that runs nothing.
 
 ghost use Rattle.std.specs.Prelude.{◌≡◌, ◌<◌, []};
 ghost use Rattle.gfxspec.specs.Recorded.{queries_open};
 ghost use Rattle.gfxspec.specs.Refusals.{AreAccepted};
-ghost use Rattle.sessions.specs.Taking.{verb_of, IsHere, RanBy, HasRun};
 
 use answers::Answer;
 use cmdlist::CommandList;
@@ -12,9 +11,6 @@ use immediate::{ImmediateContext, TileCrew};
 use recorders::{ListSource, take_call};
 use scenetext::Verb;
 use std::alloc::Allocator;
-use std::sync::Wait;
-use std::thread::Threads;
-use workers::Gate;
 
 /// What runs: the pending commands alone, or those and then a list.
 #[derive(Clone, Copy, Debug)]
@@ -104,23 +100,6 @@ pub(crate) fn finished_list<A: Allocator, S: ListSource<CommandList<A>>>(
     list
 }
 
-/// Runs on the caller's thread.
-pub(crate) fn run_alone<A: Allocator + Copy + Send, S: ListSource<CommandList<A>>>(
-    context: &mut ImmediateContext<A>,
-    lists: &S,
-    running: Running,
-) -> Result<(), GfxError>
-    requires { IsHere (S.holds lists.now) (verb_of running) }
-    ensures { HasRun (RanBy (S.agrees lists.now) (S.right lists.now) running context.old context.new) context.old result }
-{
-    match running {
-        Running::Flush => context.flush_alone(),
-        Running::Execute(of, number, restore) => {
-            context.execute_alone(finished_list(lists, of, number), restore)
-        }
-    }
-}
-
 /// What a session in threads works with: threads, memory, a crew for the tiles, and the gate by which tests look at it.
 #[derive(Drop)]
 pub(crate) struct Workers<'w, 'a, A: Allocator + Copy + Send, R, G> {
@@ -128,29 +107,4 @@ pub(crate) struct Workers<'w, 'a, A: Allocator + Copy + Send, R, G> {
     pub(crate) alloc: A,
     pub(crate) crew: TileCrew<'a, A>,
     pub(crate) gate: &'w G,
-}
-
-/// Runs by a crew beside the caller.
-pub(crate) fn run_by_crew<
-    A: Allocator + Copy + Send + Sync,
-    S: ListSource<CommandList<A>>,
-    R: Threads + Wait + Sync,
-    G: Gate,
->(
-    workers: &Workers<'_, '_, A, R, G>,
-    context: &mut ImmediateContext<A>,
-    lists: &S,
-    running: Running,
-) -> Result<(), GfxError>
-    requires { IsHere (S.holds lists.now) (verb_of running) }
-    ensures { HasRun (RanBy (S.agrees lists.now) (S.right lists.now) running context.old context.new) context.old result }
-{
-    let (rt, crew, gate) = (workers.rt, &workers.crew, workers.gate);
-    match running {
-        Running::Flush => context.flush_by_crew(rt, crew, gate),
-        Running::Execute(of, number, restore) => {
-            let list = finished_list(lists, of, number);
-            context.execute_by_crew(rt, list, restore, crew, gate)
-        }
-    }
 }

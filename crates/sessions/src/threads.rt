@@ -27,8 +27,7 @@ struct Round<A: Allocator> {
     returned: Returned<A>,
 }
 
-/// Starts the recorders beside the threads of the crew, takes the lines of the immediate context, and waits for the recorders. The
-/// crew goes home at the end.
+/// Starts the recorders and the threads of the crew, takes the lines of the immediate context, and waits for all of them.
 fn play_in_scope<
     'w,
     'a,

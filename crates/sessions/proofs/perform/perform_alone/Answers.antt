@@ -18,12 +18,6 @@ play_alone-played-requires-clause-may g c κs within = record {
   start = c.in-Ok.ensures.begun.new;
 }
 
-pub end-requires-clause-sized : goal.end-requires-clause-sized
-end-requires-clause-sized g c = c.in-Ok.ensures.begun.sized
-
-pub end-requires-clause-scene : goal.end-requires-clause-scene
-end-requires-clause-scene g c = c.in-Ok.ensures.begun.spells.scene_is
-
 pub end-requires-clause-recorded : goal.end-requires-clause-recorded
 end-requires-clause-recorded g c =
     let played = c.play_alone-played in

@@ -19,14 +19,6 @@ play_in_scope-round-requires-clause-may g c κs within = record {
   start = c.in-Ok.ensures.begun.new;
 }
 
-pub settle-deferred-requires : goal.settle-deferred-requires
-settle-deferred-requires g c =
-    let round = c.play_in_scope-round.ensures in
-    (round.results.back, round.queue_is)
-
-pub end-requires-clause-sized : goal.end-requires-clause-sized
-end-requires-clause-sized g c = c.in-Ok.ensures.begun.sized
-
 pub end-requires-clause-recorded : goal.end-requires-clause-recorded
 end-requires-clause-recorded g c =
     let round = c.play_in_scope-round in

@@ -2,7 +2,7 @@ use Rattle.std.proofs.Common.{sym, subst, true, []}
 use Rattle.sessions.specs.declared.run.Running.{Running}
 use Rattle.sessions.specs.Taking.{RanBy}
 use Rattle.sessions.proofs.Ran.{run_is, list_taken}
-use Rattle.sessions.proofs.run.run_by_crew.Goals as goal
+use Rattle.sessions.proofs.play.fn.play_by_crew.play+arg5.Goals as goal
 
 pub returns-in-Flush : goal.returns-in-Flush
 returns-in-Flush g c =
