@@ -1,4 +1,3 @@
-pub mod Rows
 pub mod Played
 pub mod Steps
 pub mod Endings
