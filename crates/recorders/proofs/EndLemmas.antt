@@ -12,16 +12,13 @@ use Rattle.recorders.specs.declared.refusal.RefusedLine.{RefusedLine}
 use Rattle.recorders.specs.declared.refusal.ContextEnd.{ContextEnd}
 use Rattle.recorders.specs.declared.refusal.RecordingEnd.{RecordingEnd}
 use Rattle.recorders.specs.declared.recorder.RecorderResult.{RecorderResult}
-use Rattle.recorders.specs.Apart.{AcceptsTo, IsStopOf, IsListed, stop_or}
+use Rattle.recorders.specs.Apart.{IsStopOf, IsListed, stop_or}
 use Rattle.recorders.specs.Sinks.{lists_sent}
 use Rattle.recorders.specs.Recorders.{IsEnd, AreEnded}
 use Rattle.recorders.specs.Ending.{earlier_of, first_of, no_end, pair_at, end_at, IsStopOfSome, Lacks, AreRecorded, AreEnds, EndsLack}
 use Rattle.recorders.specs.Receiving.{IsResultOf, AreResults}
 use Rattle.recorders.proofs.Growing.{fewer_lists}
 use Rattle.recorders.proofs.PortLemmas.{each_port}
-
-pub accepts_less : (ls : List Line) (k m n : ℕ) → m ≤ n → AcceptsTo ls k n → AcceptsTo ls k m
-accepts_less ls k m n less h j low own = h j (omega (arith, less, low)) own
 
 pub match_more : {X : Type 0} {P Q : X → Type 0} (o : Option X) → ((x : X) → P x → Q x) → MatchOption o (Unit {0}) P → MatchOption o (Unit {0}) Q
 match_more None f h = tt
@@ -101,7 +98,7 @@ module _ (ls : List Line) (ends : List RecordingEnd) (are : AreEnds ls ends) whe
 
   pub all_recorded : (missing : Option (ℕ × ℕ)) → MatchOption missing (Unit {0}) (λ name. name.0 < 8 → EndsLack ends name.0 name.1) → AreRecorded ls first missing
   all_recorded missing lacks = record {
-    accepted = λ k low. accepts_less ls k _ _ (none_before k low) (ended k low).accepts;
+    accepted = λ k low j less own. let most = none_before k low in (ended k low).accepts j (omega (arith, most, less)) own;
     stop_is = (first_is ls None ends tt stops).0;
     missing_is = match_more missing (λ name lack low. fewer name.0 name.1 low (lack low)) lacks;
   }

@@ -1,23 +1,20 @@
 -- From one place of a taker to the next: the lines between are others'.
-use Rattle.std.proofs.Common.{◌≡◌, ◌∙◌, ap, sym, subst, refl, ℕ, zero, suc, ◌+◌, ◌%◌, ◌==◌, ◌<◌, ◌≤◌, ⊎_elim, arith, Bool, true, false, true≢false, cond, List, [], ◌∷◌, ◌++◌, length, drop, map, set, append_assoc}
+use Rattle.std.proofs.Common.{◌≡◌, ◌∙◌, ap, sym, subst, refl, ℕ, zero, suc, ◌+◌, ◌-◌, ◌%◌, ◌==◌, ◌<◌, ◌≤◌, ⊎_elim, arith, Bool, true, false, true≢false, cond, List, [], ◌∷◌, ◌++◌, length, drop, map, set, append_assoc}
 use Rattle.std.specs.Prelude.{slice_index_or}
 use Rattle.std.proofs.lemmas.Bool.{cases_lt, eqb-true, eq-eqb}
-use Rattle.std.proofs.lemmas.List.{length-drop, length-map, get_or-map, get_or_default, drop_more, get_or_past, get_or-set_same, get_or-set_other}
+use Rattle.std.proofs.lemmas.Bool.Decides.{nat_tests}
+use Rattle.std.proofs.lemmas.List.{length-drop, length-map, get_or-map, get_or_default, drop_more, get_or-set_same, get_or-set_other}
 use Rattle.scenetext.specs.Scene.{Actor, Immediate, Deferred, Line}
 use Rattle.scenetext.specs.Spelling.{is_deferred}
 use Rattle.recorders.specs.Apart.{line_at, a_line}
 use Rattle.recorders.specs.Dealing.{taker_of, places_of, place_at, AreDealt}
 use Rattle.recorders.proofs.RowLemmas.{pushed}
 
--- none of the lines from i to j is one of taker t
-abbrev pub AreOthers : List Line → ℕ → ℕ → ℕ → Type 0
-AreOthers ls t i j = (m : ℕ) → i ≤ m → m < j → (taker_of (line_at ls m).actor == t) ≡ false
-
--- none of taker t stands between i and q
+-- none of the lines from i to q is one of taker t
 pub record IsFirst (ls : List Line) (t i q : ℕ) : Type 0 where
   pub start : i ≤ q
   pub within : q ≤ length ls
-  pub others : AreOthers ls t i q
+  pub others : (m : ℕ) → i ≤ m → m < q → (taker_of (line_at ls m).actor == t) ≡ false
 
 -- p is the place of a line of taker t, and q that of its next, or the one behind all lines
 pub record IsPlace (ls : List Line) (t p q : ℕ) : Type 0 where
@@ -37,7 +34,7 @@ module _ (ls : List Line) (t : ℕ) where
       let split = sym (drop_more ls i a_line low) ∙ is in
       (low, ap (λ ys. slice_index_or ys 0 a_line) split, ap (λ ys. drop 1 ys) split)
 
-  first : (xs : List Line) (i : ℕ) → drop i ls ≡ xs → i ≤ length ls → IsFirst ls t i (at i xs 0)
+  pub first : (xs : List Line) (i : ℕ) → drop i ls ≡ xs → i ≤ length ls → IsFirst ls t i (at i xs 0)
   first [] i is low =
       let count = sym (length-drop i ls) ∙ ap length is in
       record { start = low; within = omega arith; others = λ m p q. absurd (omega (arith, count, p, q)) }
@@ -76,23 +73,23 @@ module _ (ls : List Line) (t : ℕ) where
           subst (λ k. IsPlace ls t (at (i + 1) xs m) (slice_index_or (i ∷ places_of t (i + 1) xs) k (length ls))) more (rest m (omega (arith, few)))
       by false other m few behind rest = rest m few
 
-pub first_place : (ls : List Line) (t : ℕ) → IsFirst ls t 0 (place_at t ls 0)
-first_place ls t = first ls t ls 0 refl (omega arith)
-
 pub next_place : (ls : List Line) (t n : ℕ) → n < length (places_of t 0 ls) → IsPlace ls t (place_at t ls n) (place_at t ls (n + 1))
 next_place ls t n low = next ls t ls 0 n refl low
 
-pub last_place : (ls : List Line) (t n : ℕ) → length (places_of t 0 ls) ≤ n → place_at t ls n ≡ length ls
-last_place ls t n most = get_or_past (places_of t 0 ls) n (length ls) most
+-- what each line of another keeps is kept up to there
+pub kept_on : (P : ℕ → Type 0) (ls : List Line) (t i q : ℕ) → IsFirst ls t i q → ((m : ℕ) → m < length ls → (taker_of (line_at ls m).actor == t) ≡ false → P m → P (m + 1)) → P i → P q
+kept_on P ls t i q first keeps h = let sum : i + (q - i) ≡ q = omega (arith, first.start) in subst P sum (on (q - i) (omega (arith, sum)))
+  where
+    on : (d : ℕ) → i + d ≤ q → P (i + d)
+    on zero low = let none : i ≡ i + 0 = omega arith in subst P none h
+    on (suc d) low =
+        let more : i + d + 1 ≡ i + suc d = omega arith in
+        subst P more (keeps (i + d) (omega (arith, low, first.within)) (first.others (i + d) (omega arith) (omega (arith, low))) (on d (omega (arith, low))))
 
 -- a line of another recorder is none of context k
 pub none_of : (k t : ℕ) (a : Actor) → k % 4 ≡ t → (taker_of a == t) ≡ false → is_deferred k a ≡ false
 none_of k t Immediate same other = refl
-none_of k t (Deferred j) same other = by (j == k) refl
-  where
-    by : (b : Bool) → (j == k) ≡ b → (j == k) ≡ false
-    by true e = absurd (true≢false (sym (eq-eqb (j % 4) t (ap (λ i. i % 4) (eqb-true j k e) ∙ same)) ∙ other))
-    by false e = e
+none_of k t (Deferred j) same other = grind (arith, nat_tests)
 
 -- ---- one line more
 
@@ -125,16 +122,12 @@ dealt_next view xs ls i k old new low at more below is h t =
     ap (λ rows. slice_index_or rows t [] ++ places_of t (i + 1) (drop (i + 1) ls)) (pushed view xs k i old new low at more)
     ∙ dealt_more ls i k (map view xs) (subst (λ n. k < n) (sym (length-map xs view)) low) below is h t
 
--- ---- a row of a vector of rows, and its elements
+-- ---- an element of a row of a vector of rows, as it is read
 
-pub row_is : {X : Type 0} (view : X → List ℕ) (rows : List X) (ls : List Line) (t : ℕ) (row : X) → AreDealt ls (map view rows) → t < 5 → row ≡ slice_index_or rows t row → view row ≡ places_of t 0 ls
-row_is view rows ls t row dealt low at =
+pub place_is : {X : Type 0} (view : X → List ℕ) (rows : List X) (ls : List Line) (t n : ℕ) (row : X) (slice : List ℕ) → AreDealt ls (map view rows) → t < 5 → row ≡ slice_index_or rows t row → slice ≡ view row → n < length (places_of t 0 ls) → (slice_index_or slice n 0 ≡ place_at t ls n) × (slice_index_or slice n 0 < length ls)
+place_is view rows ls t n row slice dealt low at same few =
     let five = dealt.0 in
     let inside : t < length rows = omega (arith, five, length-map rows view, low) in
-    ap view at ∙ sym (get_or-map view rows t row [] inside) ∙ dealt.1 t
-
--- an element of that row, as it is read
-pub place_is : (ls : List Line) (t n : ℕ) (row : List ℕ) → row ≡ places_of t 0 ls → n < length (places_of t 0 ls) → (slice_index_or row n 0 ≡ place_at t ls n) × (slice_index_or row n 0 < length ls)
-place_is ls t n row is low =
-    let at = ap (λ xs. slice_index_or xs n 0) is ∙ get_or_default (places_of t 0 ls) n 0 (length ls) low in
-    (at, subst (λ m. m < length ls) (sym at) (next_place ls t n low).inside)
+    let is = same ∙ ap view at ∙ sym (get_or-map view rows t row [] inside) ∙ dealt.1 t in
+    let place = ap (λ xs. slice_index_or xs n 0) is ∙ get_or_default (places_of t 0 ls) n 0 (length ls) few in
+    (place, subst (λ m. m < length ls) (sym place) (next_place ls t n few).inside)

@@ -1,5 +1,5 @@
 -- What was taken of each port.
-use Rattle.std.proofs.Common.{◌≡◌, ◌∙◌, ap, sym, subst, refl, ℕ, zero, suc, ◌-◌, ◌<◌, ◌≤◌, arith, Bool, true, false, cond, nat_lt, List, [], ◌∷◌, ◌++◌, length, Some, None, Option}
+use Rattle.std.proofs.Common.{◌≡◌, ◌∙◌, ap, sym, subst, refl, ℕ, zero, suc, ◌<◌, ◌≤◌, arith, List, [], ◌∷◌, ◌++◌, length, Some, None, Option}
 use Rattle.std.specs.Prelude.{unwrap_or, MatchOption, All, Result, OnOk, OnErr}
 use Rattle.std.proofs.lemmas.Bool.Decides.{nat_tests}
 use Rattle.std.proofs.Math.Seq.{take-append_seam, drop-append_seam}
@@ -30,11 +30,7 @@ each_port F zero_is one_is two_is three_is (suc (suc (suc zero))) low = three_is
 each_port F zero_is one_is two_is three_is (suc (suc (suc (suc p)))) low = absurd (omega (arith, low))
 
 pub port_low : (k : ℕ) → k < 8 → port_of k < 4
-port_low k low = by (nat_lt k 4) refl
-  where
-    by : (b : Bool) → nat_lt k 4 ≡ b → cond b k (k - 4) < 4
-    by true e = grind (arith, nat_tests)
-    by false e = grind (arith, nat_tests)
+port_low k low = grind (arith, nat_tests)
 
 -- ---- what was taken
 
@@ -50,7 +46,7 @@ more_more a b = record { frame = b.frame ∙ a.frame; agrees = λ h. a.agrees (b
 
 -- ---- at the end
 
-some_same : {X : Type 0} (a b : X) → Some a ≡ Some b → a ≡ b
+pub some_same : {X : Type 0} (a b : X) → Some a ≡ Some b → a ≡ b
 some_same a b h = ap (λ o. unwrap_or o a) h
 
 pub results_for : {A : Type 0} (ls : List Line) (queue : TableId) (s : Receipts A) (results : Returned A) → receipt_frame s ≡ record { lines = ls; queue = Some queue } → AreResults s.lines s.queue results → AreResults ls queue results

@@ -1,5 +1,5 @@
 -- A context's lines, one by one.
-use Rattle.std.proofs.Common.{◌≡◌, ◌∙◌, ap, sym, subst, refl, ℕ, ◌+◌, ◌<◌, ◌≤◌, arith, Bool, true, false, cond, List, [], ◌++◌, length, take, below_more, Some, None, Option, zero, suc, ◌-◌, ◌%◌}
+use Rattle.std.proofs.Common.{◌≡◌, ◌∙◌, ap, sym, subst, refl, ℕ, ◌+◌, ◌<◌, ◌≤◌, arith, Bool, true, false, cond, List, [], ◌++◌, length, take, below_more, Some, None, Option, ◌%◌}
 use Rattle.std.specs.Prelude.{All, slice_index_or}
 use Rattle.std.proofs.lemmas.List.{append-nil, length_push, length-append, get_or_push}
 use Rattle.std.proofs.lemmas.List.Elements.{All-push}
@@ -16,7 +16,7 @@ use Rattle.recorders.specs.Apart.{line_at, a_line, listed, lists_behind, IsListe
 use Rattle.recorders.specs.Taking.{AtWork, starting, current_after, lists_after, given_by, VerbTaken, VerbRefused, TakenIf, HasTaken}
 use Rattle.recorders.specs.Recorders.{HasRecorded}
 use Rattle.recorders.proofs.Growing.{listed_early}
-use Rattle.recorders.proofs.Places.{IsFirst, none_of}
+use Rattle.recorders.proofs.Places.{IsFirst, kept_on, none_of}
 
 -- ---- one verb
 
@@ -172,15 +172,6 @@ module _ (ls : List Line) (k i : ℕ) (below : i < length ls) where
 
 -- ---- on to the next line of the recorder
 
--- the lines up to j are none of context k
-skipped : (ls : List Line) (k i d : ℕ) (r : AtWork) → IsAt ls k i r → i + d ≤ length ls → ((m : ℕ) → i ≤ m → m < i + d → is_deferred k (line_at ls m).actor ≡ false) → IsAt ls k (i + d) r
-skipped ls k i zero r h low others = let none : i ≡ i + 0 = omega arith in subst (λ n. IsAt ls k n r) none h
-skipped ls k i (suc d) r h low others =
-    let more : i + d + 1 ≡ i + suc d = omega arith in
-    subst (λ n. IsAt ls k n r) more
-    (passed ls k (i + d) (omega (arith, low)) r (skipped ls k i d r h (omega (arith, low)) (λ m p q. others m p (omega (arith, q)))) (others (i + d) (omega arith) (omega arith)))
-
 pub on_to : (ls : List Line) (k t i q : ℕ) (r : AtWork) → k % 4 ≡ t → IsFirst ls t i q → IsAt ls k i r → IsAt ls k q r
 on_to ls k t i q r same first h =
-    let sum : i + (q - i) ≡ q = omega (arith, first.start) in
-    subst (λ n. IsAt ls k n r) sum (skipped ls k i (q - i) r h (omega (arith, sum, first.within)) (λ m p low. none_of k t (line_at ls m).actor same (first.others m p (omega (arith, sum, low)))))
+    kept_on (λ n. IsAt ls k n r) ls t i q first (λ m low other at. passed ls k m low r at (none_of k t (line_at ls m).actor same other)) h

@@ -16,7 +16,7 @@ use Rattle.recorders.specs.Sinks.{lists_sent}
 use Rattle.recorders.specs.Apart.{listed, IsListed}
 use Rattle.recorders.specs.Recorders.{AreEnded, end_in, port_of}
 use Rattle.recorders.specs.Asking.{Asked}
-use Rattle.recorders.specs.Ending.{AreEnds, EndsLack}
+use Rattle.recorders.specs.Ending.{AreEnds}
 
 -- what was taken of the four ports are the lists that their contexts and numbers name
 abbrev pub TakenAgrees : List Line → List (Submission (Recorded (List Command))) → Type 0
@@ -106,10 +106,6 @@ module _ {A : Type 0} where
     pub back : AreAll queue (in_order results.passes)
     pub sent : SentAgrees ls (in_order results.passes)
     pub ends : AreEnds ls results.ends
-
-  -- there is no list of this number
-  abbrev pub ResultsLack : Returned A → ℕ → ℕ → Type 0
-  ResultsLack results k n = EndsLack results.ends k n
 
   -- each pass is back, at its number, and the drain
   abbrev pub AreBack : TableId → Returned A → Type 0

@@ -2,8 +2,8 @@
 
 ghost use Rattle.std.specs.Prelude.{◌≡◌, ◌<◌, ℕ, List, Option, IfOk, MatchOption};
 ghost use Rattle.scenetext.specs.Scene.{Line as PlainLine};
-ghost use Rattle.recorders.specs.Receiving.{AreNew, AreResults, TakenAgrees, ResultsLack, AreBack};
-ghost use Rattle.recorders.specs.Ending.{AreRecorded};
+ghost use Rattle.recorders.specs.Receiving.{AreNew, AreResults, TakenAgrees, AreBack};
+ghost use Rattle.recorders.specs.Ending.{AreRecorded, EndsLack};
 
 use crate::refusal::{RecordingEnd, RefusedLine, first_refused};
 use cmdlist::CommandList;
@@ -67,7 +67,7 @@ pub fn settle<A: Allocator, R: Wait>(
     requires { AreBack ports.queue returned }
     ensures agrees { (ls : List PlainLine) → AreResults ls ports.queue returned → TakenAgrees ls returned.drain.taken }
     ensures refused { (ls : List PlainLine) (missing : Option (ℕ × ℕ)) → AreResults ls ports.queue returned
-        → MatchOption missing (Unit {0}) (λ name. name.0 < 8 → ResultsLack returned name.0 name.1) → AreRecorded ls result missing }
+        → MatchOption missing (Unit {0}) (λ name. name.0 < 8 → EndsLack returned.ends name.0 name.1) → AreRecorded ls result missing }
 {
     let Returned {
         passes,

@@ -5,7 +5,8 @@ ghost use Rattle.port.specs.History.{drain_history};
 ghost use Rattle.recorders.specs.Apart.{IsListed};
 ghost use Rattle.recorders.specs.Ports.{at_port};
 ghost use Rattle.recorders.specs.Recorders.{port_of};
-ghost use Rattle.recorders.specs.Receiving.{receipt_frame, ReceiptLacks, AreNew, AreResults, ResultsLack, AreSameRecorders, EndsWith, IsMore};
+ghost use Rattle.recorders.specs.Ending.{EndsLack};
+ghost use Rattle.recorders.specs.Receiving.{receipt_frame, ReceiptLacks, AreNew, AreResults, AreSameRecorders, EndsWith, IsMore};
 
 use crate::dealing::DealtLines;
 use crate::ports::{ByPort, ListPorts, Passes, RecordedList, Returned};
@@ -108,7 +109,7 @@ impl<'a, A: Allocator + Copy, R: Threads + Wait> ReceivedLists<'a, A, R> {
     /// Joins all recorders, and gives what they handed over.
     pub fn close(self) -> Returned<A>
         ensures results { AreResults self.entry.lines self.entry.queue result }
-        ensures lacks { (k n : ℕ) → k < 8 → ReceiptLacks self.entry k n → ResultsLack result k n }
+        ensures lacks { (k n : ℕ) → k < 8 → ReceiptLacks self.entry k n → EndsLack result.ends k n }
         ensures drain { result.drain ≡ drain_history self.entry.queue self.entry.taken }
     {
         let ByPort(zero, one, two, three) = self.recorders;

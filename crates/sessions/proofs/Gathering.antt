@@ -11,7 +11,7 @@ use Rattle.meaning.specs.Contexts.{Context, shown, answered, result_at}
 use Rattle.meaning.specs.Standing.{Stands}
 use Rattle.meaning.proofs.Contexts.{shows, stands_executed}
 use Rattle.tileblock.specs.Surface.{pixel_of}
-use Rattle.scenetext.specs.Scene.{Immediate, Verb, Line}
+use Rattle.scenetext.specs.Scene.{Line}
 use Rattle.scenetext.specs.Spelling.{IsVerb, AreLines}
 use Rattle.recorders.specs.Apart.{a_line, line_at, listed}
 use Rattle.immediate.specs.Held.{Held, context_of, outputs_of}
@@ -25,14 +25,11 @@ use Rattle.binner.specs.declared.compiling.Compiling.{Compiling}
 use Rattle.binner.specs.Compiling.{HasCompiled}
 use Rattle.sessions.specs.Gathering.{ExecutesAndKeeps, IsKept, with_items, Follows, AreGathered, HasGoneOn}
 use Rattle.sessions.proofs.Played.{steps_of-push}
-use Rattle.sessions.proofs.Steps.{told_none, accepts_more, ArePassed, IsNext, next_line, executed_list}
+use Rattle.sessions.proofs.Steps.{told_none, accepts_more, ArePassed, IsNext, immediate_line, next_line, executed_list}
 
 -- its list is one of the eight contexts'
 pub names_one : (ls : List Line) (n k m : ℕ) → AreLines [] ls → ExecutesAndKeeps ls n k m → k < 8
 names_one ls n k m sound at = (subst IsVerb at.1 (next_line ls n _ sound at.0 refl).is.verb).0
-
-turned : (l : Line) (v : Verb) → l.actor ≡ Immediate → l.verb ≡ v → l ≡ record { actor = Immediate; verb = v }
-turned l v a e = rw (a, e) refl
 
 -- ---- one more line
 
@@ -47,7 +44,7 @@ module _ {agrees : Type 0} (size : Size) (ls : List Line) (n : ℕ) (h : Held) (
       let i : ℕ = own_place ls n in
       let steps : List Step = steps_of (take i ls) in
       let next : IsNext ls n (line_at ls i) = next_line ls n (line_at ls i) sound kept.executes.0 refl in
-      let line = turned (line_at ls i) _ next.own kept.executes.1 in
+      let line = immediate_line (line_at ls i) _ next.own kept.executes.1 in
       let execution : list ≡ listed (take i ls) kept.context kept.number = kept.named ok ∙ executed_list ls n (line_at ls i) next w right kept.context kept.number true kept.executes.1 in
       let all : List Item = js ++ items (performed_over (outputs_of h) list) in
       follows_on size ls (i + 1) (own_place ls (n + 1)) h all text (next.on size) record {
@@ -83,9 +80,6 @@ all_follow size ls i h d text is same ran f = record {
 
 -- ---- all of them
 
-later : (m n : ℕ) → m ≤ n → m ≤ n + 1
-later m n p = omega (arith, p)
-
 pub more_inside : (i n : ℕ) → i < n → i + 1 ≤ n
 more_inside i n p = omega (arith, p)
 
@@ -103,7 +97,7 @@ module _ {A : Type 0} (agrees : Type 0) (ls : List Line) (from : ℕ) (h : Held)
 
   pub one_gathered : (i : ℕ) (list : List Command) (e f : Compiling A) → IsKept agrees w ls i list → issues list ≡ [] → AreGathered agrees ls from i h e → f.lists.size ≡ h.surface.size → ((is : List Item) → HasCompiled e is → HasCompiled f (is ++ items (performed_over (outputs_of h) list))) → AreGathered agrees ls from (i + 1) h f
   one_gathered i list e f kept none g size means = record {
-    start = later from i g.start;
+    start = let before = g.start in omega (arith, before);
     end = more_inside i (own_count ls) kept.executes.0;
     size = size;
     items = g.items ++ items (performed_over (outputs_of h) list);
@@ -120,11 +114,4 @@ gone_on agrees ls from to h d e g c same ran = record {
   end = λ p. g.end;
   reached = λ ok size text r.
       all_follow size ls (own_place ls to) h d text g.items r.played.size_is (subst (λ (x : Held). HasExecuted g.items x d) same (ran g.items g.compiled)) (g.follows ok size text r);
-}
-
-pub stays : (agrees : Type 0) (ls : List Line) (from : ℕ) (h d : Held) → d ≡ h → HasGoneOn agrees ls from from h d
-stays agrees ls from h d same = record {
-  start = omega arith;
-  end = λ p. p;
-  reached = λ ok size text r. subst (λ x. HasReached size ls (own_place ls from) x text) (sym same) r;
 }

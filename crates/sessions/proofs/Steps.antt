@@ -1,7 +1,7 @@
 -- Lines that are accepted and answered, one by one, and one more line of the immediate context.
 use Rattle.std.proofs.Common.{◌≡◌, ◌∙◌, ap, sym, subst, refl, ℕ, ◌+◌, ◌<◌, ◌≤◌, arith, Bool, true, false, true≢false, List, [], ◌∷◌, ◌++◌, length, take, map, get_or, below_more, None, zero, suc, ◌-◌, ◌%◌, ◌==◌, drop, append_assoc}
 use Rattle.std.specs.Prelude.{if◌then◌else◌}
-use Rattle.std.proofs.lemmas.List.{length-map, take_more, append-nil, get_or-map, length-append}
+use Rattle.std.proofs.lemmas.List.{length-map, take_more, append-nil, get_or-map, get_or_past, length-append}
 use Rattle.gfxspec.specs.declared.geometry.Size.{Size}
 use Rattle.gfxspec.specs.declared.error.GfxError.{GfxError}
 use Rattle.gfxspec.specs.Commands.{Command}
@@ -16,7 +16,7 @@ use Rattle.recorders.specs.Apart.{a_line, line_at, listed, Cause}
 use Rattle.recorders.proofs.Recordings.{lists_counted}
 use Rattle.recorders.proofs.Growing.{listed_early}
 use Rattle.recorders.specs.Dealing.{taker_of}
-use Rattle.recorders.proofs.Places.{IsFirst, first_place, next_place}
+use Rattle.recorders.proofs.Places.{IsFirst, first, next_place, kept_on}
 use Rattle.immediate.specs.Held.{Held, context_of}
 use Rattle.sessions.specs.declared.play.Interruption.{Interruption}
 use Rattle.sessions.specs.declared.play.Interruption.TheVariants.{Refused}
@@ -150,19 +150,14 @@ module _ (size : Size) (ls : List Line) (sound : AreLines [] ls) where
         told_none size ls i text below h (silent (take i ls) (line_at ls i).verb (ap (λ a. may_take (line_at ls i).verb (is_immediate_actor a)) (sym other) ∙ (is_line ls i below sound).taken));
   }
 
-  all_passed : (i d : ℕ) → i + d ≤ length ls → ((m : ℕ) → i ≤ m → m < i + d → (taker_of (line_at ls m).actor == 4) ≡ false) → ArePassed size ls i (i + d)
-  all_passed i zero low others = let none : i ≡ i + 0 = omega arith in subst (ArePassed size ls i) none record { steps = refl; accepts = λ h. h; told = λ text h. h }
-  all_passed i (suc d) low others =
-      let before = all_passed i d (omega (arith, low)) (λ m p q. others m p (omega (arith, q))) in
-      let other = other_actor (line_at ls (i + d)).actor (others (i + d) (omega arith) (omega arith)) in
-      let one = one_passed (i + d) other.0 (omega (arith, low)) other.1 in
-      let more : i + d + 1 ≡ i + suc d = omega arith in
-      subst (ArePassed size ls i) more record { steps = before.steps ∙ one.steps; accepts = λ h. one.accepts (before.accepts h); told = λ text h. one.told text (before.told text h) }
-
   pub passed : (i j : ℕ) → IsFirst ls 4 i j → ArePassed size ls i j
   passed i j first =
-      let sum : i + (j - i) ≡ j = omega (arith, first.start) in
-      subst (ArePassed size ls i) sum (all_passed i (j - i) (omega (arith, sum, first.within)) (λ m p low. first.others m p (omega (arith, sum, low))))
+      kept_on (ArePassed size ls i) ls 4 i j first
+      (λ m low at before.
+      let other = other_actor (line_at ls m).actor at in
+      let one = one_passed m other.0 low other.1 in
+      record { steps = before.steps ∙ one.steps; accepts = λ h. one.accepts (before.accepts h); told = λ text h. one.told text (before.told text h) })
+      record { steps = refl; accepts = λ h. h; told = λ text h. h }
 
 pub reached_on : (size : Size) (ls : List Line) (i j : ℕ) (c : Held) (text : List ℕ) → ArePassed size ls i j → HasReached size ls i c text → HasReached size ls j c text
 reached_on size ls i j c text p h = record {
@@ -190,6 +185,9 @@ next_line ls n l sound low here =
       on = λ size. passed size ls sound _ _ place.next;
     }
 
+pub immediate_line : (l : Line) (v : Verb) → l.actor ≡ Immediate → l.verb ≡ v → l ≡ record { actor = Immediate; verb = v }
+immediate_line l v a e = rw (a, e) refl
+
 -- the list that an execution names
 pub executed_list : (ls : List Line) (j : ℕ) (l : Line) → IsNext ls j l → (w : ℕ → ℕ → List Command) → ListsOf ls w → (k n : ℕ) (restore : Bool) → l.verb ≡ Execute k n restore → w k n ≡ listed (take (own_place ls j) ls) k n
 executed_list ls j l next w right k n restore at =
@@ -204,18 +202,9 @@ module _ (size : Size) (ls : List Line) (n : ℕ) (l : Line) (c : Held) (text : 
   abbrev i : ℕ
   i = own_place ls n
 
-  here : l ≡ line_at ls i
-  here = next.here
-
-  below : i < length ls
-  below = next.below
-
-  turned : record { actor = Immediate; verb = l.verb } ≡ l
-  turned = ap (λ a. record { actor = a; verb = l.verb }) (sym next.own)
-
   refusal_is : refusal size (take i ls) (line_at ls i) ≡ first_row (held_rows c l.verb)
   refusal_is =
-      ap (refusal size (take i ls)) (sym here) ∙ ap (λ a. first_row (line_rows size (take i ls) a l.verb)) next.own
+      ap (refusal size (take i ls)) (sym next.here) ∙ ap (λ a. first_row (line_rows size (take i ls) a l.verb)) next.own
       ∙ sym (rows_are size (take i ls) c h.played l.verb)
 
   pub reached_next : (w : ℕ → ℕ → List Command) (d : Held) (new : List ℕ) → ListsOf ls w → first_row (held_rows c l.verb) ≡ None → HasTaken w l.verb c d → new ≡ text ++ answer_lines (held_answers l.verb c) → HasReached size ls (own_place ls (n + 1)) d new
@@ -223,32 +212,28 @@ module _ (size : Size) (ls : List Line) (n : ℕ) (l : Line) (c : Held) (text : 
       let step = next_played size (take i ls) c h.played w l.verb d (executed_list ls n l next w right) next.is.verb none took in
       let says = answers_are size (take i ls) c h.played l.verb none in
       reached_on size ls (i + 1) (own_place ls (n + 1)) d new (next.on size) record {
-        played = subst (λ x. IsPlayed size x d) (ap (λ m. take i ls ++ m ∷ []) (turned ∙ here) ∙ sym (take_more ls i a_line below)) step;
+        played = subst (λ x. IsPlayed size x d) (ap (λ m. take i ls ++ m ∷ []) (sym (immediate_line l l.verb next.own refl) ∙ next.here) ∙ sym (take_more ls i a_line next.below)) step;
         accepted = accepts_more size ls i h.accepted (λ o. refusal_is ∙ none);
-        told = told_more size ls i text new (held_answers l.verb c) below h.told (ap (λ (m : Line). answer_of size (take i ls) m.verb) (sym here) ∙ says) grown;
+        told = told_more size ls i text new (held_answers l.verb c) next.below h.told (ap (λ (m : Line). answer_of size (take i ls) m.verb) (sym next.here) ∙ says) grown;
       }
 
   pub interrupted : (why : Interruption) (new : List ℕ) → new ≡ text → Interrupts (first_row (held_rows c l.verb)) l.verb why → IsInterrupted size ls i why new
   interrupted why new same cause = record {
-    below = omega (arith, below);
+    below = let inside = next.below in omega (arith, inside);
     accepted = h.accepted;
     told = same ∙ h.told;
-    cause = subst (λ (m : Line). Interrupts (refusal size (take i ls) (line_at ls i)) m.verb why) here (subst (λ o. Interrupts o l.verb why) (sym refusal_is) cause);
+    cause = subst (λ (m : Line). Interrupts (refusal size (take i ls) (line_at ls i)) m.verb why) next.here (subst (λ o. Interrupts o l.verb why) (sym refusal_is) cause);
   }
 
 -- ---- before the first line, and behind the last
 
 pub none_reached : (ls : List Line) (c : Held) (text : List ℕ) → AreLines [] ls → IsNew c.surface.size (context_of c) → text ≡ [] → HasReached c.surface.size ls (own_place ls 0) c text
 none_reached ls c text sound new none =
-    reached_on c.surface.size ls 0 (own_place ls 0) c text (passed c.surface.size ls sound 0 _ (first_place ls 4)) record {
+    reached_on c.surface.size ls 0 (own_place ls 0) c text (passed c.surface.size ls sound 0 _ (first ls 4 ls 0 refl (omega arith))) record {
       played = record { size_is = refl; stands = stands_new c.surface.size (context_of c) new };
       accepted = λ j low own. absurd (omega (arith, low));
       told = none;
     }
-
-behind_all : (ls : List Line) → line_at ls (length ls) ≡ a_line
-behind_all [] = refl
-behind_all (l ∷ ls) = behind_all ls
 
 pub last_interrupted : (size : Size) (ls : List Line) (c : Held) (text : List ℕ) (why : Interruption) (e : GfxError) → HasReached size ls (length ls) c text → Cause (first_row (held_rows c Flush)) e → why ≡ Refused e → IsInterrupted size ls (length ls) why text
 last_interrupted size ls c text why e h cause is = record {
@@ -257,5 +242,5 @@ last_interrupted size ls c text why e h cause is = record {
   told = h.told;
   cause =
       subst (Interrupts (refusal size (take (length ls) ls) (line_at ls (length ls))) (line_at ls (length ls)).verb) (sym is)
-      (subst (λ o. Cause o e) (rows_are size (take (length ls) ls) c h.played Flush ∙ ap (refusal size (take (length ls) ls)) (sym (behind_all ls))) cause);
+      (subst (λ o. Cause o e) (rows_are size (take (length ls) ls) c h.played Flush ∙ ap (refusal size (take (length ls) ls)) (sym (get_or_past ls (length ls) a_line (omega arith)))) cause);
 }

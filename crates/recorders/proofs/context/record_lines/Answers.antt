@@ -3,7 +3,8 @@ use Rattle.std.proofs.Math.Nat.{mod-eq_of_lt, add-mod_right}
 use Rattle.recorders.specs.Dealing.{place_at, places_of}
 use Rattle.recorders.specs.Recorders.{IsEnd, HasRecorded}
 use Rattle.recorders.specs.Taking.{AtWork}
-use Rattle.recorders.proofs.Places.{first_place, next_place, last_place}
+use Rattle.std.proofs.lemmas.List.{get_or_past}
+use Rattle.recorders.proofs.Places.{first, next_place}
 use Rattle.recorders.proofs.Steps.{IsAt, starts_at, step, on_to}
 use Rattle.recorders.proofs.context.record_lines.Goals as goal
 
@@ -12,7 +13,7 @@ loop-next-init g c =
     let ls = c.args.lines.now in
     let k = c.args.number in
     let lists = λ (x : AtWork). x.end.lists in
-    let first = first_place ls k in
+    let first = first ls k ls 0 refl (omega arith) in
     record {
       way = refl;
       first = on_to ls k k 0 _ _ (mod-eq_of_lt c.requires) first (starts_at ls k c.new-first.result c.new-first.ensures);
@@ -46,7 +47,7 @@ returns-clause-recorded g c =
     let ls = c.args.lines.now in
     let k = c.args.number in
     let least : length (places_of k 0 ls) ≤ c.loop-next.next = search rules in
-    let end = last_place ls k c.loop-next.next least in
+    let end = get_or_past (places_of k 0 ls) c.loop-next.next (length ls) least in
     let held = c.loop-next.invariant in
     let lists = λ (x : AtWork). x.end.lists in
     let ended = λ (j : ℕ) (r : AtWork) (at : IsAt ls j (place_at k ls c.loop-next.next) r). subst (λ n. HasRecorded ls j n r.end.lists r.end.refused) end at.recorded in

@@ -1,6 +1,7 @@
-use Rattle.std.proofs.Common.{rules, ◌≤◌, ◌<◌, ◌∙◌, ap, sym, subst, refl}
+use Rattle.std.proofs.Common.{rules, ◌≤◌, ◌<◌, ◌∙◌, ap, sym, subst, refl, length}
 use Rattle.sessions.specs.Playing.{own_count, HasReached, IsInterrupted}
-use Rattle.recorders.proofs.Places.{last_place}
+use Rattle.std.proofs.lemmas.List.{get_or_past}
+use Rattle.recorders.specs.Dealing.{places_of}
 use Rattle.sessions.proofs.Steps.{next_line, reached_next, interrupted, last_interrupted, none_reached}
 use Rattle.sessions.proofs.Gathering.{more_inside}
 use Rattle.sessions.proofs.play.play.Goals as goal
@@ -70,7 +71,7 @@ returns-in-Err-run-clause-played g c ok =
     let ls = c.args.lines.now in
     let text = c.loop-next.answers.items in
     let most : own_count ls ≤ c.loop-next.next = search rules in
-    let end = last_place ls 4 c.loop-next.next most in
+    let end = get_or_past (places_of 4 0 ls) c.loop-next.next (length ls) most in
     let reached = subst (λ n. HasReached size ls n (g.C.RecordsCalls.held c.loop-next.context) text) end (c.loop-next.invariant.reached ok) in
     let ran = c.requires.runs _ _ _ _ _ c.in-Err-run.ensures in
     subst (λ n. IsInterrupted size ls n c.from.result text) (sym c.len.ensures)
