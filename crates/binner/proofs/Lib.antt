@@ -9,7 +9,6 @@ pub mod Pushing
 pub mod Lasting
 pub mod Changing
 pub mod Grid
-pub mod Strips
 pub mod Steps
 pub mod Growing
 pub mod Drawing

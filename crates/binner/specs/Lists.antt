@@ -1,12 +1,11 @@
 -- The lists of words of all tiles, while they are written: what changes.
-use Rattle.std.specs.Prelude.{ℕ, ◌≡◌, ◌≢◌, ◌<◌, ◌≤◌, ◌+◌, ◌*◌, ◌==◌, ◌||◌, ◌⊎◌, Bool, true, false, IsTrue, List, [], ◌∷◌, ◌++◌, length, Option, Some, None, slice_index_or, if◌then◌else◌}
+use Rattle.std.specs.Prelude.{ℕ, ◌≡◌, ◌≢◌, ◌<◌, ◌≤◌, ◌+◌, ◌==◌, ◌||◌, ◌⊎◌, Bool, true, false, IsTrue, List, [], ◌∷◌, ◌++◌, length, Option, Some, None, slice_index_or, if◌then◌else◌}
 use Rattle.gfxspec.specs.declared.geometry.PixelRect.{PixelRect}
 use Rattle.gfxspec.specs.Raster.{Triangle}
 use Rattle.gfxspec.specs.Limits.{is_size}
-use Rattle.gfxspec.specs.declared.geometry.Size.{Size}
-use Rattle.gfxspec.specs.Tiles.{tiles_along, tile_rect, tile_count, IsIn}
+use Rattle.gfxspec.specs.Tiles.{tile_count, IsIn}
 use Rattle.gfxspec.specs.Items.{is_in_rect}
-use Rattle.classify.specs.Region.{IsClassOf, IsKnown}
+use Rattle.classify.specs.Region.{IsClassOf}
 use Rattle.classify.specs.declared.Class.TheVariants.{Outside, Cut}
 use Rattle.tileword.specs.declared.edge_mask.EdgeMask.{EdgeMask}
 use Rattle.tileword.specs.declared.word.Word.{Word}
@@ -16,7 +15,6 @@ use Rattle.tileword.specs.Word.{encoded, decoded}
 use Rattle.binmem.specs.Lists.{words_of}
 use Rattle.binner.specs.declared.entry.Current.{Current}
 use Rattle.binner.specs.declared.lists.Lists.{Lists}
-use Rattle.binner.specs.declared.lists.Strip.{Strip}
 use Rattle.binner.specs.Program.{program}
 use Rattle.binner.specs.Cuts.{AreBothClears}
 
@@ -77,13 +75,6 @@ pub record IsDrawnSince (first : ℕ) (numbers : List ℕ) : Type 0 where
   pub n : ℕ
   pub last : (p : Option ℕ) → drawn_behind p (program numbers) ≡ Some n
   pub since : first ≤ n
-
--- ---- strips of tiles
-
--- what each tile of a row, from a column to the strip's end, is known to be to a triangle
-abbrev pub AreKnown : Triangle → Size → ℕ → ℕ → Strip → Type 0
-AreKnown tri size row first s =
-    (column : ℕ) → first ≤ column → column < s.end → IsKnown s.known tri (tile_rect size (row * tiles_along size.width + column))
 
 -- ---- changes of one tile
 

@@ -2,32 +2,23 @@
 //!
 //! No table says which entry is in force in a tile: triangles are numbered in the order of drawing, so the last one of a
 //! tile was drawn under the current entry exactly where its number isn't below that entry's first.
-//!
-//! Tiles of a row that a triangle may touch are asked together first, eight at a time: where an edge holds nowhere over all of them
-//! none is looked at, and an edge that holds everywhere is not asked again (Pineda, "A Parallel Algorithm for Polygon Rasterization").
 
 ghost use Rattle.std.specs.Prelude.{◌≡◌, ◌<◌, ◌≤◌, ◌+◌, ◌*◌, ℕ, List, length, IsTrue, OnOk, IfSome, Some, if◌then◌else◌, ◌++◌, ◌∷◌, [], slice_set, true};
 ghost use Rattle.gfxspec.specs.Limits.{is_size};
 ghost use Rattle.gfxspec.specs.Tiles.{tiles_along, tile_count, tile_rect};
-ghost use Rattle.classify.specs.Region.{IsReal, IsKnown};
+ghost use Rattle.classify.specs.Region.{IsReal};
 ghost use Rattle.binmem.specs.Lists.{word_count, with_word as with_number};
 ghost use Rattle.binner.specs.Cuts.{AreBothClears};
-ghost use Rattle.binner.specs.Lists.{at, has_some, IsLists, IsShort, IsDrawnSince, ChangesAt, EachChanges, GainsWord, PutsInForce, AreKnown, AddsTriangle, TakesTriangle, CanCut, both_left, TakesClear};
+ghost use Rattle.binner.specs.Lists.{at, has_some, IsLists, IsShort, IsDrawnSince, ChangesAt, EachChanges, GainsWord, PutsInForce, AddsTriangle, TakesTriangle, CanCut, both_left, TakesClear};
 
 use crate::entry::Current;
 use crate::setup::TriSetup;
 use binmem::Bins;
-use classify::{Class, classify, classify_within};
+use classify::{Class, classify};
 use edges::EdgeSet;
 use gfxspec::{PixelRect, Size, TILE_SIDE, tile_count, tiles_along};
 use std::alloc::{AllocError, Allocator};
 use tileword::{EdgeMask, Word, decode, encode};
-
-/// How many tiles of a row are asked together what they are to a triangle at most.
-const STRIP: u32 = 8;
-
-/// How many are asked together at least: fewer are asked one by one.
-const LEAST_STRIP: u32 = 4;
 
 /// The lists of words of the tiles of a target.
 #[derive(Drop)]
@@ -38,21 +29,6 @@ pub struct Lists<A: Allocator> {
     pub counted: Vec<bool, A>,
     /// The tiles that have words, each once.
     pub touched: Vec<u32, A>,
-}
-
-/// Tiles beside each other in a row, up to a column: what each of them is known to be to a triangle.
-#[derive(Clone, Copy)]
-struct Strip {
-    end: u32,
-    known: Class,
-}
-
-/// A tile, the part of it that lies on the target, and what it is known to be to a triangle.
-#[derive(Clone, Copy)]
-struct Place {
-    tile: u32,
-    rect: PixelRect,
-    known: Class,
 }
 
 /// The part of a tile that lies on the target, by its column and row.
@@ -71,48 +47,6 @@ fn rect_at(size: Size, column: u32, row: u32) -> PixelRect
         right: (left + TILE_SIDE).min(size.width),
         bottom: (top + TILE_SIDE).min(size.height),
     }
-}
-
-/// The tiles of a row from a column on, at most as many as are asked together: outside of a triangle all, or cut by the same edges at
-/// most.
-fn strip_at(edges: &EdgeSet, size: Size, row: u32, first: u32, right: u32) -> Strip
-    requires size { IsTrue (is_size size) }
-    requires row { row < tiles_along size.height }
-    requires first { first < right }
-    requires right { right ≤ tiles_along size.width }
-    ensures some { first < result.end }
-    ensures known { AreKnown edges.now size row first result }
-{
-    let end = (first + STRIP).min(right);
-    let rect = PixelRect {
-        left: TILE_SIDE * first,
-        top: TILE_SIDE * row,
-        right: (TILE_SIDE * end).min(size.width),
-        bottom: (TILE_SIDE * row + TILE_SIDE).min(size.height),
-    };
-    let known = classify(edges, rect);
-    Strip { end, known }
-}
-
-/// The strip that a tile of a row lies in: this one, or else one that begins there. Of few tiles nothing is known.
-#[inline(always)]
-fn strip_with(strip: Strip, edges: &EdgeSet, size: Size, row: u32, column: u32, right: u32) -> Strip
-    requires size { IsTrue (is_size size) }
-    requires row { row < tiles_along size.height }
-    requires column { column < right }
-    requires right { right ≤ tiles_along size.width }
-    requires known { AreKnown edges.now size row column strip }
-    ensures some { column < result.end }
-    ensures known { AreKnown edges.now size row column result }
-{
-    if column < strip.end {
-        return strip;
-    }
-    if right - column < LEAST_STRIP {
-        let known = Class::Cut(7);
-        return Strip { end: right, known };
-    }
-    strip_at(edges, size, row, column, right)
 }
 
 /// Notes a tile that gets its first word.
@@ -228,27 +162,27 @@ fn note_counted<A: Allocator>(counted: &mut Vec<bool, A>, tile: u32, now: bool)
 #[inline(always)]
 fn add_triangle<A: Allocator + Copy>(
     lists: &mut Lists<A>,
-    place: Place,
+    tile: u32,
+    rect: PixelRect,
     edges: &EdgeSet,
     current: Current,
     number: u16,
 ) -> Result<(), AllocError>
     requires sound { IsLists lists.old }
-    requires tile { place.tile < tile_count lists.old.size }
-    requires rect { place.rect ≡ tile_rect lists.old.size place.tile }
-    requires real { IsReal place.rect }
-    requires known { IsKnown place.known edges.now place.rect }
+    requires tile { tile < tile_count lists.old.size }
+    requires rect { rect ≡ tile_rect lists.old.size tile }
+    requires real { IsReal rect }
     requires room { IsShort 239999 lists.old }
     ensures bins { length lists.new.bins ≡ length lists.old.bins }
     ensures sound { OnOk result (IsLists lists.new) }
-    ensures added { OnOk result (ChangesAt place.tile (AddsTriangle edges.now (tile_rect lists.old.size place.tile) current number) lists.old lists.new) }
+    ensures added { OnOk result (ChangesAt tile (AddsTriangle edges.now (tile_rect lists.old.size tile) current number) lists.old lists.new) }
 {
-    let Class::Cut(mask) = classify_within(edges, place.rect, place.known) else {
+    let Class::Cut(mask) = classify(edges, rect) else {
         return Ok(());
     };
-    put_in_force(lists, place.tile, current)?;
-    push_behind(lists, place.tile, Word::Tri(number, EdgeMask::new(mask)))?;
-    note_counted(&mut lists.counted, place.tile, current.counted);
+    put_in_force(lists, tile, current)?;
+    push_behind(lists, tile, Word::Tri(number, EdgeMask::new(mask)))?;
+    note_counted(&mut lists.counted, tile, current.counted);
     Ok(())
 }
 
@@ -278,16 +212,10 @@ pub(crate) fn add_to_tiles<A: Allocator + Copy>(
         return Ok(());
     }
     'rows: for row in top..bottom {
-        let known = Class::Outside;
-        let mut strip = Strip { end: left, known };
         'columns: for column in left..right {
-            strip = strip_with(strip, edges, size, row, column, right);
-            let place = Place {
-                tile: row * along + column,
-                rect: rect_at(size, column, row),
-                known: strip.known,
-            };
-            add_triangle(lists, place, edges, current, number)?;
+            let rect = rect_at(size, column, row);
+            let tile = row * along + column;
+            add_triangle(lists, tile, rect, edges, current, number)?;
         }
     }
     Ok(())

@@ -5,8 +5,7 @@ use Rattle.std.proofs.lemmas.Int.{ints}
 use Rattle.gfxspec.specs.declared.geometry.PixelRect.{PixelRect}
 use Rattle.gfxspec.specs.Raster.{Edge, edge_holds, centre}
 use Rattle.edges.specs.Value.{edge_value}
-use Rattle.gfxspec.specs.Tiles.{IsIn}
-use Rattle.classify.specs.Region.{IsReal, IsGreatest, IsLeast, HoldsEverywhere, HoldsNowhere, HoldsSomewhere, FailsSomewhere}
+use Rattle.classify.specs.Region.{IsGreatest, IsLeast, HoldsEverywhere, HoldsNowhere, HoldsSomewhere, FailsSomewhere}
 use Rattle.classify.proofs.Slopes.{at_greatest, at_least}
 
 -- a place between two bounds, at the end that the step picks
@@ -71,8 +70,3 @@ everywhere_of e r v g h u w i = (g.tells u w).0 (carried v (edge_value e u w) h 
 
 pub fails_of : (e : Edge) (r : PixelRect) (v : ℤ) → IsLeast e r v → v <ℤ pos 0 → FailsSomewhere e r
 fails_of e r v g h = (g.x, g.y, g.inside, not_so (edge_holds e (centre g.x g.y)) (λ t. above_or_below v (edge_value e g.x g.y) h (rw g.reached (omega (arith, ints))) ((g.tells g.x g.y).1 t)))
-
-pub somewhere_too : (e : Edge) (r : PixelRect) → IsReal r → HoldsEverywhere e r → HoldsSomewhere e r
-somewhere_too e r real h =
-    let here : IsIn r r.left r.top = record { left = omega arith; right = real.wide; top = omega arith; bottom = real.high } in
-    (r.left, r.top, here, h r.left r.top here)

@@ -57,8 +57,3 @@ pub record IsMaskBit (mask i : ℕ) (e : Edge) (r : PixelRect) : Type 0 where
 abbrev pub IsClassOf : Class → Triangle → PixelRect → Type 0
 IsClassOf Outside t r = (i : ℕ) × (i < 3) × HoldsNowhere (edge t i) r
 IsClassOf (Cut mask) t r = (mask < 8) × ((i : ℕ) → i < 3 → IsMaskBit mask i (edge t i) r)
-
--- what a rectangle is known to be to the triangle, by one around it of this class: outside too, or an edge whose bit is not set holds at every centre
-abbrev pub IsKnown : Class → Triangle → PixelRect → Type 0
-IsKnown Outside t r = IsClassOf Outside t r
-IsKnown (Cut mask) t r = (i : ℕ) → i < 3 → bit_at mask i ≡ 0 → HoldsEverywhere (edge t i) r

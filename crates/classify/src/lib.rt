@@ -2,13 +2,13 @@
 //!
 //! Rectangles are in pixels, and the centres of their pixels count. The trick: an edge's value is linear, so over a
 //! rectangle it is greatest and least at a corner that the signs of its two steps pick, and two values an edge decide
-//! exactly. What holds over a rectangle holds over each that lies in it, so tiles side by side are asked together first.
+//! exactly.
 #![tactic(auto)]
 
-ghost use Rattle.std.specs.Prelude.{◌≡◌, ℕ, ◌≤◌, ◌<◌, ◌+◌, pos, ◌≤ℤ◌, ◌<ℤ◌, false};
+ghost use Rattle.std.specs.Prelude.{◌≡◌, ℕ, ◌≤◌, ◌<◌, ◌+◌, pos, ◌≤ℤ◌, ◌<ℤ◌};
 ghost use Rattle.std.specs.Bool.{MatchBool};
 ghost use Rattle.gfxspec.specs.Raster.{edge};
-ghost use Rattle.classify.specs.Region.{IsReal, IsGreatest, IsLeast, IsClassOf, IsKnown, HoldsEverywhere, HoldsNowhere, HoldsSomewhere, FailsSomewhere};
+ghost use Rattle.classify.specs.Region.{IsReal, IsGreatest, IsLeast, IsClassOf, HoldsEverywhere, HoldsNowhere, HoldsSomewhere, FailsSomewhere};
 
 use edges::EdgeSet;
 use gfxspec::PixelRect;
@@ -66,24 +66,22 @@ fn least(edges: &EdgeSet, i: usize, rect: PixelRect) -> i64
     edges.at(i, x, y)
 }
 
-/// Whether edge i holds at no centre of the rectangle; else it holds at some. One that isn't `asked` holds at all.
-fn holds_nowhere(edges: &EdgeSet, i: usize, rect: PixelRect, asked: bool) -> bool
+/// Whether edge i holds at no centre of the rectangle; else it holds at some.
+fn holds_nowhere(edges: &EdgeSet, i: usize, rect: PixelRect) -> bool
     requires edge { i < 3 }
     requires real { IsReal rect }
-    requires known { asked ≡ false → HoldsEverywhere (edge edges.now i) rect }
     ensures { MatchBool result (HoldsNowhere (edge edges.now i) rect) (HoldsSomewhere (edge edges.now i) rect) }
 {
-    asked && greatest(edges, i, rect) < 0
+    greatest(edges, i, rect) < 0
 }
 
-/// Whether edge i fails at some centre of the rectangle; else it holds at all. One that isn't `asked` holds at all.
-fn fails_somewhere(edges: &EdgeSet, i: usize, rect: PixelRect, asked: bool) -> bool
+/// Whether edge i fails at some centre of the rectangle; else it holds at all.
+fn fails_somewhere(edges: &EdgeSet, i: usize, rect: PixelRect) -> bool
     requires edge { i < 3 }
     requires real { IsReal rect }
-    requires known { asked ≡ false → HoldsEverywhere (edge edges.now i) rect }
     ensures { MatchBool result (FailsSomewhere (edge edges.now i) rect) (HoldsEverywhere (edge edges.now i) rect) }
 {
-    asked && least(edges, i, rect) < 0
+    least(edges, i, rect) < 0
 }
 
 /// What a rectangle of pixels is to the triangle of the edges: outside exactly where some edge holds at none of the
@@ -93,31 +91,17 @@ pub fn classify(edges: &EdgeSet, rect: PixelRect) -> Class
     requires { IsReal rect }
     ensures { IsClassOf result edges.now rect }
 {
-    classify_within(edges, rect, Class::Cut(7))
-}
-
-/// The same for a rectangle that lies in one of this class: only the edges that cut that one are looked at.
-#[inline(always)]
-pub fn classify_within(edges: &EdgeSet, rect: PixelRect, around: Class) -> Class
-    requires real { IsReal rect }
-    requires known { IsKnown around edges.now rect }
-    ensures { IsClassOf result edges.now rect }
-{
-    let Class::Cut(mask) = around else {
-        return Class::Outside;
-    };
-    let (zero, one, two) = (mask % 2 != 0, mask / 2 % 2 != 0, mask / 4 % 2 != 0);
-    if holds_nowhere(edges, 0, rect, zero) {
+    if holds_nowhere(edges, 0, rect) {
         return Class::Outside;
     }
-    if holds_nowhere(edges, 1, rect, one) {
+    if holds_nowhere(edges, 1, rect) {
         return Class::Outside;
     }
-    if holds_nowhere(edges, 2, rect, two) {
+    if holds_nowhere(edges, 2, rect) {
         return Class::Outside;
     }
-    let first = fails_somewhere(edges, 0, rect, zero);
-    let second = fails_somewhere(edges, 1, rect, one);
-    let third = fails_somewhere(edges, 2, rect, two);
+    let first = fails_somewhere(edges, 0, rect);
+    let second = fails_somewhere(edges, 1, rect);
+    let third = fails_somewhere(edges, 2, rect);
     Class::Cut(u8::from(first) + 2 * u8::from(second) + 4 * u8::from(third))
 }
