@@ -4,7 +4,7 @@ use crate::buffer::Buffer;
 use crate::settings::Settings;
 use gfxspec::{PixelRect, Topology, Vertex};
 use states::{BlendState, DepthStencilState, RasterState};
-use std::alloc::Allocator;
+use std::alloc::{AllocError, Allocator};
 
 /// An accepted call, with its arguments. `Kept` is the command that a finish with restore leaves at the front of the next
 /// list: it sets all eight kinds of state.
@@ -29,4 +29,36 @@ pub enum Command<A: Allocator> {
     Begin(u32),
     End(u32),
     Kept(Box<Settings<A>, A>),
+}
+
+impl<A: Allocator + Copy> Command<A> {
+    ghost use Rattle.std.specs.Prelude.{◌≡◌, IfOk};
+    ghost use Rattle.cmdlist.specs.Seen.{command_value};
+
+    /// The same command for one more owner: buffers are shared, and no vertex is copied.
+    pub fn share(&self, alloc: A) -> Result<Self, AllocError>
+        ensures { IfOk result (λ command. command_value command ≡ command_value self.now) }
+    {
+        Ok(match self {
+            Command::SetVertices(vertices) => Command::SetVertices(vertices.share()?),
+            Command::SetIndices(indices) => Command::SetIndices(indices.share()?),
+            Command::SetTopology(topology) => Command::SetTopology(*topology),
+            Command::SetRaster(raster) => Command::SetRaster(*raster),
+            Command::SetScissor(scissor) => Command::SetScissor(*scissor),
+            Command::SetDepthStencil(depth_stencil, reference) => {
+                Command::SetDepthStencil(*depth_stencil, *reference)
+            }
+            Command::SetBlend(blend) => Command::SetBlend(*blend),
+            Command::SetPredication(predicate) => Command::SetPredication(*predicate),
+            Command::Draw(count, start) => Command::Draw(*count, *start),
+            Command::DrawIndexed(count, start, base) => Command::DrawIndexed(*count, *start, *base),
+            Command::ClearColor(rgba) => Command::ClearColor(*rgba),
+            Command::ClearDepthStencil(depth, stencil) => {
+                Command::ClearDepthStencil(*depth, *stencil)
+            }
+            Command::Begin(query) => Command::Begin(*query),
+            Command::End(query) => Command::End(*query),
+            Command::Kept(settings) => Command::Kept(Box::new(alloc, settings.share()?)?),
+        })
+    }
 }
