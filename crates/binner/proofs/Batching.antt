@@ -28,7 +28,7 @@ use Rattle.binner.proofs.Ending.{program_means, program_fits}
 
 -- ---- where no issue begins, none is open
 
-none_open : (k : ℕ) (cs : List Command) → issues cs ≡ [] → open_from k cs ≡ []
+pub none_open : (k : ℕ) (cs : List Command) → issues cs ≡ [] → open_from k cs ≡ []
 none_open k [] h = refl
 none_open k (Begin q ∷ cs) h = absurd cc
 none_open k (c ∷ cs) h = none_open k cs h
@@ -78,7 +78,7 @@ module _ {A : Type 0} (results : ℕ → Bool) (cs : List (Code A)) where
     means = λ is m. subst (HasCompiled now) (sym (append-nil is)) (kept_means start now same (λ n h. absurd (true≢false (sym (none n h)))) is m);
   }
 
-  still_none : (i : ℕ) → issues (map command_value cs) ≡ [] → open_after (done cs i) ≡ []
+  pub still_none : (i : ℕ) → issues (map command_value cs) ≡ [] → open_after (done cs i) ≡ []
   still_none i h =
       none_open 0 (done cs i)
       (none_at_front (issues (done cs i)) (issues (map command_value (drop i cs)))

@@ -22,3 +22,6 @@ pub mod Whole
 pub mod Performing
 pub mod Ending
 pub mod Batching
+pub mod Reading
+pub mod Cutting
+pub mod Dividing

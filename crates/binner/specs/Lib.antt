@@ -8,3 +8,4 @@ pub mod Compiling
 pub mod Opened
 pub mod Setups
 pub mod Batched
+pub mod Segments

@@ -1,18 +1,19 @@
 //! Lists that are compiled as one.
 
-ghost use Rattle.std.specs.Prelude.{◌≡◌, ◌<◌, ◌≤◌, ◌+◌, ◌++◌, [], List, map, length, IsTrue, OnOk};
+ghost use Rattle.std.specs.Prelude.{◌≡◌, ◌<◌, ◌≤◌, ◌+◌, ◌++◌, List, map, length, IsTrue, OnOk};
 ghost use Rattle.gfxspec.specs.Items.{Item};
-ghost use Rattle.gfxspec.specs.Recorded.{items, issues as issues_of};
+ghost use Rattle.gfxspec.specs.Recorded.{items};
 ghost use Rattle.gfxspec.specs.Predication.{performed};
-ghost use Rattle.gfxspec.specs.Refusals.{AreAccepted};
 ghost use Rattle.meaning.specs.OneMore.{triangles_of as count_of};
 ghost use Rattle.cmdlist.specs.Seen.{state_value, command_value};
 ghost use Rattle.binner.specs.Ready.{IsDrawable};
 ghost use Rattle.binner.specs.Compiling.{HasCompiled, HasRoom, IsSound, told};
+ghost use Rattle.binner.specs.Segments.{IsSegment};
 
 use crate::compiled::{Compiled, finished, nothing};
 use crate::compiling::{Compiling, add_performed, forget_unless, keeps_entry};
 use crate::draws::draw_of;
+use crate::segment::Segment;
 use assemble::triangle_count;
 use binmem::Bins;
 use cmdlist::{Command, State};
@@ -52,15 +53,14 @@ fn has_room<A: Allocator>(compiling: &Compiling<A>, command: &Command<A>, state:
         && compiling.triangles.len() <= MOST - triangles
 }
 
-/// Adds what the commands of a list draw and clear, from the default state on and under these results, behind what is
+/// Adds what the commands of a segment draw and clear, from the default state on and under these results, behind what is
 /// compiled. Refused too where the tables have no room.
 fn add_behind<A: Allocator + Copy>(
     compiling: &mut Compiling<A>,
     commands: &[Command<A>],
     results: &[bool; 64],
 ) -> Result<(), AllocError>
-    requires accepted { AreAccepted (map command_value commands.now) }
-    requires unissued { issues_of (map command_value commands.now) ≡ [] }
+    requires segment { IsSegment (map command_value commands.now) }
     requires sound { IsSound compiling.old }
     requires room { HasRoom compiling.old }
     ensures bins { length compiling.new.lists.bins ≡ length compiling.old.lists.bins }
@@ -102,15 +102,13 @@ impl<A: Allocator> Model for Batch<A> {
 }
 
 impl<A: Allocator + Copy> Batch<A> {
-    ghost use Rattle.std.specs.Prelude.{◌≡◌, ◌++◌, [], List, map, IsTrue, IfOk, IfErr};
+    ghost use Rattle.std.specs.Prelude.{◌≡◌, ◌++◌, [], List, IsTrue, IfOk, IfErr};
     ghost use Rattle.gfxspec.specs.Items.{Item};
     ghost use Rattle.gfxspec.specs.Limits.{is_size};
     ghost use Rattle.gfxspec.specs.Tiles.{tile_count};
-    ghost use Rattle.gfxspec.specs.Recorded.{items, issues as issues_of};
+    ghost use Rattle.gfxspec.specs.Recorded.{items};
     ghost use Rattle.gfxspec.specs.Predication.{performed};
-    ghost use Rattle.gfxspec.specs.Refusals.{AreAccepted};
     ghost use Rattle.binmem.specs.Lists.{no_words};
-    ghost use Rattle.cmdlist.specs.Seen.{command_value};
     ghost use Rattle.binner.specs.Compiling.{HasCompiled, told};
     ghost use Rattle.binner.specs.Batched.{MeansItems};
 
@@ -126,18 +124,16 @@ impl<A: Allocator + Copy> Batch<A> {
         Ok(Batch { compiling })
     }
 
-    /// Adds a list, under the results that the queries have before the batch. Without memory, and where the batch would name
+    /// Adds a segment, under the results that the queries have before the batch. Without memory, and where the batch would name
     /// more than 65,536 states, triangles or clears, the bins come back, empty again.
-    pub fn add(self, commands: &[Command<A>], results: &[bool; 64]) -> Result<Self, Bins<A>>
-        requires accepted { AreAccepted (map command_value commands.now) }
-        requires unissued { issues_of (map command_value commands.now) ≡ [] }
+    pub fn add(self, segment: &Segment<A>, results: &[bool; 64]) -> Result<Self, Bins<A>>
         ensures size { IfOk result (λ b. b.lists.size ≡ self.lists.size) }
         ensures means { (is : List Item) → HasCompiled self is
-            → IfOk result (λ b. HasCompiled b (is ++ items (performed (told results.now) (map command_value commands.now)))) }
+            → IfOk result (λ b. HasCompiled b (is ++ items (performed (told results.now) segment.now))) }
         ensures refused { IfErr result (λ back. back ≡ no_words (tile_count self.lists.size)) }
     {
         let mut compiling = self.compiling;
-        match add_behind(&mut compiling, commands, results) {
+        match add_behind(&mut compiling, &segment.commands, results) {
             Ok(()) => Ok(Batch { compiling }),
             Err(_) => Err(compiling.lists.bins.seal().reuse()),
         }

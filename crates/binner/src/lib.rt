@@ -16,9 +16,11 @@ mod lists;
 mod opened;
 mod predicate;
 mod prepare;
+mod segment;
 mod setup;
 
 pub use batch::Batch;
 pub use compiled::{Compiled, compile, compile_parallel, programs_count_the_target};
 pub use entry::StateEntry;
+pub use segment::{Segment, cut};
 pub use setup::TriSetup;

@@ -5,8 +5,8 @@ use Rattle.cmdlist.specs.Seen.{state_value, command_value}
 use Rattle.binner.specs.Meaning.{entry_of}
 use Rattle.binner.specs.Ready.{IsDrawable}
 use Rattle.binner.specs.Compiling.{Performs, told}
-use Rattle.binner.proofs.Accepted.{drawable}
 use Rattle.binner.proofs.Batching.{HasRoomFor, none_added, one_added, all_added}
+use Rattle.binner.proofs.Reading.{ready_at}
 use Rattle.binner.proofs.batch.add_behind.Goals as goal
 
 pub loop-command-init : goal.loop-command-init
@@ -17,13 +17,13 @@ pub has_room-requires : goal.has_room-requires
 has_room-requires g c =
     let l = c.loop-command in
     subst (λ k. IsDrawable (state_value l.state) (command_value k)) (sym c.command-item.is)
-    (drawable c.args.commands.now l.command-index c.command-item.result (state_value l.state) c.requires.accepted c.loop-command-test.true l.invariant.state)
+    (ready_at c.args.commands.now l.command-index c.command-item.result (state_value l.state) c.requires.segment.ready c.loop-command-test.true l.invariant.state)
 
 pub add_performed-requires-clause-drawable : goal.add_performed-requires-clause-drawable
 add_performed-requires-clause-drawable g c =
     let l = c.loop-command in
     subst (λ k. IsDrawable (state_value l.state) (command_value k)) (sym c.command-item.is)
-    (drawable c.args.commands.now l.command-index c.command-item.result (state_value l.state) c.requires.accepted c.loop-command-test.true l.invariant.state)
+    (ready_at c.args.commands.now l.command-index c.command-item.result (state_value l.state) c.requires.segment.ready c.loop-command-test.true l.invariant.state)
 
 pub add_performed-requires-clause-states : goal.add_performed-requires-clause-states
 add_performed-requires-clause-states g c = c.has_room.ensures.states (search rules)
@@ -42,7 +42,7 @@ loop-command-preserved g c =
     let d = c.command-item.result in
     let is = c.command-item.is in
     let s = state_value l.state in
-    one_added (told c.args.results.now) cs i d s (state_value c.change.new.self) c.keeps_entry-kept.result c.args.compiling.now l.compiling c.add_performed.new.compiling c.forget_unless-in-loop-command.new.compiling c.requires.unissued c.loop-command-test.true
+    one_added (told c.args.results.now) cs i d s (state_value c.change.new.self) c.keeps_entry-kept.result c.args.compiling.now l.compiling c.add_performed.new.compiling c.forget_unless-in-loop-command.new.compiling c.requires.segment.unissued c.loop-command-test.true
     (subst (λ k. HasRoomFor s (command_value k) l.compiling) is record { triangles = (c.has_room.ensures.triangles (search rules)); clears = (c.has_room.ensures.clears (search rules)) })
     l.invariant c.add_performed.ensures.bins
     (subst (λ k. Performs (told c.args.results.now) s 0 (command_value k) l.compiling c.add_performed.new.compiling) is c.in_ok-add_performed.ensures.drawn)

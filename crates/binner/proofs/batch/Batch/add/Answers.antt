@@ -1,4 +1,4 @@
-use Rattle.std.proofs.Common.{sym, subst, ◌++◌, map}
+use Rattle.std.proofs.Common.{sym, subst, ap, ◌∙◌, ◌++◌, map}
 use Rattle.gfxspec.specs.Recorded.{items}
 use Rattle.gfxspec.specs.Predication.{performed}
 use Rattle.cmdlist.specs.Seen.{command_value}
@@ -11,9 +11,11 @@ invariant_of-result g c =
     record {
       sound = c.in-Ok.ensures.sound;
       room = c.in-Ok.ensures.room;
-      items = b.items ++ items (performed (told c.args.results.now) (map command_value c.args.commands.now));
+      items = b.items ++ items (performed (told c.args.results.now) (map command_value c.deref.result.now));
       compiled = c.in-Ok.ensures.means b.items b.compiled;
     }
 
 pub returns-in-Ok-clause-means : goal.returns-in-Ok-clause-means
-returns-in-Ok-clause-means g c is h = c.in-Ok.ensures.means is (subst (λ k. HasCompiled k is) (sym c.self.view_is) h)
+returns-in-Ok-clause-means g c is h =
+    subst (λ cs. HasCompiled c.add_behind.new.compiling (is ++ items (performed (told c.args.results.now) cs))) (ap (map command_value) c.deref.ensures.value ∙ c.segment.view_is)
+    (c.in-Ok.ensures.means is (subst (λ k. HasCompiled k is) (sym c.self.view_is) h))

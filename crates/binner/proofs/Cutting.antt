@@ -1,0 +1,143 @@
+-- Lists that are cut into segments, command by command.
+use Rattle.std.proofs.Common.{◌≡◌, ◌∙◌, ap, sym, subst, refl, Bool, ℕ, ◌+◌, ◌<◌, ◌≤◌, List, [], ◌∷◌, ◌++◌, length, map, take, drop, get_or, append_assoc}
+use Rattle.std.specs.Prelude.{None, Result, Ok, Err, IfOk}
+use Rattle.std.proofs.lemmas.List.{append-nil, take_all, map-append, take-append-drop}
+use Rattle.std.proofs.lemmas.List.Elements.{filter_map-append}
+use Rattle.gfxspec.specs.State.{Settings}
+use Rattle.gfxspec.specs.Commands.{Command, Begin, Kept}
+use Rattle.gfxspec.specs.Recorded.{settings_after, open_from, open_after, items, issues, query_begun}
+use Rattle.gfxspec.specs.Predication.{performed}
+use Rattle.gfxspec.specs.Refusals.{AreSound, AreAccepted}
+use Rattle.meaning.specs.OneMore.{settings_with, performed_items}
+use Rattle.meaning.proofs.Nearest.{settings_after-push}
+use Rattle.meaning.proofs.Withheld.{items_performed-push}
+use Rattle.meaning.proofs.Accepting.{sound_with}
+use Rattle.cmdlist.specs.declared.command.Command.{Command as Code}
+use Rattle.cmdlist.specs.Seen.{command_value}
+use Rattle.binner.specs.Ready.{IsDrawable}
+use Rattle.binner.specs.Segments.{ReadyBehind, IsOpenSegment, CanFollow, IsSame, IsMore, cut_items, laid_items}
+use Rattle.binner.proofs.Accepted.{done, done_more, whole, drawable, accepted_at}
+use Rattle.binner.proofs.Batching.{none_open, still_none}
+
+-- ---- where no issue begins
+
+begins_none : (c : Command) (cs : List Command) → issues (c ∷ cs) ≡ [] → query_begun c ≡ None
+begins_none (Begin q) cs h = absurd cc
+begins_none c cs h = refl
+
+begins_none_behind : (xs : List Command) (c : Command) (ys : List Command) → issues (xs ++ c ∷ ys) ≡ [] → query_begun c ≡ None
+begins_none_behind [] c ys h = begins_none c ys h
+begins_none_behind (Begin q ∷ xs) c ys h = absurd cc
+begins_none_behind (x ∷ xs) c ys h = begins_none_behind xs c ys h
+
+none_begun : (c : Command) → query_begun c ≡ None → issues (c ∷ []) ≡ []
+none_begun (Begin q) h = absurd cc
+none_begun c h = refl
+
+-- ---- the open segment
+
+ready-push : (earlier xs : List Command) (c : Command) → ReadyBehind earlier xs → IsDrawable (settings_after (earlier ++ xs)) c → ReadyBehind earlier (xs ++ c ∷ [])
+ready-push earlier [] c h d = (subst (λ e. IsDrawable (settings_after e) c) (append-nil earlier) d, tt)
+ready-push earlier (x ∷ xs) c h d =
+    (h.0, ready-push (earlier ++ x ∷ []) xs c h.1 (subst (λ e. IsDrawable (settings_after e) c) (sym (append_assoc earlier (x ∷ []) xs)) d))
+
+pub still_open : (cs : List Command) (s t : Settings) (c : Command) → IsOpenSegment cs s → CanFollow (settings_after cs) c → t ≡ settings_with c s → IsOpenSegment (cs ++ c ∷ []) t
+still_open cs s t c h f e =
+    let is : t ≡ settings_with c (settings_after cs) = e ∙ ap (settings_with c) h.state in
+    record {
+      segment = record {
+        ready = ready-push [] cs c h.segment.ready f.drawable;
+        unissued = filter_map-append query_begun cs (c ∷ []) ∙ ap (λ k. k ++ issues (c ∷ [])) h.segment.unissued ∙ none_begun c f.unissued;
+      };
+      state = is ∙ sym (settings_after-push cs c);
+      sound = subst AreSound (sym is) f.sound;
+    }
+
+-- ---- what segments mean
+
+cut_items-push : (results : ℕ → Bool) (ss : List (List Command)) (s : List Command) → cut_items results (ss ++ s ∷ []) ≡ laid_items results ss s
+cut_items-push results [] s = append-nil (items (performed results s))
+cut_items-push results (x ∷ ss) s =
+    ap (λ is. items (performed results x) ++ is) (cut_items-push results ss s)
+    ∙ sym (append_assoc (items (performed results x)) (cut_items results ss) (items (performed results s)))
+
+pub same_behind_cut : (finished : List (List Command)) (cs : List Command) (s : Settings) → s ≡ settings_after cs → IsSame finished cs (finished ++ cs ∷ []) (Kept s ∷ [])
+same_behind_cut finished cs s e = record {
+  state = e;
+  items = λ results. append-nil (cut_items results (finished ++ cs ∷ [])) ∙ cut_items-push results finished cs;
+}
+
+pub more_by_push : (finished : List (List Command)) (cs : List Command) (c : Command) → issues cs ≡ [] → IsMore c finished cs finished (cs ++ c ∷ [])
+more_by_push finished cs c h = record {
+  state = settings_after-push cs c;
+  items = λ results.
+      ap (λ is. cut_items results finished ++ is) (items_performed-push results cs c ∙ ap (λ o. items (performed results cs) ++ performed_items results (settings_after cs) o c) (none_open 0 cs h))
+      ∙ sym (append_assoc (cut_items results finished) (items (performed results cs)) (performed_items results (settings_after cs) [] c));
+}
+
+pub more_behind_same : (c : Command) (fs : List (List Command)) (xs : List Command) (gs : List (List Command)) (ys : List Command) (hs : List (List Command)) (zs : List Command) → IsSame fs xs gs ys → IsMore c gs ys hs zs → IsMore c fs xs hs zs
+more_behind_same c fs xs gs ys hs zs k m = record {
+  state = m.state ∙ ap (settings_with c) k.state;
+  items = λ results.
+      m.items results
+      ∙ ap (λ is. is ++ performed_items results (settings_after ys) [] c) (k.items results)
+      ∙ ap (λ s. laid_items results fs xs ++ performed_items results s [] c) k.state;
+}
+
+-- a finished segment, and the next one that begins with the state behind it
+pub same_behind : (fs gs : List (List Command)) (cs segment ys : List Command) (s : Settings) → segment ≡ cs → s ≡ settings_after segment → gs ≡ fs ++ segment ∷ [] → ys ≡ Kept s ∷ [] → IsSame fs cs gs ys
+same_behind fs gs cs segment ys s e is p q =
+    subst (λ (zs : List Command). IsSame fs cs gs zs) (sym q)
+    (subst (λ (hs : List (List Command)). IsSame fs cs hs (Kept s ∷ [])) (sym (p ∙ ap (λ x. fs ++ x ∷ []) e)) (same_behind_cut fs cs s (is ∙ ap settings_after e)))
+
+-- ---- steps of the code
+
+pub pushed : {A : Type 0} (xs ys : List (Code A)) (d : Code A) (cs : List Command) → map command_value xs ≡ cs → ys ≡ xs ++ d ∷ [] → map command_value ys ≡ cs ++ command_value d ∷ []
+pushed xs ys d cs e p = ap (map command_value) p ∙ map-append command_value xs (d ∷ []) ∙ ap (λ k. k ++ command_value d ∷ []) e
+
+-- what follows from what holds of the value on success
+pub if_ok : {T E : Type 0} (P Q : T → Type 0) (r : Result T E) → ((x : T) → P x → Q x) → IfOk r P → IfOk r Q
+if_ok P Q (Ok x) f h = f x h
+if_ok P Q (Err e) f h = tt
+
+-- ---- the first i commands of a list
+
+-- these commands are cut: they stand in the finished segments behind those that were there, and in the open one
+pub record Cut (start : List (List Command)) (commands : List Command) (finished : List (List Command)) (opened : List Command) : Type 0 where
+  pub state : settings_after opened ≡ settings_after commands
+  pub items : (results : ℕ → Bool) → laid_items results finished opened ≡ cut_items results start ++ items (performed results commands)
+
+pub none_cut : (start : List (List Command)) → Cut start [] start []
+none_cut start = record { state = refl; items = λ results. refl }
+
+module _ {A : Type 0} (cs : List (Code A)) (i : ℕ) (d : Code A) (l : i < length cs) where
+  pub can_follow : (start finished : List (List Command)) (opened : List Command) → AreAccepted (map command_value cs) → issues (map command_value cs) ≡ [] → Cut start (done cs i) finished opened → CanFollow (settings_after opened) (command_value (get_or cs i d))
+  can_follow start finished opened accepted unissued h =
+      let c = command_value (get_or cs i d) in
+      let ready = drawable cs i d (settings_after opened) accepted l h.state in
+      record {
+        drawable = ready;
+        sound = sound_with (done cs i) c (settings_after opened) (accepted_at cs i d accepted l) ready.sound;
+        unissued = begins_none_behind (done cs i) c _ (subst (λ k. issues k ≡ []) (whole cs i d l) unissued);
+      }
+
+  pub one_cut : (start fs : List (List Command)) (xs : List Command) (gs : List (List Command)) (ys : List Command) → issues (map command_value cs) ≡ [] → Cut start (done cs i) fs xs → IsMore (command_value (get_or cs i d)) fs xs gs ys → Cut start (done cs (i + 1)) gs ys
+  one_cut start fs xs gs ys unissued h m =
+      let c = command_value (get_or cs i d) in
+      let more = done_more cs i d l in
+      record {
+        state = m.state ∙ ap (settings_with c) h.state ∙ sym (settings_after-push (done cs i) c) ∙ ap settings_after (sym more);
+        items = λ results.
+            m.items results
+            ∙ ap (λ is. is ++ performed_items results (settings_after xs) [] c) (h.items results)
+            ∙ append_assoc (cut_items results start) (items (performed results (done cs i))) (performed_items results (settings_after xs) [] c)
+            ∙ ap (λ is. cut_items results start ++ is)
+            (ap (λ s. items (performed results (done cs i)) ++ performed_items results s [] c) h.state
+            ∙ ap (λ o. items (performed results (done cs i)) ++ performed_items results (settings_after (done cs i)) o c) (sym (still_none results cs i unissued))
+            ∙ sym (items_performed-push results (done cs i) c) ∙ ap (λ ys. items (performed results ys)) (sym more));
+      }
+
+pub all_cut : {A : Type 0} (results : ℕ → Bool) (cs : List (Code A)) (i : ℕ) (start finished : List (List Command)) (opened : List Command) (now : List (List Command)) → length cs ≤ i → Cut start (done cs i) finished opened → now ≡ finished ++ opened ∷ [] → cut_items results now ≡ cut_items results start ++ items (performed results (map command_value cs))
+all_cut results cs i start finished opened now all h e =
+    ap (cut_items results) e ∙ cut_items-push results finished opened ∙ h.items results
+    ∙ ap (λ ds. cut_items results start ++ items (performed results (map command_value ds))) (take_all i cs all)

@@ -1,0 +1,28 @@
+use Rattle.std.proofs.Common.{sym, subst, List}
+use Rattle.gfxspec.specs.Commands.{Command, Draw}
+use Rattle.cmdlist.specs.Seen.{command_value}
+use Rattle.binner.specs.Segments.{IsMore}
+use Rattle.binner.proofs.Cutting.{if_ok, more_behind_same}
+use Rattle.binner.proofs.segment.OpenSegment.add.Goals as goal
+
+pub returns-in-Draw : goal.returns-in-Draw
+returns-in-Draw g c =
+    let k = command_value c.args.command.now in
+    let fs = c.args.segments.now.items in
+    let gs = c.finish_where_full.new.segments.items in
+    let hs = c.add_parts.new.segments.items in
+    let roomy = c.in_ok-roomy.roomy in
+    if_ok (λ (s : List Command). IsMore (Draw c.in-Draw.count c.in-Draw.start) gs roomy hs s) (λ (s : List Command). IsMore k fs c.args.self hs s) c.add_parts.result
+    (λ s m. more_behind_same k fs c.args.self gs roomy hs s c.in_ok-roomy.ensures (subst (λ d. IsMore (command_value d) gs roomy hs s) (sym c.in-Draw.is) m))
+    c.add_parts.ensures
+
+pub returns-in_ok-share-in_default : goal.returns-in_ok-share-in_default
+returns-in_ok-share-in_default g c =
+    let shared = c.in_ok-share-in_default in
+    let k = command_value c.args.command.now in
+    let fs = c.args.segments.now.items in
+    let gs = c.finish_where_full.new.segments.items in
+    let roomy = c.in_ok-roomy.roomy in
+    if_ok (λ (s : List Command). IsMore (command_value shared.field-0) gs roomy gs s) (λ (s : List Command). IsMore k fs c.args.self gs s) c.push.result
+    (λ s m. more_behind_same k fs c.args.self gs roomy gs s c.in_ok-roomy.ensures (subst (λ d. IsMore d gs roomy gs s) shared.ensures m))
+    (c.push.ensures gs)
