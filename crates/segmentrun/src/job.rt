@@ -1,0 +1,210 @@
+//! The windows of segments as a job.
+
+ghost use Rattle.std.specs.Prelude.{◌≡◌, ◌≤◌, ◌*◌, length, IsTrue};
+ghost use Rattle.gfxspec.specs.Limits.{is_size};
+ghost use Rattle.segmentrun.specs.Windows.{window_of};
+
+use crate::compiling::compile_anew;
+use binner::{Compiled, Segment};
+use gfxspec::{GfxError, Size};
+use std::alloc::Allocator;
+use tilecore::TileJob;
+
+/// How many windows there are for each that works, the caller too: so many that all end at about the same time.
+const WINDOWS_EACH: usize = 4;
+
+/// The windows of a run's segments, as a job: each is compiled by itself.
+#[derive(Drop)]
+pub struct SegmentJob<A: Allocator> {
+    alloc: A,
+    segments: Vec<Segment<A>, A>,
+    /// How many segments a window has; the last may have fewer.
+    width: usize,
+    windows: u32,
+    results: [bool; 64],
+    size: Size,
+    ghost sized: { IsTrue (is_size size) },
+    ghost few: { windows ≤ 16384 },
+    ghost whole: { length segments.items ≤ windows * width },
+}
+
+/// A window that waits.
+#[derive(Drop)]
+pub struct OpenWindow {
+    number: u32,
+}
+
+/// A window that was compiled, or for which there was no memory.
+#[derive(Drop)]
+pub struct DoneWindow<A: Allocator> {
+    number: u32,
+    compiled: Option<Compiled<A>>,
+}
+
+/// How many segments a window has, where so many work beside the caller.
+fn width_for(segments: usize, workers: u32) -> usize
+    requires { workers ≤ 15 }
+    ensures some { 1 ≤ result }
+    ensures enough { segments ≤ 64 * result }
+{
+    let most = WINDOWS_EACH * (workers as usize + 1);
+    segments.div_ceil(most).max(1)
+}
+
+/// How many windows of that width the segments have.
+fn windows_of(segments: usize, width: usize) -> u32
+    requires some { 1 ≤ width }
+    requires enough { segments ≤ 64 * width }
+    ensures whole { segments ≤ result * width }
+    ensures some { 1 ≤ result }
+    ensures few { result ≤ 64 }
+{
+    segments.div_ceil(width).max(1) as u32
+}
+
+/// The segments of a window.
+fn of_window<A: Allocator>(segments: &[Segment<A>], width: usize, number: u32) -> &[Segment<A>]
+    ensures { result.now ≡ window_of width number segments.now }
+{
+    let begin = width.saturating_mul(number as usize).min(segments.len());
+    let behind = &segments[begin..];
+    &behind[..width.min(behind.len())]
+}
+
+impl<A: Allocator + Copy> SegmentJob<A> {
+    ghost use Rattle.std.specs.Prelude.{◌≡◌, ◌≤◌, IsTrue};
+    ghost use Rattle.gfxspec.specs.Limits.{is_size};
+
+    /// The windows of segments, for as many workers beside the caller.
+    pub(crate) fn new(
+        alloc: A,
+        segments: Vec<Segment<A>, A>,
+        size: Size,
+        results: &[bool; 64],
+        workers: u32,
+    ) -> SegmentJob<A>
+        requires size { IsTrue (is_size size) }
+        requires workers { workers ≤ 15 }
+        ensures size { result.size ≡ size }
+        ensures results { result.results ≡ results.now }
+        ensures segments { result.segments.items ≡ segments.items }
+        ensures some { 1 ≤ result.windows }
+    {
+        let width = width_for(segments.len(), workers);
+        let windows = windows_of(segments.len(), width);
+        SegmentJob {
+            alloc,
+            segments,
+            width,
+            windows,
+            results: *results,
+            size,
+        }
+    }
+}
+
+impl OpenWindow {
+    ghost use Rattle.std.specs.Prelude.{◌≡◌};
+
+    /// The window of that number.
+    pub(crate) fn new(number: u32) -> OpenWindow
+        ensures { result.number ≡ number }
+    {
+        OpenWindow { number }
+    }
+}
+
+impl<A: Allocator> DoneWindow<A> {
+    ghost use Rattle.std.specs.Prelude.{◌≡◌, IfOk, IfErr, Some};
+    ghost use Rattle.gfxspec.specs.declared.error.GfxError.TheVariants.{OutOfMemory};
+
+    /// The compiled list. Refused where there was no memory for it.
+    pub(crate) fn into_list(self) -> Result<Compiled<A>, GfxError>
+        ensures list { IfOk result (λ list. self.compiled ≡ Some list) }
+        ensures memory { IfErr result (λ e. e ≡ OutOfMemory) }
+    {
+        let DoneWindow {
+            number: _,
+            compiled,
+        } = self;
+        match compiled {
+            Some(compiled) => Ok(compiled),
+            None => Err(GfxError::OutOfMemory),
+        }
+    }
+}
+
+impl<A: Allocator + Copy + Send> TileJob for SegmentJob<A> {
+    type Open = OpenWindow;
+
+    type Done = DoneWindow<A>;
+
+    ghost use Rattle.std.specs.Prelude.{◌≡◌, ◌<◌, IfSome};
+    ghost use Rattle.binner.specs.Compiling.{told};
+    ghost use Rattle.binner.specs.Segments.{cut_items};
+    ghost use Rattle.segmentrun.specs.Windows.{window_of, IsCompiled};
+
+    ghost tile_count = { λ job. job.windows };
+
+    ghost issue_count = { λ job. 0 };
+
+    ghost tile_number = { λ window. window.number };
+
+    ghost done_number = { λ done. done.number };
+
+    ghost done_count = { λ done issue. 0 };
+
+    ghost fits = { λ job window. window.number < job.windows };
+
+    ghost gives = { λ job window done. (done.number ≡ window.number)
+        × IfSome done.compiled (IsCompiled job.size
+        (cut_items (told job.results) (window_of job.width window.number job.segments.items))) };
+
+    fn tiles(&self) -> u32 {
+        self.windows
+    }
+
+    fn issues(&self) -> u32 {
+        0
+    }
+
+    fn number(window: &OpenWindow) -> u32
+        ensures { result ≡ window.now.number }
+    {
+        window.number
+    }
+
+    fn number_done(done: &DoneWindow<A>) -> u32
+        ensures { result ≡ done.now.number }
+    {
+        done.number
+    }
+
+    fn count(_done: &DoneWindow<A>, _issue: u32) -> u64
+        ensures { result ≡ 0 }
+    {
+        0
+    }
+
+    fn run(&self, window: OpenWindow) -> DoneWindow<A> {
+        let OpenWindow { number } = window;
+        let segments = of_window(self.segments.as_slice(), self.width, number);
+        let compiled = compile_anew(self.alloc, segments, self.size, &self.results);
+        DoneWindow {
+            number,
+            compiled: compiled.ok(),
+        }
+    }
+
+    ghost use Rattle.std.proofs.Common.{zero-le};
+
+    ghost few_tiles = { λ job. job.few };
+
+    ghost few_issues = { λ job. zero-le };
+
+    ghost in_range = { λ job window h. h };
+
+    ghost keeps_number = { λ job window done h. h.0 };
+
+    ghost small_counts = { λ job window done issue h less. zero-le };
+}
