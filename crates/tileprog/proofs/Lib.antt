@@ -14,6 +14,8 @@ pub mod Targets
 pub mod Totals
 pub mod Programs
 pub mod Touched
+pub mod Marking
+pub mod Several
 pub mod Ordering
 pub mod Places
 pub mod AlikeLaws

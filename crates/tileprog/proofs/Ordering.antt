@@ -137,7 +137,7 @@ one_so_far c order n t old mid a b totals more tile is few same_size at so was r
     let waits : ¬ Among order n t = not_before order n t is.tiles.once at in
     let size : mid.size ≡ old.size = so.ran.size in
     let rect_c : a.rect ≡ tile_rect c.size t = rect ∙ ap (λ (z : Size). tile_rect z t) (size ∙ sym same_size) in
-    let all = tile_ran c c t t a b a tile ran refl refl refl rect_c few in
+    let all = tile_ran c [] t a b b tile ran rect_c few refl (λ u v inside. refl) in
     let own : (x y : ℕ) → IsIn a.rect x y → (t ≡ tile_of old.size x y) × (x < old.size.width) × (y < old.size.height)
     = λ x y inside.
     let there : IsIn (tile_rect old.size t) x y = subst (λ (r : PixelRect). IsIn r x y) (rect ∙ ap (λ (z : Size). tile_rect z t) size) inside in

@@ -43,7 +43,7 @@ times_at k (x ∷ xs) zero d h e = let a = one x k e in omega (arith, a)
 times_at k (x ∷ xs) (suc i) d h e = let a = times_at k xs i d (omega arith) e in omega (arith, a)
 
 -- and two places count twice
-times_twice : (k : ℕ) (xs : List ℕ) (i j : ℕ) → i < j → j < length xs → get_or xs i 0 ≡ k → get_or xs j 0 ≡ k → 1 < times k xs
+pub times_twice : (k : ℕ) (xs : List ℕ) (i j : ℕ) → i < j → j < length xs → get_or xs i 0 ≡ k → get_or xs j 0 ≡ k → 1 < times k xs
 times_twice k [] i j h l e f = absurd (omega (arith, l))
 times_twice k (x ∷ xs) i zero h l e f = absurd (omega (arith, h))
 times_twice k (x ∷ xs) zero (suc j) h l e f = let a = one x k e in let b = times_at k xs j 0 (omega arith) f in omega (arith, a, b)

@@ -14,5 +14,6 @@ pub mod Columns
 pub mod Cells
 pub mod Passing
 pub mod Runs
+pub mod Several
 pub mod Programs
 pub mod Alike

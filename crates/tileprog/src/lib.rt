@@ -5,14 +5,19 @@
 //! decided once a word. Pixels are those of the target; depths are 0 to 16,777,215; a colour is one number, red in its
 //! low byte. The trick: nothing is asked of a pixel that can be asked of its span, and nothing of a span that can be
 //! asked of the word.
+//!
+//! A job runs one compiled list, or several: then on each tile the programs of all lists run one behind the other, and a tile is
+//! handed out once for all of them.
 #![tactic(auto)]
 
 mod alike;
+mod behind;
 mod brush;
 mod cells;
 mod column;
 mod columns;
 mod draw;
+mod gathering;
 mod hidden;
 mod kind;
 mod order;

@@ -1,0 +1,14 @@
+use Rattle.std.proofs.Common.{arith, subst, List, ◌∷◌}
+use Rattle.binner.specs.Compiled.{Compilation}
+use Rattle.tileprog.specs.Several.{AreLists}
+use Rattle.tileprog.proofs.program.TileProgram.of_lists.Goals as goal
+
+pub invariant_of-result : goal.invariant_of-result
+invariant_of-result g c =
+    let is = c.in_ok-touched.ensures in
+    let none = c.requires.unissued in
+    record {
+      few = is.few;
+      few_issues = omega (arith, none);
+      lists = subst (λ (behind : List Compilation). AreLists c.args.first.size (c.args.first ∷ behind) c.in_ok-touched.touched.items) c.as_slice.ensures.value is.lists;
+    }
