@@ -2,6 +2,7 @@
 use Rattle.std.proofs.Common.{◌≡◌, ◌∙◌, sym, ap, refl, arith, ℕ, ◌<◌, List, [], ◌∷◌, length, get_or, replicate}
 use Rattle.std.specs.List.{Contains, sum_by}
 use Rattle.std.proofs.lemmas.List.{get_or-replicate, length-replicate}
+use Rattle.gfxspec.specs.declared.pixel.Pixel.{Pixel}
 use Rattle.tileblock.specs.Surface.{Surface, IsWhole, pixel_of}
 use Rattle.binner.specs.Compiled.{Compilation, IsCompilation}
 use Rattle.tilerun.specs.Drawn.{IsDrawn, AreCounts}
@@ -22,15 +23,19 @@ pub no_length : {A : Type 0} (xs : List A) → length xs ≡ 0 → xs ≡ []
 no_length [] e = refl
 no_length (x ∷ xs) e = absurd (omega arith)
 
+-- where a job draws on no tile, nothing is drawn
+pub none_drawn : (drawn : ℕ → ℕ → ℕ → Pixel → Pixel) (tiles : List ℕ) (old : Surface) → IsWhole old → tiles ≡ [] → IsDrawn drawn tiles old old
+none_drawn drawn tiles old whole none = record { size = refl; whole = whole; here = λ x y p q there. absurd (nowhere there); elsewhere = λ x y p q out. refl }
+  where
+    nowhere : {t : ℕ} → Contains tiles t → ⊥
+    nowhere there = let l : there.0 < length tiles = there.1 in let e = ap length none in absurd (omega arith)
+
 -- a list that touches no tile
 pub nothing_ran : (c : Compilation) (old : Surface) (counts : List ℕ) → IsCompilation c → IsWhole old → c.touched ≡ [] → counts ≡ replicate c.issues 0 → ProgramsRan c old old counts
 nothing_ran c old counts sound whole none zeros =
     programs_ran c old old counts sound
-    record { size = refl; whole = whole; here = λ x y p q there. absurd (nowhere there); elsewhere = λ x y p q out. refl }
+    (none_drawn (pixel_by c) c.touched old whole none)
     record {
       many = ap length zeros ∙ length-replicate c.issues 0;
       each = λ i l. ap (λ (xs : List ℕ). get_or xs i 0) zeros ∙ get_or-replicate c.issues i 0 0 l ∙ ap (sum_by (λ t. count_by c t i (pixel_of old))) (sym none);
     }
-  where
-    nowhere : {t : ℕ} → Contains c.touched t → ⊥
-    nowhere there = let l : there.0 < length c.touched = there.1 in let e = ap length none in absurd (omega arith)

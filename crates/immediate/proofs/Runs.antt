@@ -124,16 +124,19 @@ module _ {T : Type 0} (items : T → List ℕ) (list : List Command) (o : Output
   there : c.size ≡ old.size
   there = size ∙ ap (λ (p : Outputs). p.surface.size) (sym is)
 
-  -- what the type of outputs keeps
-  pub kept_output : (drawn : Result T GfxError) (result : Result (Unit {0}) GfxError) (bins : Option (List (List ℕ))) → IsKept items list drawn results after result → IfOk drawn (λ x. ProgramsRan c old new (items x)) → OnErr drawn (new ≡ old) → IsWhole old → length results ≡ 64 → bins ≡ Some (no_words (tile_count c.size)) → IsOutput new after bins
-  kept_output (Ok x) result bins kept ran same whole long none =
+  -- what the type of outputs keeps, where a drawing shows that the target is whole and of its size
+  pub output_kept : (Drew : T → Type 0) → ((x : T) → Drew x → IsWhole new × (new.size ≡ old.size)) → (drawn : Result T GfxError) (result : Result (Unit {0}) GfxError) (bins : Option (List (List ℕ))) → IsKept items list drawn results after result → IfOk drawn Drew → OnErr drawn (new ≡ old) → IsWhole old → length results ≡ 64 → bins ≡ Some (no_words (tile_count c.size)) → IsOutput new after bins
+  output_kept Drew shows (Ok x) result bins kept ran same whole long none =
       subst (IsOutput new after) (sym none)
-      (fresh_output new after (no_words (tile_count c.size)) ran.whole (ap length kept.1 ∙ length_counts (λ k. get_or (items x) k 0) 0 (issues list) results ∙ long)
-      (ap (λ (s : Size). no_words (tile_count s)) (there ∙ sym ran.size)))
-  kept_output (Err e) result bins kept ran same whole long none =
+      (fresh_output new after (no_words (tile_count c.size)) (shows x ran).0 (ap length kept.1 ∙ length_counts (λ k. get_or (items x) k 0) 0 (issues list) results ∙ long)
+      (ap (λ (s : Size). no_words (tile_count s)) (there ∙ sym (shows x ran).1)))
+  output_kept Drew shows (Err e) result bins kept ran same whole long none =
       subst (IsOutput new after) (sym none)
       (subst (λ (s : Surface). IsOutput s after (Some (no_words (tile_count c.size)))) (sym same)
       (fresh_output old after (no_words (tile_count c.size)) whole (ap length kept.1 ∙ long) (ap (λ (s : Size). no_words (tile_count s)) there)))
+
+  pub kept_output : (drawn : Result T GfxError) (result : Result (Unit {0}) GfxError) (bins : Option (List (List ℕ))) → IsKept items list drawn results after result → IfOk drawn (λ x. ProgramsRan c old new (items x)) → OnErr drawn (new ≡ old) → IsWhole old → length results ≡ 64 → bins ≡ Some (no_words (tile_count c.size)) → IsOutput new after bins
+  kept_output = output_kept (λ x. ProgramsRan c old new (items x)) (λ x ran. (ran.whole, ran.size))
 
   -- the answer, where nothing ran
   pub kept_same : (drawn : Result T GfxError) (result : Result (Unit {0}) GfxError) → IsKept items list drawn results after result → OnErr drawn (new ≡ old) → OnErr result (record { surface = new; results = after } ≡ o)

@@ -3,6 +3,9 @@ use Rattle.std.specs.Prelude.{ℕ, ◌≡◌, ◌<◌, ◌++◌, true, List}
 use Rattle.gfxspec.specs.Commands.{Command}
 use Rattle.gfxspec.specs.Items.{Item, after_items}
 use Rattle.gfxspec.specs.Recorded.{items, after_finish}
+use Rattle.gfxspec.specs.Predication.{result_of}
+use Rattle.meaning.specs.Contexts.{result_at}
+use Rattle.binner.specs.Segments.{cut_items}
 use Rattle.tileblock.specs.Surface.{pixel_of}
 use Rattle.immediate.specs.Outputs.{Outputs, performed_over}
 use Rattle.immediate.specs.Held.{Held, outputs_of}
@@ -10,6 +13,10 @@ use Rattle.immediate.specs.Held.{Held, outputs_of}
 -- the items of the pending commands, and behind them those of a list; none of these begins a query, so the stored results tell what is performed
 abbrev pub executed_items : Held → List Command → List Item
 executed_items h list = items (performed_over (outputs_of h) h.pending) ++ items (performed_over (outputs_of h) list)
+
+-- the items of segments of lists, one behind the other; none of these begins a query, so the stored results tell what is performed
+abbrev pub cut_over : Outputs → List (List Command) → List Item
+cut_over o segments = cut_items (λ q. result_of (result_at o.results q)) segments
 
 -- the items were drawn, and nothing else changed
 pub record HasDrawn (is : List Item) (old new : Outputs) : Type 0 where

@@ -11,15 +11,13 @@ ghost use Rattle.meaning.specs.Standing.{IsNew};
 ghost use Rattle.meaning.specs.Contexts.{result_at};
 ghost use Rattle.immediate.specs.Issues.{begins};
 ghost use Rattle.immediate.specs.Next.{ExecutesNext};
-ghost use Rattle.gfxspec.specs.Items.{Item};
-ghost use Rattle.binner.specs.Compiling.{HasCompiled};
-ghost use Rattle.immediate.specs.Outputs.{Outputs, performed_over};
-ghost use Rattle.immediate.specs.Batched.{HasExecuted, executed_items};
+ghost use Rattle.immediate.specs.Outputs.{Outputs};
+ghost use Rattle.immediate.specs.Batched.{HasExecuted, executed_items, cut_over};
 ghost use Rattle.immediate.specs.Held.{Ran, held_of, outputs_of, context_of, shown, answered, Runs, IsExamined};
 
 use crate::counts::some_begins;
-use crate::drawing::TileCrew;
-use crate::executions::{Executions, Room, begin_behind, run_behind_alone, run_behind_by_crew};
+use crate::crew::RunCrew;
+use crate::executions::{Executions, begin_behind, run_behind_alone, run_behind_by_crew};
 use crate::output::Output;
 use cmdlist::{Call, CommandList, DeferredContext, DeviceContext};
 use gfxspec::{GfxError, Pixel, QUERY_LIMIT, WORKER_LIMIT};
@@ -91,7 +89,7 @@ fn run_pending_by_crew<'a, A: Allocator + Copy + Send + Sync, R: Wait, G: Gate>(
     output: &mut Output<A>,
     pending: &mut DeferredContext<A>,
     rt: &R,
-    crew: &TileCrew<'a, A>,
+    crew: &RunCrew<'a, A>,
     gate: &G,
 ) -> Result<(), GfxError>
     ensures ok { OnOk result (Ran [] true (held_of output.old pending.old) (held_of output.new pending.new)) }
@@ -209,6 +207,16 @@ impl<A: Allocator + Copy> ImmediateContext<A> {
         Ok(())
     }
 
+    /// Executions that are to run as one behind the pending commands, with so many workers beside the caller, of which a list's is the
+    /// first: it restores the state. There are none where the pending commands or the list begin a query, where both have no room in
+    /// one run, and without memory.
+    pub fn begin_executions(&self, list: &CommandList<A>, workers: u32) -> Option<Executions<A>>
+        ensures unissued { IfSome result (λ e. (issues self.now.pending ≡ []) × (issues list.now ≡ [])) }
+        ensures means { IfSome result (λ e. cut_over (outputs_of self.now) e ≡ executed_items self.now list.now) }
+    {
+        begin_behind(self.alloc, &self.pending, list, workers)
+    }
+
     /// Whether a query has an issue, with no query open: one that ran, or a pending one.
     fn is_issued(&self, query: u32) -> bool
         ensures { result ≡ not (is_none (answered self.now query)) }
@@ -297,40 +305,9 @@ impl<A: Allocator + Copy + Send> ImmediateContext<A> {
         executed(next, ran)
     }
 
-    /// Executions that are to run as one behind the pending commands, of which a list's is the first: it restores the state. There
-    /// are none where the pending commands or the list begin a query, where both have no room in one run, and without memory.
-    pub fn begin_executions(&mut self, list: &CommandList<A>) -> Option<Executions<A>>
-        ensures same { self.new ≡ self.old }
-        ensures unissued { IfSome result (λ e. (issues self.old.pending ≡ []) × (issues list.now ≡ [])) }
-        ensures size { IfSome result (λ e. e.lists.size ≡ self.old.surface.size) }
-        ensures means { IfSome result (λ e. HasCompiled e (executed_items self.old list.now)) }
-    {
-        begin_behind(&mut self.output, &mut self.pending, list)
-    }
-
-    /// Adds the execution of a list, which restores the state. Where there is no memory or no room, all are given up.
-    pub fn add_execution(
-        &mut self,
-        executions: Executions<A>,
-        list: &CommandList<A>,
-    ) -> Option<Executions<A>>
-        requires unissued { issues list.now ≡ [] }
-        requires size { executions.lists.size ≡ self.old.surface.size }
-        ensures same { self.new ≡ self.old }
-        ensures size { IfSome result (λ e. e.lists.size ≡ self.old.surface.size) }
-        ensures means { (is : List Item) → HasCompiled executions is
-            → IfSome result (λ e. HasCompiled e (is ++ items (performed_over (outputs_of self.old) list.now))) }
-    {
-        let Executions { batch, taken } = executions;
-        let taken = taken.and(Room::of(list.commands()));
-        let batch = self.output.add_to_batch(batch, list.commands())?;
-        Some(Executions { batch, taken })
-    }
-
     /// Runs executions as one behind the pending commands, on the caller's thread. Refused with OutOfMemory alone, and then nothing ran.
     pub fn run_executions_alone(&mut self, executions: Executions<A>) -> Result<(), GfxError>
-        requires size { executions.lists.size ≡ self.old.surface.size }
-        ensures ok { (is : List Item) → HasCompiled executions is → OnOk result (HasExecuted is self.old self.new) }
+        ensures ok { OnOk result (HasExecuted (cut_over (outputs_of self.old) executions) self.old self.new) }
         ensures err { OnErr result (self.new ≡ self.old) }
     {
         run_behind_alone(&mut self.output, &mut self.pending, executions)
@@ -437,7 +414,7 @@ impl<A: Allocator + Copy + Send + Sync> ImmediateContext<A> {
     pub fn flush_by_crew<'a, R: Wait, G: Gate>(
         &mut self,
         rt: &R,
-        crew: &TileCrew<'a, A>,
+        crew: &RunCrew<'a, A>,
         gate: &G,
     ) -> Result<(), GfxError>
         ensures { Runs (flush_rows (queries_open self.old.pending)) [] true self.old self.new result }
@@ -452,7 +429,7 @@ impl<A: Allocator + Copy + Send + Sync> ImmediateContext<A> {
         rt: &R,
         list: &CommandList<A>,
         restore: bool,
-        crew: &TileCrew<'a, A>,
+        crew: &RunCrew<'a, A>,
         gate: &G,
     ) -> Result<(), GfxError>
         ensures { Runs (flush_rows (queries_open self.old.pending)) list.now restore self.old self.new result }
@@ -468,11 +445,10 @@ impl<A: Allocator + Copy + Send + Sync> ImmediateContext<A> {
         &mut self,
         rt: &R,
         executions: Executions<A>,
-        crew: &TileCrew<'a, A>,
+        crew: &RunCrew<'a, A>,
         gate: &G,
     ) -> Result<(), GfxError>
-        requires size { executions.lists.size ≡ self.old.surface.size }
-        ensures ok { (is : List Item) → HasCompiled executions is → OnOk result (HasExecuted is self.old self.new) }
+        ensures ok { OnOk result (HasExecuted (cut_over (outputs_of self.old) executions) self.old self.new) }
         ensures err { OnErr result (self.new ≡ self.old) }
     {
         run_behind_by_crew(

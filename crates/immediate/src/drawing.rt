@@ -1,11 +1,11 @@
 //! Who runs the tiles of a compiled list: the caller alone, threads that are started beside it, or a crew. Memory is refused
 //! before the first tile is taken, and then nothing is changed; where no tile has words no board is made.
 
-ghost use Rattle.std.specs.Prelude.{◌≡◌, ◌≤◌, replicate, IfSome, IfOk, IfErr, OnErr};
+ghost use Rattle.std.specs.Prelude.{◌≡◌, ◌≤◌, ◌∷◌, [], replicate, IfSome, IfOk, IfErr, OnErr};
 ghost use Rattle.gfxspec.specs.declared.error.GfxError.TheVariants.{OutOfMemory};
 ghost use Rattle.tileblock.specs.Surface.{Surface, IsWhole};
-ghost use Rattle.binner.specs.Compiled.{IsCompilation};
-ghost use Rattle.tileprog.specs.Programs.{ProgramsRan};
+ghost use Rattle.binner.specs.Compiled.{Compilation, IsCompilation};
+ghost use Rattle.tileprog.specs.Programs.{AllRan, ProgramsRan, lists_of, tiles_of};
 
 use arrayvec::ArrayVec;
 use binner::Compiled;
@@ -15,12 +15,13 @@ use std::alloc::Allocator;
 use std::sync::Wait;
 use std::thread::Threads;
 use tileblock::Target;
+use tilecore::TileJob;
 use tileprog::TileProgram;
-use tilerun::{run_alone, run_with_crew, run_with_workers};
+use tilerun::{BlockJob, run_alone, run_with_crew, run_with_workers};
 use workers::{Crew, Gate};
 
 /// A crew that runs the tiles of compiled lists.
-pub type TileCrew<'a, A> = Crew<'a, TileProgram<A>, A>;
+type TileCrew<'a, A> = Crew<'a, TileProgram<A>, A>;
 
 /// The counts of a run, or why it was refused, and the compiled list as it was.
 pub(crate) type Drawn<A> = (Result<ArrayVec<u64, 64>, GfxError>, Compiled<A>);
@@ -110,26 +111,27 @@ pub(crate) fn draw_with_workers<
     }
 }
 
-/// The same by the threads of a crew beside the caller, which passes the gate too.
+/// The tiles of one list or of several, one behind the other, by the threads of a crew beside the caller, which passes the gate too.
+/// The first list comes back.
 pub(crate) fn draw_by_crew<'a, A: Allocator + Copy + Send + Sync, R: Wait, G: Gate>(
     rt: &R,
     crew: &TileCrew<'a, A>,
-    program: Compiled<A>,
+    job: TileProgram<A>,
     target: &mut Target<A>,
     gate: &G,
 ) -> Drawn<A>
-    requires size { program.size ≡ target.old.size }
+    requires size { job.first.size ≡ target.old.size }
     requires whole { IsWhole target.old }
-    ensures sound { IsCompilation program }
-    ensures ok { IfOk result.0 (λ counts. ProgramsRan program target.old target.new counts.items) }
+    ensures ran { IfOk result.0 (λ _. AllRan (lists_of job) target.old target.new) }
+    ensures alone { (c : Compilation) → lists_of job ≡ c ∷ [] → tiles_of job ≡ c.touched → IsCompilation c
+        → IfOk result.0 (λ counts. ProgramsRan c target.old target.new counts.items) }
     ensures err { OnErr result.0 (target.new ≡ target.old) }
     ensures memory { IfErr result.0 (λ e. e ≡ OutOfMemory) }
-    ensures same { result.1 ≡ program }
+    ensures same { result.1 ≡ job.first }
 {
-    if let Some(counts) = idle_counts(&program) {
-        return (Ok(counts), program);
+    if job.touched().is_empty() {
+        return (Ok(no_counts(job.issues())), job.into_compiled());
     }
-    let job = TileProgram::new(program);
     match Board::new(crew.allocator(), &job) {
         Ok((board, seat)) => {
             let (counts, job) = run_with_crew(rt, crew, board, seat, target, job, gate);

@@ -13,10 +13,11 @@
 
 mod context;
 mod counts;
+mod crew;
 mod drawing;
 mod executions;
 mod output;
 
 pub use context::ImmediateContext;
-pub use drawing::TileCrew;
+pub use crew::RunCrew;
 pub use executions::Executions;

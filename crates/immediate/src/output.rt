@@ -1,10 +1,11 @@
 //! The target and the query results, as the last run left them, and what a run makes of them.
 
-ghost use Rattle.std.specs.Prelude.{◌≡◌, ℕ, ◌<◌, ◌≤◌, ◌++◌, [], List, Some, None, Ok, Err, false, map, replicate, slice_index, slice_index_or, OnOk, IfOk, IfErr, OnErr, IfSome, MatchOption, MatchResult};
+ghost use Rattle.std.specs.Prelude.{◌≡◌, ℕ, ◌<◌, ◌≤◌, [], ◌∷◌, Some, None, Ok, Err, map, replicate, slice_index, OnOk, IfOk, IfErr, OnErr, IfSome, MatchOption, MatchResult};
 ghost use Rattle.std.specs.List.{list_any};
 ghost use Rattle.gfxspec.specs.declared.error.GfxError.TheVariants.{OutOfMemory};
-ghost use Rattle.gfxspec.specs.Items.{Item, opening};
-ghost use Rattle.gfxspec.specs.Recorded.{items, issues};
+ghost use Rattle.gfxspec.specs.Items.{opening};
+ghost use Rattle.gfxspec.specs.Recorded.{issues};
+ghost use Rattle.binner.specs.Compiling.{told};
 ghost use Rattle.gfxspec.specs.Predication.{result_of};
 ghost use Rattle.gfxspec.specs.Refusals.{AnswersBy, AreAccepted};
 ghost use Rattle.gfxspec.specs.Tiles.{tile_count};
@@ -13,21 +14,26 @@ ghost use Rattle.binmem.specs.Lists.{no_words};
 ghost use Rattle.meaning.specs.Contexts.{result_at, with_counts};
 ghost use Rattle.cmdlist.specs.Seen.{command_value};
 ghost use Rattle.immediate.specs.Issues.{acts};
-ghost use Rattle.binner.specs.Compiling.{HasCompiled};
-ghost use Rattle.immediate.specs.Outputs.{HasRun, IsRunBy, performed_over};
-ghost use Rattle.immediate.specs.Batched.{HasDrawn};
+ghost use Rattle.binner.specs.Segments.{AreCompiled};
+ghost use Rattle.tileprog.specs.Programs.{lists_of};
+ghost use Rattle.immediate.specs.Outputs.{HasRun, IsRunBy};
+ghost use Rattle.immediate.specs.Batched.{HasDrawn, cut_over};
 
 use crate::counts::store_counts;
-use crate::drawing::{Drawn, TileCrew, draw_alone, draw_by_crew, draw_with_workers};
+use crate::crew::RunCrew;
+use crate::drawing::{Drawn, draw_alone, draw_by_crew, draw_with_workers};
+use crate::executions::{Room, some_begin};
 use binmem::Bins;
-use binner::{Batch, Compiled, compile, compile_parallel};
+use binner::{Compiled, Segment, compile, compile_parallel, cut};
 use cmdlist::Command;
 use gfxspec::GfxError;
+use segmentrun::{compile_alone, compile_by_crew};
 use std::alloc::Allocator;
 use std::marker::Model;
 use std::sync::Wait;
 use std::thread::Threads;
 use tileblock::Target;
+use tileprog::TileProgram;
 use workers::Gate;
 
 /// No query has a count.
@@ -49,7 +55,7 @@ fn is_counted(count: Option<u64>) -> bool
 
 /// The result of each query as a predicate.
 fn told_by(results: &[Option<u64>; 64]) -> [bool; 64]
-    ensures { (q : ℕ) → q < 64 → slice_index_or result q false ≡ result_of (result_at results.now q) }
+    ensures { (q : ℕ) → told result q ≡ result_of (result_at results.now q) }
 {
     let mut told = [false; 64];
     for query in 0..64usize {
@@ -213,15 +219,16 @@ impl<A: Allocator + Copy + Send> Output<A> {
         self.end_compiling(compiled)
     }
 
-    /// A batch of no list, for the target.
-    fn empty_batch(&mut self) -> Result<Batch<A>, GfxError>
+    /// Segments of lists, compiled as one on the caller's thread, under the results of the queries. Refused with OutOfMemory alone.
+    fn compiled_segments(&mut self, segments: &[Segment<A>]) -> Result<Compiled<A>, GfxError>
         ensures same { self.new ≡ self.old }
-        ensures size { IfOk result (λ b. b.lists.size ≡ self.old.surface.size) }
-        ensures nothing { IfOk result (λ b. HasCompiled b []) }
+        ensures compiled { IfOk result (λ c. AreCompiled self.old.surface.size (cut_over self.old segments.now) (c ∷ [])) }
+        ensures memory { IfErr result (λ e. e ≡ OutOfMemory) }
     {
         let bins = self.take_bins()?;
-        match Batch::new(self.alloc, self.target.size(), bins) {
-            Ok(batch) => Ok(batch),
+        let told = told_by(&self.results);
+        match compile_alone(self.alloc, segments, self.target.size(), &told, bins) {
+            Ok(compiled) => Ok(compiled),
             Err(bins) => {
                 self.bins = Some(bins);
                 Err(GfxError::OutOfMemory)
@@ -229,56 +236,17 @@ impl<A: Allocator + Copy + Send> Output<A> {
         }
     }
 
-    /// A batch of two lists for the target, under the results of the queries, where there is room and memory for both.
-    pub(crate) fn begin_batch(
+    /// Runs segments of lists on the caller's thread. Refused with OutOfMemory alone, before any tile is taken.
+    pub(crate) fn run_segments_alone(
         &mut self,
-        first: &[Command<A>],
-        second: &[Command<A>],
-    ) -> Option<Batch<A>>
-        requires accepted { AreAccepted (map command_value first.now) × AreAccepted (map command_value second.now) }
-        requires unissued { (issues (map command_value first.now) ≡ []) × (issues (map command_value second.now) ≡ []) }
-        ensures same { self.new ≡ self.old }
-        ensures size { IfSome result (λ b. b.lists.size ≡ self.old.surface.size) }
-        ensures means { IfSome result (λ b. HasCompiled b (items (performed_over self.old (map command_value first.now)) ++ items (performed_over self.old (map command_value second.now)))) }
-    {
-        let Ok(batch) = self.empty_batch() else {
-            return None;
-        };
-        let begun = self.add_to_batch(batch, first)?;
-        self.add_to_batch(begun, second)
-    }
-
-    /// Adds a list to a batch, under the results of the queries; where that is refused, the batch is given up.
-    pub(crate) fn add_to_batch(
-        &mut self,
-        batch: Batch<A>,
-        commands: &[Command<A>],
-    ) -> Option<Batch<A>>
-        requires accepted { AreAccepted (map command_value commands.now) }
-        requires unissued { issues (map command_value commands.now) ≡ [] }
-        requires size { batch.lists.size ≡ self.old.surface.size }
-        ensures same { self.new ≡ self.old }
-        ensures size { IfSome result (λ b. b.lists.size ≡ self.old.surface.size) }
-        ensures means { (is : List Item) → HasCompiled batch is
-            → IfSome result (λ b. HasCompiled b (is ++ items (performed_over self.old (map command_value commands.now)))) }
-    {
-        let told = told_by(&self.results);
-        match batch.add(commands, &told) {
-            Ok(batch) => Some(batch),
-            Err(bins) => {
-                self.bins = Some(bins);
-                None
-            }
-        }
-    }
-
-    /// Runs a batch on the caller's thread. Refused with OutOfMemory alone, before any tile is taken.
-    pub(crate) fn run_batch_alone(&mut self, batch: Batch<A>) -> Result<(), GfxError>
-        requires size { batch.lists.size ≡ self.old.surface.size }
-        ensures ok { (is : List Item) → HasCompiled batch is → OnOk result (HasDrawn is self.old self.new) }
+        segments: Vec<Segment<A>, A>,
+    ) -> Result<(), GfxError>
+        ensures ok { OnOk result (HasDrawn (cut_over self.old segments.items) self.old self.new) }
+        ensures memory { IfErr result (λ e. e ≡ OutOfMemory) }
         ensures err { OnErr result (self.new ≡ self.old) }
     {
-        let drawn = draw_alone(&self.alloc, batch.finish(), &mut self.target);
+        let compiled = self.compiled_segments(segments.as_slice())?;
+        let drawn = draw_alone(&self.alloc, compiled, &mut self.target);
         let nothing: [Command<A>; 0] = [];
         keep(drawn, &nothing, &mut self.results, &mut self.bins)
     }
@@ -345,13 +313,39 @@ impl<A: Allocator + Copy + Send + Sync> Output<A> {
         keep(drawn, commands, &mut self.results, &mut self.bins)
     }
 
-    /// The same as `run_alone` by the threads of a crew beside the caller, which passes the gate too. The caller compiles: threads
-    /// that set triangles up would have to be started, and joined, for each run.
+    /// The same as `run_alone` by a crew beside the caller, which passes the gate too. Where commands begin a query, or draw little,
+    /// the caller compiles them.
     pub(crate) fn run_by_crew<'a, R: Wait, G: Gate>(
         &mut self,
         rt: &R,
         commands: &[Command<A>],
-        crew: &TileCrew<'a, A>,
+        crew: &RunCrew<'a, A>,
+        gate: &G,
+    ) -> Result<(), GfxError>
+        requires accepted { AreAccepted (map command_value commands.now) }
+        ensures ok { OnOk result (HasRun (map command_value commands.now) self.old self.new) }
+        ensures memory { IfErr result (λ e. e ≡ OutOfMemory) }
+        ensures err { OnErr result (self.new ≡ self.old) }
+    {
+        let room = Room::of(commands);
+        if !room.is_large() {
+            return self.run_compiled(rt, commands, crew, gate);
+        }
+        if some_begin(commands) {
+            return self.run_compiled(rt, commands, crew, gate);
+        }
+        let mut segments = Vec::new(self.alloc);
+        let triangles = room.segment(crew.workers());
+        cut(self.alloc, commands, triangles, &mut segments)?;
+        self.run_segments_by_crew(rt, segments, room, crew, gate)
+    }
+
+    /// Commands that the caller compiles, run by a crew.
+    fn run_compiled<'a, R: Wait, G: Gate>(
+        &mut self,
+        rt: &R,
+        commands: &[Command<A>],
+        crew: &RunCrew<'a, A>,
         gate: &G,
     ) -> Result<(), GfxError>
         requires accepted { AreAccepted (map command_value commands.now) }
@@ -362,23 +356,49 @@ impl<A: Allocator + Copy + Send + Sync> Output<A> {
         let Some(compiled) = self.compiled(commands)? else {
             return Ok(());
         };
-        let drawn = draw_by_crew(rt, crew, compiled, &mut self.target, gate);
+        let job = TileProgram::new(compiled);
+        let drawn = draw_by_crew(rt, &crew.drawing, job, &mut self.target, gate);
         keep(drawn, commands, &mut self.results, &mut self.bins)
     }
 
-    /// The same as `run_batch_alone` by the threads of a crew beside the caller, which passes the gate too.
-    pub(crate) fn run_batch_by_crew<'a, R: Wait, G: Gate>(
+    /// The lists of segments as a job: compiled by a crew, or on the caller's thread where they draw little.
+    fn program_by_crew<'a, R: Wait, G: Gate>(
         &mut self,
         rt: &R,
-        batch: Batch<A>,
-        crew: &TileCrew<'a, A>,
+        segments: Vec<Segment<A>, A>,
+        room: Room,
+        crew: &RunCrew<'a, A>,
+        gate: &G,
+    ) -> Result<TileProgram<A>, GfxError>
+        ensures same { self.new ≡ self.old }
+        ensures compiled { IfOk result (λ job. AreCompiled self.old.surface.size (cut_over self.old segments.items) (lists_of job)) }
+        ensures memory { IfErr result (λ e. e ≡ OutOfMemory) }
+    {
+        if !room.is_large() {
+            let compiled = self.compiled_segments(segments.as_slice())?;
+            return Ok(TileProgram::new(compiled));
+        }
+        let told = told_by(&self.results);
+        let size = self.target.size();
+        let (first, behind) = compile_by_crew(rt, &crew.compiling, segments, size, &told, gate)?;
+        Ok(TileProgram::of_lists(self.alloc, first, behind)?)
+    }
+
+    /// The same as `run_segments_alone` by a crew beside the caller, which passes the gate too.
+    pub(crate) fn run_segments_by_crew<'a, R: Wait, G: Gate>(
+        &mut self,
+        rt: &R,
+        segments: Vec<Segment<A>, A>,
+        room: Room,
+        crew: &RunCrew<'a, A>,
         gate: &G,
     ) -> Result<(), GfxError>
-        requires size { batch.lists.size ≡ self.old.surface.size }
-        ensures ok { (is : List Item) → HasCompiled batch is → OnOk result (HasDrawn is self.old self.new) }
+        ensures ok { OnOk result (HasDrawn (cut_over self.old segments.items) self.old self.new) }
+        ensures memory { IfErr result (λ e. e ≡ OutOfMemory) }
         ensures err { OnErr result (self.new ≡ self.old) }
     {
-        let drawn = draw_by_crew(rt, crew, batch.finish(), &mut self.target, gate);
+        let job = self.program_by_crew(rt, segments, room, crew, gate)?;
+        let drawn = draw_by_crew(rt, &crew.drawing, job, &mut self.target, gate);
         let nothing: [Command<A>; 0] = [];
         keep(drawn, &nothing, &mut self.results, &mut self.bins)
     }

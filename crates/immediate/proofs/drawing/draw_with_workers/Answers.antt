@@ -1,8 +1,6 @@
-use Rattle.std.proofs.Common.{subst}
+use Rattle.std.proofs.Common.{◌≡◌}
 use Rattle.tileblock.specs.Surface.{pixel_of}
-use Rattle.binner.specs.Compiled.{Compilation}
-use Rattle.tilerun.specs.Drawn.{IsDrawn, AreCounts}
-use Rattle.tileprog.specs.Programs.{pixel_by, count_by}
+use Rattle.tileprog.proofs.Several.{alone_drawn, alone_counts}
 use Rattle.immediate.proofs.Ran.{programs_ran}
 use Rattle.immediate.proofs.drawing.draw_with_workers.Goals as goal
 
@@ -14,6 +12,7 @@ returns-in-Ok-clause-ok g c =
     let old = c.args.target.now in
     let new = c.run_with_workers-counts.new.target in
     let counts = c.run_with_workers-counts.result.items in
+    let job = c.new-job.ensures in
     programs_ran c.args.program old new counts c.idle_counts.ensures.sound
-    (subst (λ (k : Compilation). IsDrawn (pixel_by k) k.touched old new) c.new-job.ensures c.run_with_workers-counts.ensures.drawn)
-    (subst (λ (k : Compilation). AreCounts (count_by k) k.issues k.touched (pixel_of old) counts) c.new-job.ensures c.run_with_workers-counts.ensures.counts)
+    (alone_drawn c.new-job.result c.args.program old new job.lists job.tiles c.run_with_workers-counts.ensures.drawn)
+    (alone_counts c.new-job.result c.args.program (pixel_of old) counts job.first job.tiles c.run_with_workers-counts.ensures.counts)

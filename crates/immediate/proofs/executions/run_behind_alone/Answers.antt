@@ -1,9 +1,10 @@
-use Rattle.std.proofs.Common.{sym, subst}
-use Rattle.binner.specs.Compiling.{HasCompiled}
+use Rattle.std.proofs.Common.{subst, List}
+use Rattle.gfxspec.specs.Commands.{Command}
+use Rattle.immediate.specs.Batched.{HasDrawn, cut_over}
 use Rattle.immediate.proofs.executions.run_behind_alone.Goals as goal
 
 pub returns-clause-ok : goal.returns-clause-ok
-returns-clause-ok g c is h = record {
-  drawn = c.in_ok-run_batch_alone.ensures.ok is (subst (λ k. HasCompiled k is) (sym c.executions.view_is) h);
+returns-clause-ok g c = record {
+  drawn = subst (λ (ss : List (List Command)). HasDrawn (cut_over c.args.output.now ss) c.args.output.now c.run_segments_alone.new.self) c.executions.view_is c.in_ok-run_segments_alone.ensures.ok;
   pending = c.in_ok-next.ensures.next;
 }
