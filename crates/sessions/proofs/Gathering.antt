@@ -16,13 +16,11 @@ use Rattle.scenetext.specs.Spelling.{IsVerb, AreLines}
 use Rattle.recorders.specs.Apart.{a_line, line_at, listed}
 use Rattle.immediate.specs.Held.{Held, context_of, outputs_of}
 use Rattle.immediate.specs.Outputs.{performed_over}
-use Rattle.immediate.specs.Batched.{HasExecuted, executed_items}
+use Rattle.immediate.specs.Batched.{HasExecuted, executed_items, cut_over}
 use Rattle.immediate.proofs.Drawn.{none_open, answers_stay, run_behind}
 use Rattle.sessions.specs.Lists.{actor_steps, steps_of}
 use Rattle.sessions.specs.Answers.{answer_of, refusal}
 use Rattle.sessions.specs.Playing.{own_count, own_place, ListsOf, ImmediateAccepts, IsTold, HasReached}
-use Rattle.binner.specs.declared.compiling.Compiling.{Compiling}
-use Rattle.binner.specs.Compiling.{HasCompiled}
 use Rattle.sessions.specs.Gathering.{ExecutesAndKeeps, IsKept, with_items, Follows, AreGathered, HasGoneOn}
 use Rattle.sessions.proofs.Played.{steps_of-push}
 use Rattle.sessions.proofs.Steps.{told_none, accepts_more, ArePassed, IsNext, immediate_line, next_line, executed_list}
@@ -83,35 +81,32 @@ all_follow size ls i h d text is same ran f = record {
 pub more_inside : (i n : ℕ) → i < n → i + 1 ≤ n
 more_inside i n p = omega (arith, p)
 
-module _ {A : Type 0} (agrees : Type 0) (ls : List Line) (from : ℕ) (h : Held) (w : ℕ → ℕ → List Command) (sound : AreLines [] ls) (right : ListsOf ls w) where
-  pub first_gathered : (list : List Command) (e : Compiling A) → IsKept agrees w ls from list → issues list ≡ [] → issues h.pending ≡ [] → e.lists.size ≡ h.surface.size → HasCompiled e (executed_items h list) → AreGathered agrees ls from (from + 1) h e
-  first_gathered list e kept none unissued size means = record {
+module _ (agrees : Type 0) (ls : List Line) (from : ℕ) (h : Held) (w : ℕ → ℕ → List Command) (sound : AreLines [] ls) (right : ListsOf ls w) where
+  pub first_gathered : (list : List Command) (e : List (List Command)) → IsKept agrees w ls from list → issues list ≡ [] → issues h.pending ≡ [] → cut_over (outputs_of h) e ≡ executed_items h list → AreGathered agrees ls from (from + 1) h e
+  first_gathered list e kept none unissued means = record {
     start = omega arith;
     end = more_inside from (own_count ls) kept.executes.0;
-    size = size;
-    items = executed_items h list;
-    compiled = means;
     follows = λ ok size text r.
-        one_follows size ls from h text w list sound right kept ok r.accepted r.told (context_of h) (items (performed_over (outputs_of h) h.pending)) r.played.stands (none_open h.pending unissued) refl (λ x y. refl) (answers_stay size h unissued) none;
+        subst (λ is. Follows size ls (own_place ls (from + 1)) h is text) (sym means)
+        (one_follows size ls from h text w list sound right kept ok r.accepted r.told (context_of h) (items (performed_over (outputs_of h) h.pending)) r.played.stands (none_open h.pending unissued) refl (λ x y. refl) (answers_stay size h unissued) none);
   }
 
-  pub one_gathered : (i : ℕ) (list : List Command) (e f : Compiling A) → IsKept agrees w ls i list → issues list ≡ [] → AreGathered agrees ls from i h e → f.lists.size ≡ h.surface.size → ((is : List Item) → HasCompiled e is → HasCompiled f (is ++ items (performed_over (outputs_of h) list))) → AreGathered agrees ls from (i + 1) h f
-  one_gathered i list e f kept none g size means = record {
+  pub one_gathered : (i : ℕ) (list : List Command) (e f : List (List Command)) → IsKept agrees w ls i list → issues list ≡ [] → AreGathered agrees ls from i h e → cut_over (outputs_of h) f ≡ cut_over (outputs_of h) e ++ items (performed_over (outputs_of h) list) → AreGathered agrees ls from (i + 1) h f
+  one_gathered i list e f kept none g means = record {
     start = let before = g.start in omega (arith, before);
     end = more_inside i (own_count ls) kept.executes.0;
-    size = size;
-    items = g.items ++ items (performed_over (outputs_of h) list);
-    compiled = means g.items g.compiled;
     follows = λ ok size text r.
-        let f = g.follows ok size text r in
-        one_follows size ls i h text w list sound right kept ok f.accepted f.told (with_items h g.items) g.items f.stands refl refl (λ x y. refl) (λ q. refl) none;
+        let before = g.follows ok size text r in
+        let is : List Item = cut_over (outputs_of h) e in
+        subst (λ js. Follows size ls (own_place ls (i + 1)) h js text) (sym means)
+        (one_follows size ls i h text w list sound right kept ok before.accepted before.told (with_items h is) is before.stands refl refl (λ x y. refl) (λ q. refl) none);
   }
 
 -- they ran on what was held
-pub gone_on : {A : Type 0} (agrees : Type 0) (ls : List Line) (from to : ℕ) (h d : Held) (e : Compiling A) → AreGathered agrees ls from to h e → (c : Held) → c ≡ h → ((is : List Item) → HasCompiled e is → HasExecuted is c d) → HasGoneOn agrees ls from to h d
-gone_on agrees ls from to h d e g c same ran = record {
+pub gone_on : (agrees : Type 0) (ls : List Line) (from to : ℕ) (h d : Held) (e : List (List Command)) → AreGathered agrees ls from to h e → HasExecuted (cut_over (outputs_of h) e) h d → HasGoneOn agrees ls from to h d
+gone_on agrees ls from to h d e g ran = record {
   start = g.start;
   end = λ p. g.end;
   reached = λ ok size text r.
-      all_follow size ls (own_place ls to) h d text g.items r.played.size_is (subst (λ (x : Held). HasExecuted g.items x d) same (ran g.items g.compiled)) (g.follows ok size text r);
+      all_follow size ls (own_place ls to) h d text (cut_over (outputs_of h) e) r.played.size_is ran (g.follows ok size text r);
 }

@@ -8,11 +8,10 @@ use Rattle.gfxspec.specs.Refusals.{AreAccepted}
 use Rattle.meaning.specs.Contexts.{Context}
 use Rattle.meaning.specs.Standing.{Stands}
 use Rattle.tileblock.specs.Surface.{pixel_of}
-use Rattle.binner.specs.declared.compiling.Compiling.{Compiling}
-use Rattle.binner.specs.Compiling.{HasCompiled}
 use Rattle.scenetext.specs.Scene.{Execute, Line}
 use Rattle.recorders.specs.Apart.{line_at}
-use Rattle.immediate.specs.Held.{Held}
+use Rattle.immediate.specs.Held.{Held, outputs_of}
+use Rattle.immediate.specs.Batched.{cut_over}
 use Rattle.sessions.specs.Lists.{steps_of}
 use Rattle.sessions.specs.Playing.{own_count, own_place, ImmediateAccepts, IsTold, HasReached}
 
@@ -41,13 +40,10 @@ pub record Follows (size : Size) (ls : List Line) (i : ℕ) (h : Held) (is : Lis
   pub told : IsTold size ls i text
 
 -- executions wait that have the items of the immediate context's lines from one number to another
-pub record AreGathered {A : Type 0} (agrees : Type 0) (ls : List Line) (from to : ℕ) (h : Held) (e : Compiling A) : Type 0 where
+pub record AreGathered (agrees : Type 0) (ls : List Line) (from to : ℕ) (h : Held) (segments : List (List Command)) : Type 0 where
   pub start : from ≤ to
   pub end : to ≤ own_count ls
-  pub size : e.lists.size ≡ h.surface.size
-  pub items : List Item
-  pub compiled : HasCompiled e items
-  pub follows : agrees → (size : Size) (text : List ℕ) → HasReached size ls (own_place ls from) h text → Follows size ls (own_place ls to) h items text
+  pub follows : agrees → (size : Size) (text : List ℕ) → HasReached size ls (own_place ls from) h text → Follows size ls (own_place ls to) h (cut_over (outputs_of h) segments) text
 
 -- its lines from one number to another are taken, and answer nothing
 pub record HasGoneOn (agrees : Type 0) (ls : List Line) (from to : ℕ) (old new : Held) : Type 0 where

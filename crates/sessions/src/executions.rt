@@ -44,20 +44,20 @@ fn kept_list<'l, A: Allocator, S: ListSource<CommandList<A>>>(
 }
 
 /// The executions of the immediate context's lines from one on that keep the state, up to the first that isn't one, whose list
-/// hasn't come yet or has no room. With them comes its number among the context's lines.
+/// hasn't come yet or has no room; so many workers are to run them. With them comes its number among the context's lines.
 pub(crate) fn gather_executions<A: Allocator + Copy + Send, S: ListSource<CommandList<A>>>(
-    context: &mut ImmediateContext<A>,
+    context: &ImmediateContext<A>,
     lists: &S,
     lines: &DealtLines<'_, A>,
     from: usize,
+    workers: u32,
 ) -> Option<(Executions<A>, usize)>
     requires lines { AreLines [] lines.now }
     requires right { ListsOf lines.now (S.right lists.now) }
-    ensures same { context.new ≡ context.old }
-    ensures gathered { IfSome result (λ found. AreGathered (S.agrees lists.now) lines.now from found.1 context.old found.0) }
+    ensures gathered { IfSome result (λ found. AreGathered (S.agrees lists.now) lines.now from found.1 context.now found.0) }
 {
     let first = kept_list(lists, lines, from)?;
-    let mut executions = context.begin_executions(first)?;
+    let mut executions = context.begin_executions(first, workers)?;
     let count = lines.count(CALLER);
     for next in from + 1..count {
         let Some(list) = kept_list(lists, lines, next) else {
@@ -66,7 +66,7 @@ pub(crate) fn gather_executions<A: Allocator + Copy + Send, S: ListSource<Comman
         if !executions.takes(list) {
             return Some((executions, next));
         }
-        executions = context.add_execution(executions, list)?;
+        executions = executions.with(list, workers)?;
     }
     Some((executions, count))
 }

@@ -7,7 +7,7 @@ ghost use Rattle.gfxspec.specs.Refusals.{AreAccepted};
 use answers::Answer;
 use cmdlist::CommandList;
 use gfxspec::GfxError;
-use immediate::{ImmediateContext, TileCrew};
+use immediate::{ImmediateContext, RunCrew};
 use recorders::{ListSource, take_call};
 use scenetext::Verb;
 use std::alloc::Allocator;
@@ -100,11 +100,11 @@ pub(crate) fn finished_list<A: Allocator, S: ListSource<CommandList<A>>>(
     list
 }
 
-/// What a session in threads works with: threads, memory, a crew for the tiles, and the gate by which tests look at it.
+/// What a session in threads works with: threads, memory, a crew for the runs, and the gate by which tests look at it.
 #[derive(Drop)]
 pub(crate) struct Workers<'w, 'a, A: Allocator + Copy + Send, R, G> {
     pub(crate) rt: &'w R,
     pub(crate) alloc: A,
-    pub(crate) crew: TileCrew<'a, A>,
+    pub(crate) crew: RunCrew<'a, A>,
     pub(crate) gate: &'w G,
 }

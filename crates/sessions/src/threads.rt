@@ -10,7 +10,7 @@ use crate::ending::{Performance, end, stopped};
 use crate::perform::begin;
 use crate::play::{Played, play_by_crew};
 use crate::run::Workers;
-use immediate::{ImmediateContext, TileCrew};
+use immediate::{ImmediateContext, RunCrew};
 use recorders::{
     DealtLines, ListPorts, Passes, RecorderSetup, Returned, deal, open_ports, receive, settle,
 };
@@ -27,7 +27,7 @@ struct Round<A: Allocator> {
     returned: Returned<A>,
 }
 
-/// Starts the recorders and the threads of the crew, takes the lines of the immediate context, and waits for all of them.
+/// Starts the recorders and the crew's threads, takes the lines of the immediate context, and waits for all of them.
 fn play_in_scope<
     'w,
     'a,
@@ -52,7 +52,8 @@ fn play_in_scope<
             requires { AreNew ports.now.queue passes × MayPlay lines.now (listed lines.now) immediate }
             ensures { IsRound immediate.surface.size lines.entry.now ports.entry.now.queue result }
         {
-            start_crew(workers.rt, scope, &workers.crew, workers.gate);
+            start_crew(workers.rt, scope, &workers.crew.compiling, workers.gate);
+            start_crew(workers.rt, scope, &workers.crew.drawing, workers.gate);
             let setup = RecorderSetup {
                 rt: workers.rt,
                 alloc: workers.alloc,
@@ -69,8 +70,7 @@ fn play_in_scope<
     )
 }
 
-/// Reads a script and draws its scene: records the deferred contexts in up to four threads, while this one takes the lines of
-/// the immediate context, with a crew beside it. What comes out is what there is to write.
+/// Reads a script and draws its scene, with up to four recorders and the crew beside this thread: what there is to write.
 pub(crate) fn perform_in_threads<
     A: Allocator + Copy + Send + Sync,
     R: Threads + Wait + Sync,
@@ -91,7 +91,7 @@ pub(crate) fn perform_in_threads<
     let workers = Workers {
         rt,
         alloc,
-        crew: TileCrew::new(&alloc, workers),
+        crew: RunCrew::new(&alloc, workers),
         gate,
     };
     let round = play_in_scope(&workers, &ports, passes, &lines, immediate);
