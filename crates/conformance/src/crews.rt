@@ -5,7 +5,7 @@ use crate::calls::{list_of, record_all};
 use crate::meeting::AllAtOnce;
 use cmdlist::{Call, CommandList};
 use gfxspec::{GfxError, Topology, Vertex};
-use immediate::{ImmediateContext, TileCrew};
+use immediate::{ImmediateContext, RunCrew};
 use refusing::Refusing;
 use std::alloc::{Allocator, Global};
 use std::sync::Wait;
@@ -67,7 +67,7 @@ fn left_by_crew<'a, A: Allocator + Copy + Send + Sync, R: Threads + Wait + Sync,
     rt: &R,
     context: &mut ImmediateContext<A>,
     list: &CommandList<A>,
-    crew: &TileCrew<'a, A>,
+    crew: &RunCrew<'a, A>,
     gate: &G,
 ) -> Result<Left, GfxError> {
     context.execute_by_crew(rt, list, false, crew, gate)?;
@@ -78,7 +78,7 @@ fn left_by_crew<'a, A: Allocator + Copy + Send + Sync, R: Threads + Wait + Sync,
 fn same_answers<'a, A: Allocator + Copy + Send + Sync, R: Threads + Wait + Sync, G: Gate>(
     rt: &R,
     alloc: A,
-    crew: &TileCrew<'a, A>,
+    crew: &RunCrew<'a, A>,
     gate: &G,
     shades: u8,
 ) -> Result<u64, GfxError> {
@@ -100,9 +100,10 @@ fn same_with_threads<
     A: Allocator + Copy + Send + Sync,
     R: Threads + Wait + Sync,
     G: Gate + Sync,
->(rt: &R, alloc: A, crew: &TileCrew<'a, A>, gate: &G, shades: u8) -> Result<u64, GfxError> {
+>(rt: &R, alloc: A, crew: &RunCrew<'a, A>, gate: &G, shades: u8) -> Result<u64, GfxError> {
     thread::scope(thread::scope_env(), rt, |scope| {
-        start_crew(rt, scope, crew, gate);
+        start_crew(rt, scope, &crew.compiling, gate);
+        start_crew(rt, scope, &crew.drawing, gate);
         let same = same_answers(rt, alloc, crew, gate, shades);
         crew.close(rt);
         same
@@ -113,7 +114,7 @@ fn same_with_threads<
 #[test]
 fn a_crew_meets_and_stays(rt: HostRuntime) -> Result<(), Fail> {
     let alloc: Global = rt.alloc();
-    let crew = TileCrew::new(&alloc, 3);
+    let crew = RunCrew::new(&alloc, 3);
     let gate = AllAtOnce::new(4);
     let same = same_with_threads(&rt, alloc, &crew, &gate, 100)?;
     assert!(rt; same == 100);
@@ -125,7 +126,7 @@ fn a_crew_meets_and_stays(rt: HostRuntime) -> Result<(), Fail> {
 #[test]
 fn fifteen_for_six_tiles(rt: HostRuntime) -> Result<(), Fail> {
     let alloc: Global = rt.alloc();
-    let crew = TileCrew::new(&alloc, 15);
+    let crew = RunCrew::new(&alloc, 15);
     let same = same_with_threads(&rt, alloc, &crew, &NoGate, 100)?;
     assert!(rt; same == 100);
     Ok(())
@@ -135,7 +136,7 @@ fn fifteen_for_six_tiles(rt: HostRuntime) -> Result<(), Fail> {
 #[test]
 fn no_thread_starts(rt: HostRuntime) -> Result<(), Fail> {
     let alloc: Global = rt.alloc();
-    let crew = TileCrew::new(&alloc, 15);
+    let crew = RunCrew::new(&alloc, 15);
     let same = same_answers(&rt, alloc, &crew, &NoGate, 10)?;
     assert!(rt; same == 10);
     Ok(())
@@ -161,12 +162,13 @@ impl Gate for Others {
 fn clear_one_tile<'a, R: Threads + Wait + Sync, G: Gate + Sync>(
     rt: &R,
     alloc: Global,
-    crew: &TileCrew<'a, Global>,
+    crew: &RunCrew<'a, Global>,
     gate: &G,
 ) -> Result<(), GfxError> {
     let mut context = ImmediateContext::new(alloc, 32, 32)?;
     thread::scope(thread::scope_env(), rt, |scope| {
-        start_crew(rt, scope, crew, gate);
+        start_crew(rt, scope, &crew.compiling, gate);
+        start_crew(rt, scope, &crew.drawing, gate);
         let mut answer = Ok(());
         for shade in 0..100u8 {
             answer = answer.and(record_all(&mut context, &[Call::ClearColor([shade; 4])]));
@@ -181,7 +183,7 @@ fn clear_one_tile<'a, R: Threads + Wait + Sync, G: Gate + Sync>(
 #[test]
 fn one_tile_is_offered_to_nobody(rt: HostRuntime) -> Result<(), Fail> {
     let alloc: Global = rt.alloc();
-    let crew = TileCrew::new(&alloc, 3);
+    let crew = RunCrew::new(&alloc, 3);
     let gate = Others {
         claims: AtomicU64::new(0),
     };
@@ -197,7 +199,7 @@ fn insisting<A: Allocator + Copy + Send + Sync, R: Threads + Wait + Sync>(
     alloc: A,
     lent: &A,
 ) -> Result<u64, GfxError> {
-    let crew = TileCrew::new(lent, 3);
+    let crew = RunCrew::new(lent, 3);
     match same_with_threads(rt, alloc, &crew, &NoGate, 3) {
         Err(GfxError::OutOfMemory) => same_with_threads(rt, alloc, &crew, &NoGate, 3),
         first => first,

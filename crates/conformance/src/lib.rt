@@ -1,7 +1,7 @@
 //! Tests of what no contract says, over what the crates below hand out: scripts from bytes to bytes (`scripts`), the calls
 //! of the immediate context that no script reaches (`contexts`), recorded and compiled lists (`recording`, `compiling`), tiles
 //! in any order (`orders`), the reading of scripts (`reading`), blocks, boards, crews, ports and their threads (`blocks`, `boards`,
-//! `crews`, `ports`, `meeting`),
+//! `crews`, `segments`, `ports`, `meeting`),
 //! devices (`devices`), numbers and texts of refusals (`refusals`), the command line (`words`), and the allocator that
 //! refuses a growth (`allocator`).
 //!
@@ -38,6 +38,8 @@ mod recording;
 mod refusals;
 #[cfg(test)]
 mod scripts;
+#[cfg(test)]
+mod segments;
 #[cfg(test)]
 mod setting_up;
 #[cfg(test)]

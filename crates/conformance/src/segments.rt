@@ -1,0 +1,263 @@
+//! Lists that a crew compiles in segments: its threads meet over them, what they draw is what the caller draws alone, and each
+//! growth may be refused.
+
+use crate::calls::{list_of, record_all};
+use crate::meeting::AllAtOnce;
+use binner::{Segment, cut};
+use cmdlist::{Call, CommandList};
+use gfxspec::{GfxError, Size, Topology, Vertex};
+use immediate::{ImmediateContext, RunCrew};
+use refusing::Refusing;
+use segmentrun::{SegmentCrew, compile_by_crew};
+use std::alloc::{Allocator, Global};
+use std::sync::Wait;
+use std::test::Fail;
+use std::thread;
+use std::thread::Threads;
+use workers::{Gate, NoGate, start_crew};
+
+const SIZE: Size = Size {
+    width: 40,
+    height: 33,
+};
+
+/// Three for each triangle: more triangles than a crew leaves whole.
+const CORNERS: u32 = 690;
+
+/// Corners of triangles that lie all over the target, many behind or at the depth of others, each of a colour of its own.
+fn corners<A: Allocator>(alloc: A) -> Result<Vec<Vertex, A>, GfxError> {
+    let mut vertices = Vec::new(alloc);
+    for number in 0..CORNERS {
+        let place = number.wrapping_mul(7_919) % 1_321;
+        vertices.push(Vertex {
+            x: (place % 41 * 65_536) as i32,
+            y: (place / 41 * 65_536) as i32,
+            z: number / 3 % 7 * 1_000_000,
+            rgba: [(number / 3) as u8, (number / 768) as u8, 5, 6],
+        })?;
+    }
+    Ok(vertices)
+}
+
+/// A list of two large draws with a clear between them, and a small one at its end.
+fn large_list<A: Allocator + Copy>(alloc: A) -> Result<CommandList<A>, GfxError> {
+    let vertices = corners(alloc)?;
+    list_of(
+        alloc,
+        &[
+            Call::SetVertices(vertices.as_slice()),
+            Call::SetTopology(Topology::TriangleList),
+            Call::Draw(CORNERS, 0),
+            Call::ClearDepthStencil(5_500_000, 3),
+            Call::SetTopology(Topology::TriangleStrip),
+            Call::Draw(CORNERS - 100, 50),
+            Call::SetTopology(Topology::TriangleList),
+            Call::Draw(7, 3),
+        ],
+    )
+}
+
+/// A list of one triangle.
+fn small_list<A: Allocator + Copy>(alloc: A) -> Result<CommandList<A>, GfxError> {
+    let vertices = corners(alloc)?;
+    list_of(
+        alloc,
+        &[
+            Call::SetVertices(vertices.as_slice()),
+            Call::SetTopology(Topology::TriangleList),
+            Call::Draw(3, 300),
+        ],
+    )
+}
+
+/// A number that tells what a context's target holds.
+fn shown<A: Allocator + Copy>(context: &ImmediateContext<A>) -> u64 {
+    let mut sum = 0_u64;
+    for y in 0..SIZE.height {
+        for x in 0..SIZE.width {
+            let pixel = context.target().pixel(x, y);
+            for part in pixel.rgba {
+                sum = sum.wrapping_mul(31).wrapping_add(u64::from(part));
+            }
+            sum = sum.wrapping_mul(31).wrapping_add(u64::from(pixel.ds.depth));
+        }
+    }
+    sum
+}
+
+/// What is shown once a large list ran, behind a clear.
+fn drawn_alone<A: Allocator + Copy + Send>(alloc: A) -> Result<u64, GfxError> {
+    let list = large_list(alloc)?;
+    let mut context = ImmediateContext::new(alloc, SIZE.width, SIZE.height)?;
+    record_all(&mut context, &[Call::ClearColor([9; 4])])?;
+    context.execute_alone(&list, true)?;
+    Ok(shown(&context))
+}
+
+/// The same by a crew.
+fn drawn_by_crew<'a, A: Allocator + Copy + Send + Sync, R: Threads + Wait + Sync, G: Gate>(
+    rt: &R,
+    alloc: A,
+    crew: &RunCrew<'a, A>,
+    gate: &G,
+) -> Result<u64, GfxError> {
+    let list = large_list(alloc)?;
+    let mut context = ImmediateContext::new(alloc, SIZE.width, SIZE.height)?;
+    record_all(&mut context, &[Call::ClearColor([9; 4])])?;
+    context.execute_by_crew(rt, &list, true, crew, gate)?;
+    Ok(shown(&context))
+}
+
+/// The same with the threads of the crew, which go home at the end.
+fn drawn_with_threads<
+    'a,
+    A: Allocator + Copy + Send + Sync,
+    R: Threads + Wait + Sync,
+    G: Gate + Sync,
+>(rt: &R, alloc: A, crew: &RunCrew<'a, A>, gate: &G) -> Result<u64, GfxError> {
+    thread::scope(thread::scope_env(), rt, |scope| {
+        start_crew(rt, scope, &crew.compiling, gate);
+        start_crew(rt, scope, &crew.drawing, gate);
+        let drawn = drawn_by_crew(rt, alloc, crew, gate);
+        crew.close(rt);
+        drawn
+    })
+}
+
+// A list of many segments, by crews of some sizes.
+#[test]
+fn segments_draw_what_the_list_draws(rt: HostRuntime) -> Result<(), Fail> {
+    let alloc: Global = rt.alloc();
+    let wanted = drawn_alone(alloc)?;
+    for workers in [1u32, 3, 15] {
+        let crew = RunCrew::new(&alloc, workers);
+        let found = drawn_with_threads(&rt, alloc, &crew, &NoGate)?;
+        assert!(rt; found == wanted, "{workers} workers");
+    }
+    Ok(())
+}
+
+// Where no thread starts the caller compiles what it offered.
+#[test]
+fn no_thread_compiles(rt: HostRuntime) -> Result<(), Fail> {
+    let alloc: Global = rt.alloc();
+    let crew = RunCrew::new(&alloc, 15);
+    let found = drawn_by_crew(&rt, alloc, &crew, &NoGate)?;
+    assert!(rt; found == drawn_alone(alloc)?);
+    Ok(())
+}
+
+/// What is shown once executions ran as one: large, small, and large ones again, with so many workers.
+fn gathered<'a, A: Allocator + Copy + Send + Sync, R: Threads + Wait + Sync, G: Gate>(
+    rt: &R,
+    alloc: A,
+    crew: &RunCrew<'a, A>,
+    gate: &G,
+    alone: bool,
+) -> Result<u64, GfxError> {
+    let (large, small) = (large_list(alloc)?, small_list(alloc)?);
+    let workers = if alone { 0 } else { crew.workers() };
+    let mut context = ImmediateContext::new(alloc, SIZE.width, SIZE.height)?;
+    let Some(first) = context.begin_executions(&small, workers) else {
+        return Err(GfxError::OutOfMemory);
+    };
+    let Some(second) = first.with(&large, workers) else {
+        return Err(GfxError::OutOfMemory);
+    };
+    let Some(third) = second.with(&small, workers) else {
+        return Err(GfxError::OutOfMemory);
+    };
+    if alone {
+        context.run_executions_alone(third)?;
+    } else {
+        context.run_executions_by_crew(rt, third, crew, gate)?;
+    }
+    Ok(shown(&context))
+}
+
+// Executions that run as one draw what they draw one by one.
+#[test]
+fn executions_run_as_one(rt: HostRuntime) -> Result<(), Fail> {
+    let alloc: Global = rt.alloc();
+    let crew = RunCrew::new(&alloc, 3);
+    let mut context = ImmediateContext::new(alloc, SIZE.width, SIZE.height)?;
+    context.execute_alone(&small_list(alloc)?, true)?;
+    context.execute_alone(&large_list(alloc)?, true)?;
+    context.execute_alone(&small_list(alloc)?, true)?;
+    let wanted = shown(&context);
+    assert!(rt; gathered(&rt, alloc, &crew, &NoGate, true)? == wanted);
+    assert!(rt; gathered(&rt, alloc, &crew, &NoGate, false)? == wanted);
+    Ok(())
+}
+
+/// The segments of a large list.
+fn segments_of<A: Allocator + Copy>(
+    alloc: A,
+    triangles: u32,
+) -> Result<Vec<Segment<A>, A>, GfxError> {
+    let list = large_list(alloc)?;
+    let mut segments = Vec::new(alloc);
+    cut(alloc, list.commands(), triangles, &mut segments)?;
+    Ok(segments)
+}
+
+/// How many lists a crew of three makes of a large one, with its threads.
+fn lists_of<'a, R: Threads + Wait + Sync, G: Gate + Sync>(
+    rt: &R,
+    alloc: Global,
+    crew: &SegmentCrew<'a, Global>,
+    gate: &G,
+) -> Result<usize, GfxError> {
+    let segments = segments_of(alloc, 20)?;
+    thread::scope(thread::scope_env(), rt, |scope| {
+        start_crew(rt, scope, crew, gate);
+        let lists = compile_by_crew(rt, crew, segments, SIZE, &[false; 64], gate);
+        crew.close(rt);
+        match lists {
+            Ok((_, behind)) => Ok(behind.len()),
+            Err(refusal) => Err(refusal),
+        }
+    })
+}
+
+// Three threads and the caller come to the first window of each.
+#[test]
+fn a_crew_meets_over_windows(rt: HostRuntime) -> Result<(), Fail> {
+    let alloc: Global = rt.alloc();
+    let crew = SegmentCrew::new(&alloc, 3);
+    let gate = AllAtOnce::new(4);
+    let behind = lists_of(&rt, alloc, &crew, &gate)?;
+    assert!(rt; behind >= 3, "{behind} lists behind the first");
+    assert!(rt; gate.all_came());
+    Ok(())
+}
+
+/// A large list over an allocator that refuses a growth, and once more where it is refused.
+fn insisting<A: Allocator + Copy + Send + Sync, R: Threads + Wait + Sync>(
+    rt: &R,
+    alloc: A,
+    lent: &A,
+) -> Result<u64, GfxError> {
+    let crew = RunCrew::new(lent, 3);
+    match drawn_with_threads(rt, alloc, &crew, &NoGate) {
+        Err(GfxError::OutOfMemory) => drawn_with_threads(rt, alloc, &crew, &NoGate),
+        first => first,
+    }
+}
+
+// Each growth refused in turn, those of segments and windows too.
+#[test]
+fn each_growth_refused_in_turn(rt: HostRuntime) -> Result<(), Fail> {
+    let wanted = drawn_alone(rt.alloc())?;
+    for n in 1..2_000u64 {
+        let refusing = Refusing::new(rt.alloc(), n);
+        let alloc = &refusing;
+        let found = insisting(&rt, alloc, &alloc)?;
+        assert!(rt; found == wanted, "growth {n}");
+        if !refusing.refused() {
+            assert!(rt; n > 50, "{n} growths");
+            return Ok(());
+        }
+    }
+    panic!(rt; "a list asks for no more than so many growths")
+}
