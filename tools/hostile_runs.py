@@ -189,12 +189,12 @@ def try_few_descriptors(runs):
 
 def try_few_threads(runs):
     """The user may have so many threads, the first included: the others don't start, and the answers are the same."""
-    for name, workers in itertools.product(("counted-four-tiles", "around-a-list", "seventy-lists"), ("0", "3", "15")):
+    for name, workers in itertools.product(("counted-four-tiles", "around-a-list", "seventy-lists", "lamps"), ("0", "3", "15")):
         script, answers, image = stored(name)
         drawn = Ended(DRAWN, answers, "", image)
         reached = runs.room / "script.txt"
         reached.write_bytes(script.read_bytes())
-        for most in (1, 2, 3, 4, 5, 8):
+        for most in (1, 2, 3, 4, 5, 8, 17, 24):
             words = [reached, "image.tga", "--workers", workers]
             limit = (resource.RLIMIT_NPROC, most)
             runs.expect(f"{name}, {workers} workers, {most} threads", drawn, words, is_nobody=True, limit=limit)
