@@ -10,9 +10,6 @@ use gfxspec::{GfxError, Size};
 use std::alloc::Allocator;
 use tilecore::TileJob;
 
-/// How many windows there are for each that works, the caller too: so many that all end at about the same time.
-const WINDOWS_EACH: usize = 4;
-
 /// The windows of a run's segments, as a job: each is compiled by itself.
 #[derive(Drop)]
 pub struct SegmentJob<A: Allocator> {
@@ -41,23 +38,23 @@ pub struct DoneWindow<A: Allocator> {
     compiled: Option<Compiled<A>>,
 }
 
-/// How many segments a window has, where so many work beside the caller.
+/// How many segments a window has, where so many work beside the caller: there is a window for each. Of more windows each tile
+/// would run more lists, and each list costs it a few words.
 fn width_for(segments: usize, workers: u32) -> usize
     requires { workers ≤ 15 }
     ensures some { 1 ≤ result }
-    ensures enough { segments ≤ 64 * result }
+    ensures enough { segments ≤ 16 * result }
 {
-    let most = WINDOWS_EACH * (workers as usize + 1);
-    segments.div_ceil(most).max(1)
+    segments.div_ceil(workers as usize + 1).max(1)
 }
 
 /// How many windows of that width the segments have.
 fn windows_of(segments: usize, width: usize) -> u32
     requires some { 1 ≤ width }
-    requires enough { segments ≤ 64 * width }
+    requires enough { segments ≤ 16 * width }
     ensures whole { segments ≤ result * width }
     ensures some { 1 ≤ result }
-    ensures few { result ≤ 64 }
+    ensures few { result ≤ 16 }
 {
     segments.div_ceil(width).max(1) as u32
 }
