@@ -6,9 +6,10 @@
 //! and what a query answers is what running the pending commands on these gives.
 //!
 //! A run compiles the commands into a program for each tile that they touch, and hands those tiles out by a board, to the
-//! caller alone or to threads beside it: threads that are started for this run, or a crew of threads that stays for many. All that may be refused comes before the first tile is taken. The trick: where
-//! nothing is drawn, cleared or counted, a run touches no tile and compiles nothing, so questions on a settled context
-//! cost nothing.
+//! caller alone or to threads beside it: threads that are started for this run, or a crew of threads that stays for many. A
+//! crew compiles too, where much is drawn, in segments of the lists. All that may be refused comes before the first tile is
+//! taken. The trick: where nothing is drawn, cleared or counted, a run touches no tile and compiles nothing, so questions on
+//! a settled context cost nothing.
 #![tactic(auto)]
 
 mod context;
