@@ -189,7 +189,7 @@ def try_few_descriptors(runs):
 
 def try_few_threads(runs):
     """The user may have so many threads, the first included: the others don't start, and the answers are the same."""
-    for name, workers in itertools.product(("counted-four-tiles", "around-a-list", "seventy-lists", "lamps"), ("0", "3", "15")):
+    for name, workers in itertools.product(("counted-four-tiles", "around-a-list", "seventy-lists", "../lamps"), ("0", "3", "15")):
         script, answers, image = stored(name)
         drawn = Ended(DRAWN, answers, "", image)
         reached = runs.room / "script.txt"
