@@ -1,14 +1,12 @@
 //! Lists that a crew compiles in segments: its threads meet over them, what they draw is what the caller draws alone, and each
 //! growth may be refused.
 
-use crate::calls::{list_of, record_all};
+use crate::calls::list_of;
 use crate::meeting::AllAtOnce;
-use binner::{Segment, cut};
 use cmdlist::{Call, CommandList};
 use gfxspec::{GfxError, Size, Topology, Vertex};
 use immediate::{ImmediateContext, RunCrew};
 use refusing::Refusing;
-use segmentrun::{SegmentCrew, compile_by_crew};
 use std::alloc::{Allocator, Global};
 use std::sync::Wait;
 use std::test::Fail;
@@ -39,59 +37,88 @@ fn corners<A: Allocator>(alloc: A) -> Result<Vec<Vertex, A>, GfxError> {
     Ok(vertices)
 }
 
-/// A list of two large draws with a clear between them, and a small one at its end.
-fn large_list<A: Allocator + Copy>(alloc: A) -> Result<CommandList<A>, GfxError> {
-    let vertices = corners(alloc)?;
+/// A list of two large draws of these vertices with a clear between them, and a small one at its end.
+fn large_of<A: Allocator + Copy>(
+    alloc: A,
+    vertices: &[Vertex],
+) -> Result<CommandList<A>, GfxError> {
     list_of(
         alloc,
         &[
-            Call::SetVertices(vertices.as_slice()),
+            Call::SetVertices(vertices),
             Call::SetTopology(Topology::TriangleList),
             Call::Draw(CORNERS, 0),
             Call::ClearDepthStencil(5_500_000, 3),
             Call::SetTopology(Topology::TriangleStrip),
-            Call::Draw(CORNERS - 100, 50),
+            Call::Draw(590, 50),
             Call::SetTopology(Topology::TriangleList),
             Call::Draw(7, 3),
         ],
     )
 }
 
-/// A list of one triangle.
-fn small_list<A: Allocator + Copy>(alloc: A) -> Result<CommandList<A>, GfxError> {
+/// A large list.
+fn large_list<A: Allocator + Copy>(alloc: A) -> Result<CommandList<A>, GfxError> {
     let vertices = corners(alloc)?;
+    large_of(alloc, vertices.as_slice())
+}
+
+/// A list of one triangle of these vertices.
+fn small_of<A: Allocator + Copy>(
+    alloc: A,
+    vertices: &[Vertex],
+) -> Result<CommandList<A>, GfxError> {
     list_of(
         alloc,
         &[
-            Call::SetVertices(vertices.as_slice()),
+            Call::SetVertices(vertices),
             Call::SetTopology(Topology::TriangleList),
             Call::Draw(3, 300),
         ],
     )
 }
 
-/// A number that tells what a context's target holds.
-fn shown<A: Allocator + Copy>(context: &ImmediateContext<A>) -> u64 {
-    let mut sum = 0_u64;
-    for y in 0..SIZE.height {
-        for x in 0..SIZE.width {
-            let pixel = context.target().pixel(x, y);
-            for part in pixel.rgba {
-                sum = sum.wrapping_mul(31).wrapping_add(u64::from(part));
-            }
-            sum = sum.wrapping_mul(31).wrapping_add(u64::from(pixel.ds.depth));
-        }
-    }
-    sum
+/// A small list.
+fn small_list<A: Allocator + Copy>(alloc: A) -> Result<CommandList<A>, GfxError> {
+    let vertices = corners(alloc)?;
+    small_of(alloc, vertices.as_slice())
 }
 
-/// What is shown once a large list ran, behind a clear.
+/// What a pixel of a context holds, as a number.
+fn pixel_of<A: Allocator + Copy + Send>(
+    context: &mut ImmediateContext<A>,
+    x: u32,
+    y: u32,
+) -> Result<u64, GfxError> {
+    let pixel = context.pixel_alone(x, y)?;
+    let color = u64::from(pixel.rgba[0])
+        .wrapping_mul(256)
+        .wrapping_add(u64::from(pixel.rgba[1]));
+    Ok(
+        color
+            .wrapping_mul(16_777_216)
+            .wrapping_add(u64::from(pixel.ds.depth)),
+    )
+}
+
+/// A number that tells what each third pixel of each third row of a context holds.
+fn shown<A: Allocator + Copy + Send>(context: &mut ImmediateContext<A>) -> Result<u64, GfxError> {
+    let mut sum = 0_u64;
+    for y in 0..11u32 {
+        for x in 0..13u32 {
+            let pixel = pixel_of(context, x * 3, y * 3)?;
+            sum = sum.wrapping_mul(31).wrapping_add(pixel);
+        }
+    }
+    Ok(sum)
+}
+
+/// What is shown once a large list ran.
 fn drawn_alone<A: Allocator + Copy + Send>(alloc: A) -> Result<u64, GfxError> {
     let list = large_list(alloc)?;
     let mut context = ImmediateContext::new(alloc, SIZE.width, SIZE.height)?;
-    record_all(&mut context, &[Call::ClearColor([9; 4])])?;
     context.execute_alone(&list, true)?;
-    Ok(shown(&context))
+    shown(&mut context)
 }
 
 /// The same by a crew.
@@ -103,9 +130,8 @@ fn drawn_by_crew<'a, A: Allocator + Copy + Send + Sync, R: Threads + Wait + Sync
 ) -> Result<u64, GfxError> {
     let list = large_list(alloc)?;
     let mut context = ImmediateContext::new(alloc, SIZE.width, SIZE.height)?;
-    record_all(&mut context, &[Call::ClearColor([9; 4])])?;
     context.execute_by_crew(rt, &list, true, crew, gate)?;
-    Ok(shown(&context))
+    shown(&mut context)
 }
 
 /// The same with the threads of the crew, which go home at the end.
@@ -161,9 +187,15 @@ fn gathered<'a, A: Allocator + Copy + Send + Sync, R: Threads + Wait + Sync, G: 
     let Some(first) = context.begin_executions(&small, workers) else {
         return Err(GfxError::OutOfMemory);
     };
+    if !first.takes(&large) {
+        return Err(GfxError::ListTooLong);
+    }
     let Some(second) = first.with(&large, workers) else {
         return Err(GfxError::OutOfMemory);
     };
+    if !second.takes(&small) {
+        return Err(GfxError::ListTooLong);
+    }
     let Some(third) = second.with(&small, workers) else {
         return Err(GfxError::OutOfMemory);
     };
@@ -172,7 +204,7 @@ fn gathered<'a, A: Allocator + Copy + Send + Sync, R: Threads + Wait + Sync, G: 
     } else {
         context.run_executions_by_crew(rt, third, crew, gate)?;
     }
-    Ok(shown(&context))
+    shown(&mut context)
 }
 
 // Executions that run as one draw what they draw one by one.
@@ -184,50 +216,20 @@ fn executions_run_as_one(rt: HostRuntime) -> Result<(), Fail> {
     context.execute_alone(&small_list(alloc)?, true)?;
     context.execute_alone(&large_list(alloc)?, true)?;
     context.execute_alone(&small_list(alloc)?, true)?;
-    let wanted = shown(&context);
+    let wanted = shown(&mut context)?;
     assert!(rt; gathered(&rt, alloc, &crew, &NoGate, true)? == wanted);
     assert!(rt; gathered(&rt, alloc, &crew, &NoGate, false)? == wanted);
     Ok(())
-}
-
-/// The segments of a large list.
-fn segments_of<A: Allocator + Copy>(
-    alloc: A,
-    triangles: u32,
-) -> Result<Vec<Segment<A>, A>, GfxError> {
-    let list = large_list(alloc)?;
-    let mut segments = Vec::new(alloc);
-    cut(alloc, list.commands(), triangles, &mut segments)?;
-    Ok(segments)
-}
-
-/// How many lists a crew of three makes of a large one, with its threads.
-fn lists_of<'a, R: Threads + Wait + Sync, G: Gate + Sync>(
-    rt: &R,
-    alloc: Global,
-    crew: &SegmentCrew<'a, Global>,
-    gate: &G,
-) -> Result<usize, GfxError> {
-    let segments = segments_of(alloc, 20)?;
-    thread::scope(thread::scope_env(), rt, |scope| {
-        start_crew(rt, scope, crew, gate);
-        let lists = compile_by_crew(rt, crew, segments, SIZE, &[false; 64], gate);
-        crew.close(rt);
-        match lists {
-            Ok((_, behind)) => Ok(behind.len()),
-            Err(refusal) => Err(refusal),
-        }
-    })
 }
 
 // Three threads and the caller come to the first window of each.
 #[test]
 fn a_crew_meets_over_windows(rt: HostRuntime) -> Result<(), Fail> {
     let alloc: Global = rt.alloc();
-    let crew = SegmentCrew::new(&alloc, 3);
+    let crew = RunCrew::new(&alloc, 3);
     let gate = AllAtOnce::new(4);
-    let behind = lists_of(&rt, alloc, &crew, &gate)?;
-    assert!(rt; behind >= 3, "{behind} lists behind the first");
+    let found = drawn_with_threads(&rt, alloc, &crew, &gate)?;
+    assert!(rt; found == drawn_alone(alloc)?);
     assert!(rt; gate.all_came());
     Ok(())
 }
