@@ -14,7 +14,7 @@ use std::sync::atomic::Ordering::SeqCst;
 use std::test::Fail;
 use std::thread;
 use std::thread::Threads;
-use workers::{Gate, NoGate, start_crew};
+use workers::{Bells, Gate, NoGate, start_crews};
 
 /// A corner in pixels.
 fn corner(x: i32, y: i32) -> Vertex {
@@ -102,8 +102,7 @@ fn same_with_threads<
     G: Gate + Sync,
 >(rt: &R, alloc: A, crew: &RunCrew<'a, A>, gate: &G, shades: u8) -> Result<u64, GfxError> {
     thread::scope(thread::scope_env(), rt, |scope| {
-        start_crew(rt, scope, &crew.compiling, gate);
-        start_crew(rt, scope, &crew.drawing, gate);
+        start_crews(rt, scope, &crew.compiling, &crew.drawing, gate);
         let same = same_answers(rt, alloc, crew, gate, shades);
         crew.close(rt);
         same
@@ -114,7 +113,8 @@ fn same_with_threads<
 #[test]
 fn a_crew_meets_and_stays(rt: HostRuntime) -> Result<(), Fail> {
     let alloc: Global = rt.alloc();
-    let crew = RunCrew::new(&alloc, 3);
+    let bells = Bells::new(3);
+    let crew = RunCrew::new(&alloc, &bells);
     let gate = AllAtOnce::new(4);
     let same = same_with_threads(&rt, alloc, &crew, &gate, 100)?;
     assert!(rt; same == 100);
@@ -126,7 +126,8 @@ fn a_crew_meets_and_stays(rt: HostRuntime) -> Result<(), Fail> {
 #[test]
 fn fifteen_for_six_tiles(rt: HostRuntime) -> Result<(), Fail> {
     let alloc: Global = rt.alloc();
-    let crew = RunCrew::new(&alloc, 15);
+    let bells = Bells::new(15);
+    let crew = RunCrew::new(&alloc, &bells);
     let same = same_with_threads(&rt, alloc, &crew, &NoGate, 100)?;
     assert!(rt; same == 100);
     Ok(())
@@ -136,7 +137,8 @@ fn fifteen_for_six_tiles(rt: HostRuntime) -> Result<(), Fail> {
 #[test]
 fn no_thread_starts(rt: HostRuntime) -> Result<(), Fail> {
     let alloc: Global = rt.alloc();
-    let crew = RunCrew::new(&alloc, 15);
+    let bells = Bells::new(15);
+    let crew = RunCrew::new(&alloc, &bells);
     let same = same_answers(&rt, alloc, &crew, &NoGate, 10)?;
     assert!(rt; same == 10);
     Ok(())
@@ -167,8 +169,7 @@ fn clear_one_tile<'a, R: Threads + Wait + Sync, G: Gate + Sync>(
 ) -> Result<(), GfxError> {
     let mut context = ImmediateContext::new(alloc, 32, 32)?;
     thread::scope(thread::scope_env(), rt, |scope| {
-        start_crew(rt, scope, &crew.compiling, gate);
-        start_crew(rt, scope, &crew.drawing, gate);
+        start_crews(rt, scope, &crew.compiling, &crew.drawing, gate);
         let mut answer = Ok(());
         for shade in 0..100u8 {
             answer = answer.and(record_all(&mut context, &[Call::ClearColor([shade; 4])]));
@@ -183,7 +184,8 @@ fn clear_one_tile<'a, R: Threads + Wait + Sync, G: Gate + Sync>(
 #[test]
 fn one_tile_is_offered_to_nobody(rt: HostRuntime) -> Result<(), Fail> {
     let alloc: Global = rt.alloc();
-    let crew = RunCrew::new(&alloc, 3);
+    let bells = Bells::new(3);
+    let crew = RunCrew::new(&alloc, &bells);
     let gate = Others {
         claims: AtomicU64::new(0),
     };
@@ -199,7 +201,8 @@ fn insisting<A: Allocator + Copy + Send + Sync, R: Threads + Wait + Sync>(
     alloc: A,
     lent: &A,
 ) -> Result<u64, GfxError> {
-    let crew = RunCrew::new(lent, 3);
+    let bells = Bells::new(3);
+    let crew = RunCrew::new(lent, &bells);
     match same_with_threads(rt, alloc, &crew, &NoGate, 3) {
         Err(GfxError::OutOfMemory) => same_with_threads(rt, alloc, &crew, &NoGate, 3),
         first => first,

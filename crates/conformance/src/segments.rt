@@ -12,7 +12,7 @@ use std::sync::Wait;
 use std::test::Fail;
 use std::thread;
 use std::thread::Threads;
-use workers::{Gate, NoGate, start_crew};
+use workers::{Bells, Gate, NoGate, start_crews};
 
 const SIZE: Size = Size {
     width: 40,
@@ -142,8 +142,7 @@ fn drawn_with_threads<
     G: Gate + Sync,
 >(rt: &R, alloc: A, crew: &RunCrew<'a, A>, gate: &G) -> Result<u64, GfxError> {
     thread::scope(thread::scope_env(), rt, |scope| {
-        start_crew(rt, scope, &crew.compiling, gate);
-        start_crew(rt, scope, &crew.drawing, gate);
+        start_crews(rt, scope, &crew.compiling, &crew.drawing, gate);
         let drawn = drawn_by_crew(rt, alloc, crew, gate);
         crew.close(rt);
         drawn
@@ -156,7 +155,8 @@ fn segments_draw_what_the_list_draws(rt: HostRuntime) -> Result<(), Fail> {
     let alloc: Global = rt.alloc();
     let wanted = drawn_alone(alloc)?;
     for workers in [1u32, 3, 15] {
-        let crew = RunCrew::new(&alloc, workers);
+        let bells = Bells::new(workers);
+        let crew = RunCrew::new(&alloc, &bells);
         let found = drawn_with_threads(&rt, alloc, &crew, &NoGate)?;
         assert!(rt; found == wanted, "{workers} workers");
     }
@@ -167,7 +167,8 @@ fn segments_draw_what_the_list_draws(rt: HostRuntime) -> Result<(), Fail> {
 #[test]
 fn no_thread_compiles(rt: HostRuntime) -> Result<(), Fail> {
     let alloc: Global = rt.alloc();
-    let crew = RunCrew::new(&alloc, 15);
+    let bells = Bells::new(15);
+    let crew = RunCrew::new(&alloc, &bells);
     let found = drawn_by_crew(&rt, alloc, &crew, &NoGate)?;
     assert!(rt; found == drawn_alone(alloc)?);
     Ok(())
@@ -211,7 +212,8 @@ fn gathered<'a, A: Allocator + Copy + Send + Sync, R: Threads + Wait + Sync, G: 
 #[test]
 fn executions_run_as_one(rt: HostRuntime) -> Result<(), Fail> {
     let alloc: Global = rt.alloc();
-    let crew = RunCrew::new(&alloc, 3);
+    let bells = Bells::new(3);
+    let crew = RunCrew::new(&alloc, &bells);
     let mut context = ImmediateContext::new(alloc, SIZE.width, SIZE.height)?;
     context.execute_alone(&small_list(alloc)?, true)?;
     context.execute_alone(&large_list(alloc)?, true)?;
@@ -226,7 +228,8 @@ fn executions_run_as_one(rt: HostRuntime) -> Result<(), Fail> {
 #[test]
 fn a_crew_meets_over_windows(rt: HostRuntime) -> Result<(), Fail> {
     let alloc: Global = rt.alloc();
-    let crew = RunCrew::new(&alloc, 3);
+    let bells = Bells::new(3);
+    let crew = RunCrew::new(&alloc, &bells);
     let gate = AllAtOnce::new(4);
     let found = drawn_with_threads(&rt, alloc, &crew, &gate)?;
     assert!(rt; found == drawn_alone(alloc)?);
@@ -240,7 +243,8 @@ fn insisting<A: Allocator + Copy + Send + Sync, R: Threads + Wait + Sync>(
     alloc: A,
     lent: &A,
 ) -> Result<u64, GfxError> {
-    let crew = RunCrew::new(lent, 3);
+    let bells = Bells::new(3);
+    let crew = RunCrew::new(lent, &bells);
     match drawn_with_threads(rt, alloc, &crew, &NoGate) {
         Err(GfxError::OutOfMemory) => drawn_with_threads(rt, alloc, &crew, &NoGate),
         first => first,

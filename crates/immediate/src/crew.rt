@@ -4,12 +4,13 @@ use segmentrun::SegmentJob;
 use std::alloc::Allocator;
 use std::sync::Wait;
 use tileprog::TileProgram;
-use workers::Crew;
+use workers::{Bells, Crew};
 
-/// The crew of a session's runs: threads that compile segments of lists, and threads that run tiles. In a run the first are done
-/// before the others begin.
+/// The crews of a session's runs: by one its threads compile segments of lists, by the other they run tiles. In a run the first is
+/// done before the other begins.
 #[derive(Drop)]
 pub struct RunCrew<'a, A: Allocator + Copy + Send> {
+    bells: &'a Bells,
     pub compiling: Crew<'a, SegmentJob<A>, A>,
     pub drawing: Crew<'a, TileProgram<A>, A>,
 }
@@ -17,11 +18,12 @@ pub struct RunCrew<'a, A: Allocator + Copy + Send> {
 impl<'a, A: Allocator + Copy + Send> RunCrew<'a, A> {
     ghost use Rattle.std.specs.Prelude.{◌≤◌};
 
-    /// A crew for so many workers, at most 15, or for fewer where memory refuses a mailbox.
-    pub fn new(alloc: &'a A, workers: u32) -> RunCrew<'a, A> {
+    /// The crews of the threads at these bells, or of fewer of them where memory refuses a mailbox.
+    pub fn new(alloc: &'a A, bells: &'a Bells) -> RunCrew<'a, A> {
         RunCrew {
-            compiling: Crew::new(alloc, workers),
-            drawing: Crew::new(alloc, workers),
+            bells,
+            compiling: Crew::new(alloc, bells),
+            drawing: Crew::new(alloc, bells),
         }
     }
 
@@ -34,7 +36,6 @@ impl<'a, A: Allocator + Copy + Send> RunCrew<'a, A> {
 
     /// Sends all threads home.
     pub fn close<R: Wait>(&self, rt: &R) {
-        self.compiling.close(rt);
-        self.drawing.close(rt);
+        self.bells.close(rt);
     }
 }

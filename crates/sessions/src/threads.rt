@@ -18,7 +18,7 @@ use std::alloc::Allocator;
 use std::sync::Wait;
 use std::thread;
 use std::thread::Threads;
-use workers::{Gate, start_crew};
+use workers::{Bells, Gate, start_crews};
 
 /// What comes out of the scope of the recorders.
 #[derive(Drop)]
@@ -52,8 +52,14 @@ fn play_in_scope<
             requires { AreNew ports.now.queue passes × MayPlay lines.now (listed lines.now) immediate }
             ensures { IsRound immediate.surface.size lines.entry.now ports.entry.now.queue result }
         {
-            start_crew(workers.rt, scope, &workers.crew.compiling, workers.gate);
-            start_crew(workers.rt, scope, &workers.crew.drawing, workers.gate);
+            let crew = &workers.crew;
+            start_crews(
+                workers.rt,
+                scope,
+                &crew.compiling,
+                &crew.drawing,
+                workers.gate,
+            );
             let setup = RecorderSetup {
                 rt: workers.rt,
                 alloc: workers.alloc,
@@ -64,7 +70,7 @@ fn play_in_scope<
             let mut received = receive(scope, setup, passes);
             let played = play_by_crew(workers, immediate, &mut received, lines);
             let returned = received.close();
-            workers.crew.close(workers.rt);
+            crew.close(workers.rt);
             Round { played, returned }
         },
     )
@@ -88,10 +94,11 @@ pub(crate) fn perform_in_threads<
     let Ok((ports, passes)) = open_ports(alloc) else {
         return stopped(alloc, 0, 1);
     };
+    let bells = Bells::new(workers);
     let workers = Workers {
         rt,
         alloc,
-        crew: RunCrew::new(&alloc, workers),
+        crew: RunCrew::new(&alloc, &bells),
         gate,
     };
     let round = play_in_scope(&workers, &ports, passes, &lines, immediate);
