@@ -1,7 +1,7 @@
 #!/usr/bin/env python3
 """Times the built program over the benchmark scenes, and prints a table.
 
-    bench/run.py [--workers N ..] [--runs N] [--program FILE] [--against FILE] [SCENE ..]
+    bench/run.py [--workers N ..] [--runs N] [--whole] [--program FILE] [--against FILE] [SCENE ..]
 
 A frame is one more execution: a scene is drawn with one frame and with 1 + m frames, in turns, and the difference of the
 medians is divided by m; the processor time of a frame is had in the same way, that of all threads together. The table also has
@@ -9,6 +9,9 @@ the time of the whole run with one frame, reading and writing included, and its 
 program. With --workers the program is told to draw with N workers beside the caller, 0 to 15, and the table has a row for each
 number, timed in the same turns; the image's digest is the same for every N. Where 0 is among them, the column "Times alone" has
 the frame of each number divided by that of 0: above 1.00 the workers cost time.
+
+With --whole a scene is drawn with one frame alone, and the columns that compare do so with whole runs: what starting and ending takes, where
+a script is short.
 
 With --against another program is timed in the same turns, run for run. The last column then has its frame divided by the
 program's, the median of the runs and what they lie between: above 1.00 the program is faster. Two programs whose
@@ -39,7 +42,7 @@ HERE = pathlib.Path(__file__).resolve().parent
 MORE = {
     "large-triangles": 8, "small-triangles": 16, "executed-lists": 8, "clears": 10, "large-xor": 8, "shadow-volumes": 8, "ten-tiles": 20,
     "clear": 100, "one-triangle": 40, "indexed-strip": 8, "idle-pixels": 1, "long-script": 1, "largest-target": 10, "largest-clear": 25,
-    "many-executions": 1, "many-finishes": 4, "many-flushes": 4,
+    "many-executions": 1, "many-finishes": 4, "many-flushes": 4, "smallest": 1_000,
 }
 
 
@@ -82,9 +85,9 @@ def run(program, script, image, words):
     return Run(seconds, usage.ru_utime + usage.ru_stime, usage.ru_maxrss / 1024, answers, digest_of(image))
 
 
-def written(room, name):
-    """The scene with one frame and with more, as files by their frames."""
-    files = {frames: pathlib.Path(room, f"{name}-{frames}.txt") for frames in (1, 1 + MORE[name])}
+def written(room, name, whole):
+    """The scene with one frame, and with more unless whole runs are compared, as files by their frames."""
+    files = {frames: pathlib.Path(room, f"{name}-{frames}.txt") for frames in (1, *[1 + MORE[name]] * (not whole))}
     for frames, file in files.items():
         # (written by a process of its own: a child's peak memory begins with that of its parent)
         with open(file, "wb") as out:
@@ -93,10 +96,10 @@ def written(room, name):
 
 
 class Timed:
-    """The runs of one program over a scene with so many workers, with one frame and with more."""
+    """The runs of one program over a scene with so many workers, with one frame and, unless whole runs are compared, with more."""
 
-    def __init__(self, program, workers, name):
-        self.program, self.workers, self.more = program, workers, MORE[name]
+    def __init__(self, program, workers, name, whole):
+        self.program, self.workers, self.more, self.whole = program, workers, MORE[name], whole
         self.runs = {1: [], 1 + self.more: []}
 
     def take(self, frames, file, image):
@@ -111,17 +114,26 @@ class Timed:
 
     def frame(self, what):
         """Milliseconds of a frame, of the time or of the processors' time."""
-        return 1000 * (self.median(what, 1 + self.more) - self.median(what)) / self.more
+        if self.whole:
+            return "-"
+        return f"{1000 * (self.median(what, 1 + self.more) - self.median(what)) / self.more:.2f} ms"
 
-    def frames(self):
-        """The seconds of the frames of each run."""
+    def compared(self):
+        """The seconds of the frames of each run, or of the whole run."""
         one, all_frames = self.runs.values()
+        if self.whole:
+            return [it.seconds for it in one]
         return [long.seconds - short.seconds for short, long in zip(one, all_frames)]
+
+    def run(self):
+        """How long a run with one frame takes."""
+        seconds = self.median("seconds")
+        return f"{seconds:.2f} s" if seconds >= 0.1 else f"{1000 * seconds:.2f} ms"
 
 
 def ratio(timed, other):
     """What the other takes divided by what the first takes: the median of the runs, and what they lie between."""
-    ratios = sorted(b / a for a, b in zip(timed.frames(), other.frames()) if a > 0 and b > 0)
+    ratios = sorted(b / a for a, b in zip(timed.compared(), other.compared()) if a > 0 and b > 0)
     if not ratios:
         return "not to be told"
     return f"{statistics.median(ratios):.2f} ({ratios[0]:.2f} to {ratios[-1]:.2f})"
@@ -129,7 +141,7 @@ def ratio(timed, other):
 
 def timed_in_turns(given, programs, files, image, name):
     """The runs over a scene: for each number of workers those of each program."""
-    all_timed = {workers: [Timed(program, workers, name) for program in programs] for workers in given.workers}
+    all_timed = {workers: [Timed(program, workers, name, given.whole) for program in programs] for workers in given.workers}
     each = [timed for group in all_timed.values() for timed in group]
     for _ in range(given.runs):
         for frames in reversed(files):
@@ -142,12 +154,12 @@ def timed_in_turns(given, programs, files, image, name):
 
 def rows(given, programs, room, name):
     """The table's rows of a scene, one for each number of workers."""
-    files, image = written(room, name), pathlib.Path(room, "out.tga")
+    files, image = written(room, name, given.whole), pathlib.Path(room, "out.tga")
     size = files[1].stat().st_size / 1e6
     all_timed = timed_in_turns(given, programs, files, image, name)
     for workers, (timed, *others) in all_timed.items():
-        cells = [name, workers, f"{size:.1f} MB", f"{timed.frame('seconds'):.2f} ms", f"{timed.frame('processor'):.2f} ms"]
-        cells += [f"{timed.median('seconds'):.2f} s", f"{timed.last.memory:.0f} MB", timed.last.answers.count("\n"), timed.last.digest]
+        cells = [name, workers, f"{size:.1f} MB", timed.frame("seconds"), timed.frame("processor")]
+        cells += [timed.run(), f"{timed.last.memory:.0f} MB", timed.last.answers.count("\n"), timed.last.digest]
         if has_alone(given):
             cells.append(ratio(all_timed[0][0], timed))
         yield [*cells, *(ratio(timed, other) for other in others)]
@@ -170,6 +182,7 @@ def parsed():
     workers = f"how many workers draw beside the caller, 0 to {WORKERS}; with several, a row for each (0)"
     parser.add_argument("--workers", metavar="N", nargs="+", type=whole_number(0, WORKERS), default=[0], help=workers)
     parser.add_argument("--runs", metavar="N", type=whole_number(1), default=5, help="how many runs a median is of (5)")
+    parser.add_argument("--whole", action="store_true", help="whole runs are compared, and not frames")
     parser.add_argument("--program", metavar="FILE", help="the built program, if it isn't this clone's")
     parser.add_argument("--against", metavar="FILE", help="another built program, timed in the same turns")
     given = parser.parse_args()

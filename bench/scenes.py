@@ -194,6 +194,11 @@ def clear(scene):
     return add
 
 
+def smallest(scene):
+    """A clear of a target of 64 by 64: what starting and ending takes."""
+    return clear(scene)
+
+
 def executed(command_list, times):
     """What adds so many executions of a list."""
 
@@ -277,14 +282,14 @@ SCENES = {
     "large-triangles": large_triangles, "small-triangles": small_triangles, "executed-lists": executed_lists, "clears": clears,
     "large-xor": large_xor, "shadow-volumes": shadow_volumes, "ten-tiles": ten_tiles, "clear": clear, "one-triangle": one_triangle,
     "indexed-strip": indexed_strip, "idle-pixels": idle_pixels, "long-script": long_script, "largest-target": largest_target, "largest-clear": largest_clear,
-    "many-executions": many_executions, "many-finishes": many_finishes, "many-flushes": many_flushes,
+    "many-executions": many_executions, "many-finishes": many_finishes, "many-flushes": many_flushes, "smallest": smallest,
 }
 
 
 # the sides of the targets that aren't 2,048 by 2,048
 SIDES = {
     "long-script": 1, "largest-target": TARGET_SIDE, "largest-clear": TARGET_SIDE,
-    "many-executions": 64, "many-finishes": 64, "many-flushes": 64,
+    "many-executions": 64, "many-finishes": 64, "many-flushes": 64, "smallest": 64,
 }
 
 

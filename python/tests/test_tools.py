@@ -142,6 +142,16 @@ def test_two_programs_are_timed_in_turns() -> None:
     )
 
 
+def test_whole_runs_are_compared() -> None:
+    ran = run_tool(
+        *("bench/run.py", "smallest", "--runs", "2", "--whole", "--workers", "0", "3"),
+        *("--program", "tools/plain_device.py"),
+    )
+    rows = [line.split(" | ") for line in ran.stdout.splitlines() if "smallest" in line]
+    assert [row[3:5] for row in rows] == [["-", "-"]] * 2, ran.stderr
+    assert rows[0][9].startswith("1.00 (1.00 to 1.00)")
+
+
 def test_scenes_are_scripts() -> None:
     ran = run_tool("bench/scenes.py", "ten-tiles", "2")
     lines = ran.stdout.splitlines()

@@ -1,8 +1,8 @@
 -- Lists that are cut into segments, which are compiled apart: each is a list of its own that begins from the default state (Microsoft Learn, ID3D11DeviceContext::ExecuteCommandList), and none begins a query.
-use Rattle.std.specs.Prelude.{ℕ, ◌≡◌, Bool, List, [], ◌∷◌, ◌++◌, None}
+use Rattle.std.specs.Prelude.{ℕ, ℤ, ◌≡◌, Bool, List, [], ◌∷◌, ◌++◌, Option, Some, None}
 use Rattle.gfxspec.specs.declared.geometry.Size.{Size}
 use Rattle.gfxspec.specs.Items.{Item}
-use Rattle.gfxspec.specs.Commands.{Command}
+use Rattle.gfxspec.specs.Commands.{Command, Draw, DrawIndexed}
 use Rattle.gfxspec.specs.Recorded.{items, issues, query_begun, settings_after}
 use Rattle.gfxspec.specs.Predication.{performed}
 use Rattle.gfxspec.specs.Refusals.{AreSound}
@@ -39,6 +39,11 @@ pub record IsOpenSegment (commands : List Command) (s : Settings) : Type 0 where
   pub segment : IsSegment commands
   pub state : s ≡ settings_after commands
   pub sound : AreSound s
+
+-- a draw of so many from a place on: of vertices, or of indices with a base
+abbrev pub draw_of : Option ℤ → ℕ → ℕ → Command
+draw_of None count start = Draw count start
+draw_of (Some base) count start = DrawIndexed count start base
 
 -- a command that can be added to a segment with these settings
 pub record CanFollow (s : Settings) (c : Command) : Type 0 where

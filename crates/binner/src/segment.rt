@@ -66,13 +66,37 @@ fn most_triangles<A: Allocator>(settings: &Settings<A>, command: &Command<A>) ->
     }
 }
 
+/// A draw of a triangle list, which can be cut at each third vertex: of vertices as they lie, or of indices with a base.
+#[derive(Clone, Copy)]
+struct ListDraw {
+    count: u32,
+    start: u32,
+    base: Option<i32>,
+}
+
+impl ListDraw {
+    ghost use Rattle.std.specs.Prelude.{◌≡◌};
+    ghost use Rattle.cmdlist.specs.Seen.{command_value};
+    ghost use Rattle.binner.specs.Segments.{draw_of};
+
+    /// The draw as a command.
+    fn command<A: Allocator>(self) -> Command<A>
+        ensures { command_value result ≡ draw_of self.base self.count self.start }
+    {
+        match self.base {
+            None => Command::Draw(self.count, self.start),
+            Some(base) => Command::DrawIndexed(self.count, self.start, base),
+        }
+    }
+}
+
 impl<A: Allocator + Copy> OpenSegment<A> {
-    ghost use Rattle.std.specs.Prelude.{◌≡◌, ◌<◌, ◌≤◌, ◌∷◌, ◌++◌, [], List, Some, IsTrue, OnOk, IfOk};
+    ghost use Rattle.std.specs.Prelude.{◌≡◌, ◌<◌, ◌≤◌, ◌∷◌, ◌++◌, [], List, Some, OnOk, IfOk, IfSome};
     ghost use Rattle.gfxspec.specs.declared.state.Topology.TheVariants.{TriangleList};
-    ghost use Rattle.gfxspec.specs.Commands.{Command as Call, Draw};
+    ghost use Rattle.gfxspec.specs.Commands.{Command as Call};
     ghost use Rattle.gfxspec.specs.Recorded.{settings_after};
     ghost use Rattle.cmdlist.specs.Seen.{command_value};
-    ghost use Rattle.binner.specs.Segments.{CanFollow, IsMore, IsSame};
+    ghost use Rattle.binner.specs.Segments.{CanFollow, IsMore, IsSame, draw_of};
 
     /// No command, under the default settings.
     fn new(alloc: A) -> Self
@@ -154,11 +178,19 @@ impl<A: Allocator + Copy> OpenSegment<A> {
         Ok(())
     }
 
-    /// Whether each three vertices of a draw are a triangle of their own.
-    fn draws_lists(&self) -> bool
-        ensures { IsTrue result → (settings_after self.now).topology ≡ Some TriangleList }
+    /// The draw that a command is, where each three of its vertices are a triangle of their own.
+    fn list_draw(&self, command: &Command<A>) -> Option<ListDraw>
+        ensures { IfSome result (λ d. (command_value command.now ≡ draw_of d.base d.count d.start) × ((settings_after self.now).topology ≡ Some TriangleList)) }
     {
-        matches!(self.settings.topology, Some(Topology::TriangleList))
+        let Some(Topology::TriangleList) = self.settings.topology else {
+            return None;
+        };
+        let (count, start, base) = match command {
+            Command::Draw(count, start) => (*count, *start, None),
+            Command::DrawIndexed(count, start, base) => (*count, *start, Some(*base)),
+            _ => return None,
+        };
+        Some(ListDraw { count, start, base })
     }
 
     /// How many more triangles the segment may draw of so many, but no fewer than one and no more than a list has.
@@ -169,31 +201,37 @@ impl<A: Allocator + Copy> OpenSegment<A> {
         triangles.saturating_sub(self.drawn).clamp(1, LIST_LIMIT)
     }
 
-    /// A draw of so many vertices of a triangle list, as several draws where it is cut.
+    /// A draw of a triangle list, as several draws where it is cut.
     fn add_parts(
         self,
         alloc: A,
-        count: u32,
-        start: u32,
+        draw: ListDraw,
         triangles: u32,
         segments: &mut Vec<Segment<A>, A>,
     ) -> Result<Self, AllocError>
-        requires follows { CanFollow (settings_after self) (Draw count start) }
+        requires follows { CanFollow (settings_after self) (draw_of draw.base draw.count draw.start) }
         requires listed { (settings_after self).topology ≡ Some TriangleList }
-        ensures { IfOk result (λ s. IsMore (Draw count start) segments.old.items self segments.new.items s) }
+        ensures { IfOk result (λ s. IsMore (draw_of draw.base draw.count draw.start) segments.old.items self segments.new.items s) }
     {
+        let base = draw.base;
         let mut opened = self;
-        let mut rest = count;
-        let mut at = start;
+        let mut count = draw.count;
+        let mut start = draw.start;
         let mut room = opened.room(triangles);
-        while room < rest / 3 {
-            let full = opened.push(Command::Draw(3 * room, at))?;
+        while room < count / 3 {
+            let part = 3 * room;
+            let first = ListDraw {
+                count: part,
+                start,
+                base,
+            };
+            let full = opened.push(first.command())?;
             opened = full.finish(alloc, segments)?;
-            rest -= 3 * room;
-            at += 3 * room;
+            count -= part;
+            start += part;
             room = opened.room(triangles);
         }
-        opened.push(Command::Draw(rest, at))
+        opened.push(ListDraw { count, start, base }.command())
     }
 
     /// The next command of a list, behind a cut where the segment is full.
@@ -208,17 +246,15 @@ impl<A: Allocator + Copy> OpenSegment<A> {
         ensures { IfOk result (λ s. IsMore (command_value command.now) segments.old.items self segments.new.items s) }
     {
         let roomy = self.finish_where_full(alloc, command, triangles, segments)?;
-        match command {
-            Command::Draw(count, start) if roomy.draws_lists() => {
-                roomy.add_parts(alloc, *count, *start, triangles, segments)
-            }
-            _ => roomy.push(command.share(alloc)?),
+        match roomy.list_draw(command) {
+            Some(draw) => roomy.add_parts(alloc, draw, triangles, segments),
+            None => roomy.push(command.share(alloc)?),
         }
     }
 }
 
 /// Adds a list to segments: its commands, which begin no query, cut where a segment has drawn so many triangles, at least one. A
-/// draw of a triangle list is cut too, and any other draw stands in one segment. What the commands hold is shared with the list.
+/// draw of a triangle list is cut too, and one of a strip stands in one segment. What the commands hold is shared with the list.
 /// Without memory the segments are to be given up.
 pub fn cut<A: Allocator + Copy>(
     alloc: A,

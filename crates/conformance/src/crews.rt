@@ -63,23 +63,19 @@ fn left_alone<A: Allocator + Copy + Send>(
 }
 
 /// Executes a list by a crew, and asks.
-fn left_by_crew<'a, A: Allocator + Copy + Send + Sync, R: Threads + Wait + Sync, G: Gate>(
-    rt: &R,
+fn left_by_crew<A: Allocator + Copy + Send + Sync, R: Threads + Wait + Sync, G: Gate>(
     context: &mut ImmediateContext<A>,
     list: &CommandList<A>,
-    crew: &RunCrew<'a, A>,
-    gate: &G,
+    crew: &RunCrew<'_, '_, A, R, G>,
 ) -> Result<Left, GfxError> {
-    context.execute_by_crew(rt, list, false, crew, gate)?;
+    context.execute_by_crew(list, false, crew)?;
     left(context)
 }
 
 /// Executes the lists of so many shades by a crew and alone, and says for how many the answers were the same.
-fn same_answers<'a, A: Allocator + Copy + Send + Sync, R: Threads + Wait + Sync, G: Gate>(
-    rt: &R,
+fn same_answers<A: Allocator + Copy + Send + Sync, R: Threads + Wait + Sync, G: Gate>(
     alloc: A,
-    crew: &RunCrew<'a, A>,
-    gate: &G,
+    crew: &RunCrew<'_, '_, A, R, G>,
     shades: u8,
 ) -> Result<u64, GfxError> {
     let mut one = ImmediateContext::new(alloc, 96, 64)?;
@@ -87,7 +83,7 @@ fn same_answers<'a, A: Allocator + Copy + Send + Sync, R: Threads + Wait + Sync,
     let mut same = 0_u64;
     for shade in 0..shades {
         let list = clearing(alloc, shade)?;
-        if left_by_crew(rt, &mut many, &list, crew, gate)? == left_alone(&mut one, &list)? {
+        if left_by_crew(&mut many, &list, crew)? == left_alone(&mut one, &list)? {
             same = same.wrapping_add(1);
         }
     }
@@ -95,16 +91,15 @@ fn same_answers<'a, A: Allocator + Copy + Send + Sync, R: Threads + Wait + Sync,
 }
 
 /// The same with the threads of the crew, which go home at the end.
-fn same_with_threads<
-    'a,
-    A: Allocator + Copy + Send + Sync,
-    R: Threads + Wait + Sync,
-    G: Gate + Sync,
->(rt: &R, alloc: A, crew: &RunCrew<'a, A>, gate: &G, shades: u8) -> Result<u64, GfxError> {
-    thread::scope(thread::scope_env(), rt, |scope| {
-        start_crews(rt, scope, &crew.compiling, &crew.drawing, gate);
-        let same = same_answers(rt, alloc, crew, gate, shades);
-        crew.close(rt);
+fn same_with_threads<A: Allocator + Copy + Send + Sync, R: Threads + Wait + Sync, G: Gate + Sync>(
+    alloc: A,
+    crew: &RunCrew<'_, '_, A, R, G>,
+    shades: u8,
+) -> Result<u64, GfxError> {
+    thread::scope(thread::scope_env(), crew.rt, |scope| {
+        start_crews(crew.rt, scope, &crew.compiling, &crew.drawing, crew.gate);
+        let same = same_answers(alloc, crew, shades);
+        crew.close();
         same
     })
 }
@@ -114,9 +109,9 @@ fn same_with_threads<
 fn a_crew_meets_and_stays(rt: HostRuntime) -> Result<(), Fail> {
     let alloc: Global = rt.alloc();
     let bells = Bells::new(3);
-    let crew = RunCrew::new(&alloc, &bells);
     let gate = AllAtOnce::new(4);
-    let same = same_with_threads(&rt, alloc, &crew, &gate, 100)?;
+    let crew = RunCrew::new(&rt, &alloc, &bells, &gate);
+    let same = same_with_threads(alloc, &crew, 100)?;
     assert!(rt; same == 100);
     assert!(rt; gate.all_came());
     Ok(())
@@ -127,8 +122,8 @@ fn a_crew_meets_and_stays(rt: HostRuntime) -> Result<(), Fail> {
 fn fifteen_for_six_tiles(rt: HostRuntime) -> Result<(), Fail> {
     let alloc: Global = rt.alloc();
     let bells = Bells::new(15);
-    let crew = RunCrew::new(&alloc, &bells);
-    let same = same_with_threads(&rt, alloc, &crew, &NoGate, 100)?;
+    let crew = RunCrew::new(&rt, &alloc, &bells, &NoGate);
+    let same = same_with_threads(alloc, &crew, 100)?;
     assert!(rt; same == 100);
     Ok(())
 }
@@ -138,8 +133,8 @@ fn fifteen_for_six_tiles(rt: HostRuntime) -> Result<(), Fail> {
 fn no_thread_starts(rt: HostRuntime) -> Result<(), Fail> {
     let alloc: Global = rt.alloc();
     let bells = Bells::new(15);
-    let crew = RunCrew::new(&alloc, &bells);
-    let same = same_answers(&rt, alloc, &crew, &NoGate, 10)?;
+    let crew = RunCrew::new(&rt, &alloc, &bells, &NoGate);
+    let same = same_answers(alloc, &crew, 10)?;
     assert!(rt; same == 10);
     Ok(())
 }
@@ -161,21 +156,19 @@ impl Gate for Others {
 }
 
 /// Clears a target of one tile so often by the threads of a crew.
-fn clear_one_tile<'a, R: Threads + Wait + Sync, G: Gate + Sync>(
-    rt: &R,
+fn clear_one_tile<R: Threads + Wait + Sync, G: Gate + Sync>(
     alloc: Global,
-    crew: &RunCrew<'a, Global>,
-    gate: &G,
+    crew: &RunCrew<'_, '_, Global, R, G>,
 ) -> Result<(), GfxError> {
     let mut context = ImmediateContext::new(alloc, 32, 32)?;
-    thread::scope(thread::scope_env(), rt, |scope| {
-        start_crews(rt, scope, &crew.compiling, &crew.drawing, gate);
+    thread::scope(thread::scope_env(), crew.rt, |scope| {
+        start_crews(crew.rt, scope, &crew.compiling, &crew.drawing, crew.gate);
         let mut answer = Ok(());
         for shade in 0..100u8 {
             answer = answer.and(record_all(&mut context, &[Call::ClearColor([shade; 4])]));
-            answer = answer.and(context.flush_by_crew(rt, crew, gate));
+            answer = answer.and(context.flush_by_crew(crew));
         }
-        crew.close(rt);
+        crew.close();
         answer
     })
 }
@@ -185,11 +178,11 @@ fn clear_one_tile<'a, R: Threads + Wait + Sync, G: Gate + Sync>(
 fn one_tile_is_offered_to_nobody(rt: HostRuntime) -> Result<(), Fail> {
     let alloc: Global = rt.alloc();
     let bells = Bells::new(3);
-    let crew = RunCrew::new(&alloc, &bells);
     let gate = Others {
         claims: AtomicU64::new(0),
     };
-    clear_one_tile(&rt, alloc, &crew, &gate)?;
+    let crew = RunCrew::new(&rt, &alloc, &bells, &gate);
+    clear_one_tile(alloc, &crew)?;
     assert!(rt; gate.claims.load(SeqCst) == 0);
     Ok(())
 }
@@ -202,9 +195,9 @@ fn insisting<A: Allocator + Copy + Send + Sync, R: Threads + Wait + Sync>(
     lent: &A,
 ) -> Result<u64, GfxError> {
     let bells = Bells::new(3);
-    let crew = RunCrew::new(lent, &bells);
-    match same_with_threads(rt, alloc, &crew, &NoGate, 3) {
-        Err(GfxError::OutOfMemory) => same_with_threads(rt, alloc, &crew, &NoGate, 3),
+    let crew = RunCrew::new(rt, lent, &bells, &NoGate);
+    match same_with_threads(alloc, &crew, 3) {
+        Err(GfxError::OutOfMemory) => same_with_threads(alloc, &crew, 3),
         first => first,
     }
 }

@@ -37,20 +37,35 @@ fn corners<A: Allocator>(alloc: A) -> Result<Vec<Vertex, A>, GfxError> {
     Ok(vertices)
 }
 
-/// A list of two large draws of these vertices with a clear between them, and a small one at its end.
+/// What is added to each index.
+const BASE: i32 = -40;
+
+/// Indices of the corners that lie from another place on, in another order.
+fn indices<A: Allocator>(alloc: A) -> Result<Vec<u16, A>, GfxError> {
+    let mut indices = Vec::new(alloc);
+    for number in 0..910u32 {
+        indices.push((number.wrapping_mul(77) % 600 + 70) as u16)?;
+    }
+    Ok(indices)
+}
+
+/// A list of three large draws of these vertices, one of them by indices, with a clear between them, and a small one at its end.
 fn large_of<A: Allocator + Copy>(
     alloc: A,
     vertices: &[Vertex],
+    indices: &[u16],
 ) -> Result<CommandList<A>, GfxError> {
     list_of(
         alloc,
         &[
             Call::SetVertices(vertices),
+            Call::SetIndices(indices),
             Call::SetTopology(Topology::TriangleList),
             Call::Draw(CORNERS, 0),
             Call::ClearDepthStencil(5_500_000, 3),
+            Call::DrawIndexed(900, 7, BASE),
             Call::SetTopology(Topology::TriangleStrip),
-            Call::Draw(590, 50),
+            Call::Draw(290, 50),
             Call::SetTopology(Topology::TriangleList),
             Call::Draw(7, 3),
         ],
@@ -60,7 +75,8 @@ fn large_of<A: Allocator + Copy>(
 /// A large list.
 fn large_list<A: Allocator + Copy>(alloc: A) -> Result<CommandList<A>, GfxError> {
     let vertices = corners(alloc)?;
-    large_of(alloc, vertices.as_slice())
+    let indices = indices(alloc)?;
+    large_of(alloc, vertices.as_slice(), indices.as_slice())
 }
 
 /// A list of one triangle of these vertices.
@@ -122,29 +138,25 @@ fn drawn_alone<A: Allocator + Copy + Send>(alloc: A) -> Result<u64, GfxError> {
 }
 
 /// The same by a crew.
-fn drawn_by_crew<'a, A: Allocator + Copy + Send + Sync, R: Threads + Wait + Sync, G: Gate>(
-    rt: &R,
+fn drawn_by_crew<A: Allocator + Copy + Send + Sync, R: Threads + Wait + Sync, G: Gate>(
     alloc: A,
-    crew: &RunCrew<'a, A>,
-    gate: &G,
+    crew: &RunCrew<'_, '_, A, R, G>,
 ) -> Result<u64, GfxError> {
     let list = large_list(alloc)?;
     let mut context = ImmediateContext::new(alloc, SIZE.width, SIZE.height)?;
-    context.execute_by_crew(rt, &list, true, crew, gate)?;
+    context.execute_by_crew(&list, true, crew)?;
     shown(&mut context)
 }
 
 /// The same with the threads of the crew, which go home at the end.
-fn drawn_with_threads<
-    'a,
-    A: Allocator + Copy + Send + Sync,
-    R: Threads + Wait + Sync,
-    G: Gate + Sync,
->(rt: &R, alloc: A, crew: &RunCrew<'a, A>, gate: &G) -> Result<u64, GfxError> {
-    thread::scope(thread::scope_env(), rt, |scope| {
-        start_crews(rt, scope, &crew.compiling, &crew.drawing, gate);
-        let drawn = drawn_by_crew(rt, alloc, crew, gate);
-        crew.close(rt);
+fn drawn_with_threads<A: Allocator + Copy + Send + Sync, R: Threads + Wait + Sync, G: Gate + Sync>(
+    alloc: A,
+    crew: &RunCrew<'_, '_, A, R, G>,
+) -> Result<u64, GfxError> {
+    thread::scope(thread::scope_env(), crew.rt, |scope| {
+        start_crews(crew.rt, scope, &crew.compiling, &crew.drawing, crew.gate);
+        let drawn = drawn_by_crew(alloc, crew);
+        crew.close();
         drawn
     })
 }
@@ -156,8 +168,8 @@ fn segments_draw_what_the_list_draws(rt: HostRuntime) -> Result<(), Fail> {
     let wanted = drawn_alone(alloc)?;
     for workers in [1u32, 3, 15] {
         let bells = Bells::new(workers);
-        let crew = RunCrew::new(&alloc, &bells);
-        let found = drawn_with_threads(&rt, alloc, &crew, &NoGate)?;
+        let crew = RunCrew::new(&rt, &alloc, &bells, &NoGate);
+        let found = drawn_with_threads(alloc, &crew)?;
         assert!(rt; found == wanted, "{workers} workers");
     }
     Ok(())
@@ -168,18 +180,16 @@ fn segments_draw_what_the_list_draws(rt: HostRuntime) -> Result<(), Fail> {
 fn no_thread_compiles(rt: HostRuntime) -> Result<(), Fail> {
     let alloc: Global = rt.alloc();
     let bells = Bells::new(15);
-    let crew = RunCrew::new(&alloc, &bells);
-    let found = drawn_by_crew(&rt, alloc, &crew, &NoGate)?;
+    let crew = RunCrew::new(&rt, &alloc, &bells, &NoGate);
+    let found = drawn_by_crew(alloc, &crew)?;
     assert!(rt; found == drawn_alone(alloc)?);
     Ok(())
 }
 
 /// What is shown once executions ran as one: large, small, and large ones again, with so many workers.
-fn gathered<'a, A: Allocator + Copy + Send + Sync, R: Threads + Wait + Sync, G: Gate>(
-    rt: &R,
+fn gathered<A: Allocator + Copy + Send + Sync, R: Threads + Wait + Sync, G: Gate>(
     alloc: A,
-    crew: &RunCrew<'a, A>,
-    gate: &G,
+    crew: &RunCrew<'_, '_, A, R, G>,
     alone: bool,
 ) -> Result<u64, GfxError> {
     let (large, small) = (large_list(alloc)?, small_list(alloc)?);
@@ -203,7 +213,7 @@ fn gathered<'a, A: Allocator + Copy + Send + Sync, R: Threads + Wait + Sync, G: 
     if alone {
         context.run_executions_alone(third)?;
     } else {
-        context.run_executions_by_crew(rt, third, crew, gate)?;
+        context.run_executions_by_crew(third, crew)?;
     }
     shown(&mut context)
 }
@@ -213,14 +223,14 @@ fn gathered<'a, A: Allocator + Copy + Send + Sync, R: Threads + Wait + Sync, G: 
 fn executions_run_as_one(rt: HostRuntime) -> Result<(), Fail> {
     let alloc: Global = rt.alloc();
     let bells = Bells::new(3);
-    let crew = RunCrew::new(&alloc, &bells);
+    let crew = RunCrew::new(&rt, &alloc, &bells, &NoGate);
     let mut context = ImmediateContext::new(alloc, SIZE.width, SIZE.height)?;
     context.execute_alone(&small_list(alloc)?, true)?;
     context.execute_alone(&large_list(alloc)?, true)?;
     context.execute_alone(&small_list(alloc)?, true)?;
     let wanted = shown(&mut context)?;
-    assert!(rt; gathered(&rt, alloc, &crew, &NoGate, true)? == wanted);
-    assert!(rt; gathered(&rt, alloc, &crew, &NoGate, false)? == wanted);
+    assert!(rt; gathered(alloc, &crew, true)? == wanted);
+    assert!(rt; gathered(alloc, &crew, false)? == wanted);
     Ok(())
 }
 
@@ -229,9 +239,9 @@ fn executions_run_as_one(rt: HostRuntime) -> Result<(), Fail> {
 fn a_crew_meets_over_windows(rt: HostRuntime) -> Result<(), Fail> {
     let alloc: Global = rt.alloc();
     let bells = Bells::new(3);
-    let crew = RunCrew::new(&alloc, &bells);
     let gate = AllAtOnce::new(4);
-    let found = drawn_with_threads(&rt, alloc, &crew, &gate)?;
+    let crew = RunCrew::new(&rt, &alloc, &bells, &gate);
+    let found = drawn_with_threads(alloc, &crew)?;
     assert!(rt; found == drawn_alone(alloc)?);
     assert!(rt; gate.all_came());
     Ok(())
@@ -244,9 +254,9 @@ fn insisting<A: Allocator + Copy + Send + Sync, R: Threads + Wait + Sync>(
     lent: &A,
 ) -> Result<u64, GfxError> {
     let bells = Bells::new(3);
-    let crew = RunCrew::new(lent, &bells);
-    match drawn_with_threads(rt, alloc, &crew, &NoGate) {
-        Err(GfxError::OutOfMemory) => drawn_with_threads(rt, alloc, &crew, &NoGate),
+    let crew = RunCrew::new(rt, lent, &bells, &NoGate);
+    match drawn_with_threads(alloc, &crew) {
+        Err(GfxError::OutOfMemory) => drawn_with_threads(alloc, &crew),
         first => first,
     }
 }

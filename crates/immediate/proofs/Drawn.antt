@@ -1,6 +1,6 @@
 -- Segments on the target, over what stands in the code, and an execution behind the pending commands.
 use Rattle.std.proofs.Common.{◌≡◌, ◌∙◌, sym, ap, subst, refl, ℕ, ◌<◌, Bool, false, cond, List, [], ◌∷◌, ◌++◌, map, None, Some, Option}
-use Rattle.std.specs.Prelude.{is_some, Result, Ok, Err, IfOk, IfSome, OnOk, not, ◌&&◌}
+use Rattle.std.specs.Prelude.{is_ok, true, is_some, Result, Ok, Err, IfOk, IfSome, OnOk, not, ◌&&◌}
 use Rattle.gfxspec.specs.declared.error.GfxError.{GfxError}
 use Rattle.std.specs.List.{list_any, cons_option}
 use Rattle.gfxspec.specs.Recorded.{items, issues, queries_open, query_begun, after_finish, settings_after, is_drawing}
@@ -88,6 +88,10 @@ some_weaker P Q (Some x) f h = f x h
 pub on_ok_weaker : {T E : Type 0} (P Q : Type 0) (r : Result T E) → (P → Q) → OnOk r P → OnOk r Q
 on_ok_weaker P Q (Ok x) f h = f h
 on_ok_weaker P Q (Err e) f h = tt
+
+pub ok_given : {T E : Type 0} (P : Type 0) (r : Result T E) → is_ok r ≡ true → OnOk r P → P
+ok_given P (Ok x) e h = h
+ok_given P (Err x) e h = absurd cc
 
 pub ok_weaker : {T E : Type 0} (P Q : T → Type 0) (r : Result T E) → ((x : T) → P x → Q x) → IfOk r P → IfOk r Q
 ok_weaker P Q (Ok x) f h = f x h

@@ -17,8 +17,11 @@ ghost use Rattle.immediate.specs.Held.{Ran, held_of, outputs_of, context_of, sho
 
 use crate::counts::some_begins;
 use crate::crew::RunCrew;
-use crate::executions::{Executions, begin_behind, run_behind_alone, run_behind_by_crew};
+use crate::executions::{Executions, begin_behind};
 use crate::output::Output;
+use crate::pending::{
+    run_behind_alone, run_behind_by_crew, run_pending, run_pending_alone, run_pending_by_crew,
+};
 use cmdlist::{Call, CommandList, DeferredContext, DeviceContext};
 use gfxspec::{GfxError, Pixel, QUERY_LIMIT, WORKER_LIMIT};
 use port::{DrainPass, Ports, Submission};
@@ -28,81 +31,6 @@ use std::sync::Wait;
 use std::thread::Threads;
 use tileblock::Target;
 use workers::Gate;
-
-/// The pending list as a run begins it anew, with the kept state. There is none where that is all that is pending: then
-/// nothing is to run.
-fn next_pending<A: Allocator + Copy>(
-    pending: &DeferredContext<A>,
-) -> Result<Option<DeferredContext<A>>, GfxError>
-    ensures next { IfOk result (λ next. MatchOption next
-        ((output : Outputs) → Ran [] true (held_of output pending.now) (held_of output pending.now))
-        (λ list. list ≡ after_finish true pending.now)) }
-    ensures memory { IfErr result (λ e. e ≡ OutOfMemory) }
-{
-    if pending.is_kept_state_alone() {
-        return Ok(None);
-    }
-    Ok(Some(pending.next(true)?))
-}
-
-/// Runs the pending commands on the caller's thread, and begins their list anew with the kept state. Where that is all that
-/// is pending, nothing is done.
-fn run_pending_alone<A: Allocator + Copy + Send>(
-    output: &mut Output<A>,
-    pending: &mut DeferredContext<A>,
-) -> Result<(), GfxError>
-    ensures ok { OnOk result (Ran [] true (held_of output.old pending.old) (held_of output.new pending.new)) }
-    ensures memory { IfErr result (λ e. e ≡ OutOfMemory) }
-    ensures same { OnErr result ((output.new ≡ output.old) × (pending.new ≡ pending.old)) }
-{
-    let Some(next) = next_pending(pending)? else {
-        return Ok(());
-    };
-    output.run_alone(pending.commands())?;
-    *pending = next;
-    Ok(())
-}
-
-/// The same with as many threads beside the caller.
-fn run_pending<A: Allocator + Copy + Send + Sync, R: Threads + Sync, G: Gate + Sync>(
-    output: &mut Output<A>,
-    pending: &mut DeferredContext<A>,
-    rt: &R,
-    workers: u32,
-    gate: &G,
-) -> Result<(), GfxError>
-    requires workers { workers ≤ 15 }
-    ensures ok { OnOk result (Ran [] true (held_of output.old pending.old) (held_of output.new pending.new)) }
-    ensures memory { IfErr result (λ e. e ≡ OutOfMemory) }
-    ensures same { OnErr result ((output.new ≡ output.old) × (pending.new ≡ pending.old)) }
-{
-    let Some(begun) = next_pending(pending)? else {
-        return Ok(());
-    };
-    output.run_with_workers(rt, pending.commands(), workers, gate)?;
-    *pending = begun;
-    Ok(())
-}
-
-/// The same by a crew beside the caller.
-fn run_pending_by_crew<'a, A: Allocator + Copy + Send + Sync, R: Wait, G: Gate>(
-    output: &mut Output<A>,
-    pending: &mut DeferredContext<A>,
-    rt: &R,
-    crew: &RunCrew<'a, A>,
-    gate: &G,
-) -> Result<(), GfxError>
-    ensures ok { OnOk result (Ran [] true (held_of output.old pending.old) (held_of output.new pending.new)) }
-    ensures memory { IfErr result (λ e. e ≡ OutOfMemory) }
-    ensures same { OnErr result ((output.new ≡ output.old) × (pending.new ≡ pending.old)) }
-{
-    let Some(fresh) = next_pending(pending)? else {
-        return Ok(());
-    };
-    output.run_by_crew(rt, pending.commands(), crew, gate)?;
-    *pending = fresh;
-    Ok(())
-}
 
 /// Begins the pending list anew behind an execution: with the kept state, which it holds already, or with nothing.
 fn begin_anew<A: Allocator + Copy>(alloc: A, pending: &mut DeferredContext<A>, restore: bool)
@@ -411,54 +339,41 @@ impl<A: Allocator + Copy + Send + Sync> ImmediateContext<A> {
 impl<A: Allocator + Copy + Send + Sync> ImmediateContext<A> {
     /// `flush_alone` by a crew beside the caller. It may wait for a thread that has a tile in its hands. Refused with
     /// QueryOpen, OutOfMemory.
-    pub fn flush_by_crew<'a, R: Wait, G: Gate>(
+    pub fn flush_by_crew<R: Wait, G: Gate>(
         &mut self,
-        rt: &R,
-        crew: &RunCrew<'a, A>,
-        gate: &G,
+        crew: &RunCrew<'_, '_, A, R, G>,
     ) -> Result<(), GfxError>
         ensures { Runs (flush_rows (queries_open self.old.pending)) [] true self.old self.new result }
     {
         self.examine_run(0)?;
-        run_pending_by_crew(&mut self.output, &mut self.pending, rt, crew, gate)
+        run_pending_by_crew(&mut self.output, &mut self.pending, crew)
     }
 
     /// `execute_alone` by a crew beside the caller. Refused with QueryOpen, OutOfMemory.
-    pub fn execute_by_crew<'a, R: Wait, G: Gate>(
+    pub fn execute_by_crew<R: Wait, G: Gate>(
         &mut self,
-        rt: &R,
         list: &CommandList<A>,
         restore: bool,
-        crew: &RunCrew<'a, A>,
-        gate: &G,
+        crew: &RunCrew<'_, '_, A, R, G>,
     ) -> Result<(), GfxError>
         ensures { Runs (flush_rows (queries_open self.old.pending)) list.now restore self.old self.new result }
     {
-        self.flush_by_crew(rt, crew, gate)?;
-        self.output.run_by_crew(rt, list.commands(), crew, gate)?;
+        self.flush_by_crew(crew)?;
+        self.output.run_by_crew(list.commands(), crew)?;
         begin_anew(self.alloc, &mut self.pending, restore);
         Ok(())
     }
 
     /// `run_executions_alone` by a crew beside the caller.
-    pub fn run_executions_by_crew<'a, R: Wait, G: Gate>(
+    pub fn run_executions_by_crew<R: Wait, G: Gate>(
         &mut self,
-        rt: &R,
         executions: Executions<A>,
-        crew: &RunCrew<'a, A>,
-        gate: &G,
+        crew: &RunCrew<'_, '_, A, R, G>,
     ) -> Result<(), GfxError>
         ensures ok { OnOk result (HasExecuted (cut_over (outputs_of self.old) executions) self.old self.new) }
         ensures err { OnErr result (self.new ≡ self.old) }
     {
-        run_behind_by_crew(
-            &mut self.output,
-            &mut self.pending,
-            rt,
-            executions,
-            crew,
-            gate,
-        )
+        run_behind_by_crew(&mut self.output, &mut self.pending, executions, crew)
     }
 }
 

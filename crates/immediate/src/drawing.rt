@@ -7,6 +7,7 @@ ghost use Rattle.tileblock.specs.Surface.{Surface, IsWhole};
 ghost use Rattle.binner.specs.Compiled.{Compilation, IsCompilation};
 ghost use Rattle.tileprog.specs.Programs.{AllRan, ProgramsRan, lists_of, tiles_of};
 
+use crate::crew::RunCrew;
 use arrayvec::ArrayVec;
 use binner::Compiled;
 use board::Board;
@@ -18,10 +19,7 @@ use tileblock::Target;
 use tilecore::TileJob;
 use tileprog::TileProgram;
 use tilerun::{BlockJob, run_alone, run_with_crew, run_with_workers};
-use workers::{Crew, Gate};
-
-/// A crew that runs the tiles of compiled lists.
-type TileCrew<'a, A> = Crew<'a, TileProgram<A>, A>;
+use workers::Gate;
 
 /// The counts of a run, or why it was refused, and the compiled list as it was.
 pub(crate) type Drawn<A> = (Result<ArrayVec<u64, 64>, GfxError>, Compiled<A>);
@@ -113,12 +111,10 @@ pub(crate) fn draw_with_workers<
 
 /// The tiles of one list or of several, one behind the other, by the threads of a crew beside the caller, which passes the gate too.
 /// The first list comes back.
-pub(crate) fn draw_by_crew<'a, A: Allocator + Copy + Send + Sync, R: Wait, G: Gate>(
-    rt: &R,
-    crew: &TileCrew<'a, A>,
+pub(crate) fn draw_by_crew<A: Allocator + Copy + Send + Sync, R: Wait, G: Gate>(
+    crew: &RunCrew<'_, '_, A, R, G>,
     job: TileProgram<A>,
     target: &mut Target<A>,
-    gate: &G,
 ) -> Drawn<A>
     requires size { job.first.size ≡ target.old.size }
     requires whole { IsWhole target.old }
@@ -132,9 +128,10 @@ pub(crate) fn draw_by_crew<'a, A: Allocator + Copy + Send + Sync, R: Wait, G: Ga
     if job.touched().is_empty() {
         return (Ok(no_counts(job.issues())), job.into_compiled());
     }
-    match Board::new(crew.allocator(), &job) {
+    let (rt, drawing, gate) = (crew.rt, &crew.drawing, crew.gate);
+    match Board::new(drawing.allocator(), &job) {
         Ok((board, seat)) => {
-            let (counts, job) = run_with_crew(rt, crew, board, seat, target, job, gate);
+            let (counts, job) = run_with_crew(rt, drawing, board, seat, target, job, gate);
             (Ok(counts), job.into_compiled())
         }
         Err(refusal) => (Err(refusal), job.into_compiled()),

@@ -18,6 +18,8 @@ mod crew;
 mod drawing;
 mod executions;
 mod output;
+mod pending;
+mod room;
 
 pub use context::ImmediateContext;
 pub use crew::RunCrew;

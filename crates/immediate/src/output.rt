@@ -1,6 +1,6 @@
 //! The target and the query results, as the last run left them, and what a run makes of them.
 
-ghost use Rattle.std.specs.Prelude.{◌≡◌, ℕ, ◌<◌, ◌≤◌, [], ◌∷◌, Some, None, Ok, Err, map, replicate, slice_index, OnOk, IfOk, IfErr, OnErr, IfSome, MatchOption, MatchResult};
+ghost use Rattle.std.specs.Prelude.{true, false, ◌≡◌, ℕ, ◌<◌, ◌≤◌, [], ◌∷◌, Some, None, Ok, Err, map, replicate, slice_index, OnOk, IfOk, IfErr, OnErr, IfSome, MatchOption, MatchResult};
 ghost use Rattle.std.specs.List.{list_any};
 ghost use Rattle.gfxspec.specs.declared.error.GfxError.TheVariants.{OutOfMemory};
 ghost use Rattle.gfxspec.specs.Items.{opening};
@@ -22,9 +22,10 @@ ghost use Rattle.immediate.specs.Batched.{HasDrawn, cut_over};
 use crate::counts::store_counts;
 use crate::crew::RunCrew;
 use crate::drawing::{Drawn, draw_alone, draw_by_crew, draw_with_workers};
-use crate::executions::{Room, some_begin};
+use crate::executions::Executions;
+use crate::room::Room;
 use binmem::Bins;
-use binner::{Compiled, Segment, compile, compile_parallel, cut};
+use binner::{Compiled, Segment, compile, compile_parallel};
 use cmdlist::Command;
 use gfxspec::GfxError;
 use segmentrun::{compile_alone, compile_by_crew};
@@ -313,40 +314,50 @@ impl<A: Allocator + Copy + Send + Sync> Output<A> {
         keep(drawn, commands, &mut self.results, &mut self.bins)
     }
 
-    /// The same as `run_alone` by a crew beside the caller, which passes the gate too. Where commands begin a query, or draw little,
-    /// the caller compiles them.
-    pub(crate) fn run_by_crew<'a, R: Wait, G: Gate>(
+    /// The same as `run_alone` by a crew beside the caller, which passes the gate too. Where the crew can't compile the commands the
+    /// caller does.
+    pub(crate) fn run_by_crew<R: Wait, G: Gate>(
         &mut self,
-        rt: &R,
         commands: &[Command<A>],
-        crew: &RunCrew<'a, A>,
-        gate: &G,
+        crew: &RunCrew<'_, '_, A, R, G>,
     ) -> Result<(), GfxError>
         requires accepted { AreAccepted (map command_value commands.now) }
         ensures ok { OnOk result (HasRun (map command_value commands.now) self.old self.new) }
         ensures memory { IfErr result (λ e. e ≡ OutOfMemory) }
         ensures err { OnErr result (self.new ≡ self.old) }
     {
-        let room = Room::of(commands);
-        if !room.is_large() {
-            return self.run_compiled(rt, commands, crew, gate);
+        if self.run_cut(commands, crew) {
+            return Ok(());
         }
-        if some_begin(commands) {
-            return self.run_compiled(rt, commands, crew, gate);
+        self.run_compiled(commands, crew)
+    }
+
+    /// Runs commands that draw much and begin no query, cut into segments, by a crew that compiles them too. It says whether they
+    /// ran: there may be no memory for it.
+    fn run_cut<R: Wait, G: Gate>(
+        &mut self,
+        commands: &[Command<A>],
+        crew: &RunCrew<'_, '_, A, R, G>,
+    ) -> bool
+        requires accepted { AreAccepted (map command_value commands.now) }
+        ensures ran { result ≡ true → HasRun (map command_value commands.now) self.old self.new }
+        ensures same { result ≡ false → self.new ≡ self.old }
+    {
+        if !Room::of(commands).is_large() {
+            return false;
         }
-        let mut segments = Vec::new(self.alloc);
-        let triangles = room.segment(crew.workers());
-        cut(self.alloc, commands, triangles, &mut segments)?;
-        self.run_segments_by_crew(rt, segments, room, crew, gate)
+        let Some(cut) = Executions::behind(self.alloc, commands, crew.workers()) else {
+            return false;
+        };
+        let Executions { segments, taken } = cut;
+        self.run_segments_by_crew(segments, taken, crew).is_ok()
     }
 
     /// Commands that the caller compiles, run by a crew.
-    fn run_compiled<'a, R: Wait, G: Gate>(
+    fn run_compiled<R: Wait, G: Gate>(
         &mut self,
-        rt: &R,
         commands: &[Command<A>],
-        crew: &RunCrew<'a, A>,
-        gate: &G,
+        crew: &RunCrew<'_, '_, A, R, G>,
     ) -> Result<(), GfxError>
         requires accepted { AreAccepted (map command_value commands.now) }
         ensures ok { OnOk result (HasRun (map command_value commands.now) self.old self.new) }
@@ -357,18 +368,16 @@ impl<A: Allocator + Copy + Send + Sync> Output<A> {
             return Ok(());
         };
         let job = TileProgram::new(compiled);
-        let drawn = draw_by_crew(rt, &crew.drawing, job, &mut self.target, gate);
+        let drawn = draw_by_crew(crew, job, &mut self.target);
         keep(drawn, commands, &mut self.results, &mut self.bins)
     }
 
     /// The lists of segments as a job: compiled by a crew, or on the caller's thread where they draw little.
-    fn program_by_crew<'a, R: Wait, G: Gate>(
+    fn program_by_crew<R: Wait, G: Gate>(
         &mut self,
-        rt: &R,
         segments: Vec<Segment<A>, A>,
         room: Room,
-        crew: &RunCrew<'a, A>,
-        gate: &G,
+        crew: &RunCrew<'_, '_, A, R, G>,
     ) -> Result<TileProgram<A>, GfxError>
         ensures same { self.new ≡ self.old }
         ensures compiled { IfOk result (λ job. AreCompiled self.old.surface.size (cut_over self.old segments.items) (lists_of job)) }
@@ -380,25 +389,24 @@ impl<A: Allocator + Copy + Send + Sync> Output<A> {
         }
         let told = told_by(&self.results);
         let size = self.target.size();
+        let (rt, gate) = (crew.rt, crew.gate);
         let (first, behind) = compile_by_crew(rt, &crew.compiling, segments, size, &told, gate)?;
         Ok(TileProgram::of_lists(self.alloc, first, behind)?)
     }
 
     /// The same as `run_segments_alone` by a crew beside the caller, which passes the gate too.
-    pub(crate) fn run_segments_by_crew<'a, R: Wait, G: Gate>(
+    pub(crate) fn run_segments_by_crew<R: Wait, G: Gate>(
         &mut self,
-        rt: &R,
         segments: Vec<Segment<A>, A>,
         room: Room,
-        crew: &RunCrew<'a, A>,
-        gate: &G,
+        crew: &RunCrew<'_, '_, A, R, G>,
     ) -> Result<(), GfxError>
         ensures ok { OnOk result (HasDrawn (cut_over self.old segments.items) self.old self.new) }
         ensures memory { IfErr result (λ e. e ≡ OutOfMemory) }
         ensures err { OnErr result (self.new ≡ self.old) }
     {
-        let job = self.program_by_crew(rt, segments, room, crew, gate)?;
-        let drawn = draw_by_crew(rt, &crew.drawing, job, &mut self.target, gate);
+        let job = self.program_by_crew(segments, room, crew)?;
+        let drawn = draw_by_crew(crew, job, &mut self.target);
         let nothing: [Command<A>; 0] = [];
         keep(drawn, &nothing, &mut self.results, &mut self.bins)
     }

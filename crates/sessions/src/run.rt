@@ -7,7 +7,7 @@ ghost use Rattle.gfxspec.specs.Refusals.{AreAccepted};
 use answers::Answer;
 use cmdlist::CommandList;
 use gfxspec::GfxError;
-use immediate::{ImmediateContext, RunCrew};
+use immediate::ImmediateContext;
 use recorders::{ListSource, take_call};
 use scenetext::Verb;
 use std::alloc::Allocator;
@@ -98,13 +98,4 @@ pub(crate) fn finished_list<A: Allocator, S: ListSource<CommandList<A>>>(
     let list = lists.list(of, number);
     list.commands();
     list
-}
-
-/// What a session in threads works with: threads, memory, a crew for the runs, and the gate by which tests look at it.
-#[derive(Drop)]
-pub(crate) struct Workers<'w, 'a, A: Allocator + Copy + Send, R, G> {
-    pub(crate) rt: &'w R,
-    pub(crate) alloc: A,
-    pub(crate) crew: RunCrew<'a, A>,
-    pub(crate) gate: &'w G,
 }

@@ -9,7 +9,6 @@ ghost use Rattle.sessions.specs.Performing.{IsRound, output_by};
 use crate::ending::{Performance, end, stopped};
 use crate::perform::begin;
 use crate::play::{Played, play_by_crew};
-use crate::run::Workers;
 use immediate::{ImmediateContext, RunCrew};
 use recorders::{
     DealtLines, ListPorts, Passes, RecorderSetup, Returned, deal, open_ports, receive, settle,
@@ -28,14 +27,9 @@ struct Round<A: Allocator> {
 }
 
 /// Starts the recorders and the crew's threads, takes the lines of the immediate context, and waits for all of them.
-fn play_in_scope<
-    'w,
-    'a,
-    A: Allocator + Copy + Send + Sync,
-    R: Threads + Wait + Sync,
-    G: Gate + Sync,
->(
-    workers: &Workers<'w, 'a, A, R, G>,
+fn play_in_scope<A: Allocator + Copy + Send + Sync, R: Threads + Wait + Sync, G: Gate + Sync>(
+    alloc: A,
+    crew: &RunCrew<'_, '_, A, R, G>,
     ports: &ListPorts<A>,
     passes: Passes<A>,
     lines: &DealtLines<'_, A>,
@@ -47,30 +41,24 @@ fn play_in_scope<
 {
     thread::scope(
         thread::scope_env(),
-        workers.rt,
+        crew.rt,
         |scope| -> Round<A>
             requires { AreNew ports.now.queue passes × MayPlay lines.now (listed lines.now) immediate }
             ensures { IsRound immediate.surface.size lines.entry.now ports.entry.now.queue result }
         {
-            let crew = &workers.crew;
-            start_crews(
-                workers.rt,
-                scope,
-                &crew.compiling,
-                &crew.drawing,
-                workers.gate,
-            );
+            let (rt, gate) = (crew.rt, crew.gate);
+            start_crews(rt, scope, &crew.compiling, &crew.drawing, gate);
             let setup = RecorderSetup {
-                rt: workers.rt,
-                alloc: workers.alloc,
+                rt,
+                alloc,
                 ports,
-                gate: workers.gate,
+                gate,
                 lines,
             };
             let mut received = receive(scope, setup, passes);
-            let played = play_by_crew(workers, immediate, &mut received, lines);
+            let played = play_by_crew(alloc, crew, immediate, &mut received, lines);
             let returned = received.close();
-            crew.close(workers.rt);
+            crew.close();
             Round { played, returned }
         },
     )
@@ -95,13 +83,8 @@ pub(crate) fn perform_in_threads<
         return stopped(alloc, 0, 1);
     };
     let bells = Bells::new(workers);
-    let workers = Workers {
-        rt,
-        alloc,
-        crew: RunCrew::new(&alloc, &bells),
-        gate,
-    };
-    let round = play_in_scope(&workers, &ports, passes, &lines, immediate);
+    let crew = RunCrew::new(rt, &alloc, &bells, gate);
+    let round = play_in_scope(alloc, &crew, &ports, passes, &lines, immediate);
     let deferred = settle(rt, ports, round.returned);
     end(&scene, deferred, round.played)
 }

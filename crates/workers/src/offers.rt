@@ -2,7 +2,7 @@
 //!
 //! An offer has all that its thread needs: a seat of the shared board, and a pass to the queue by which the seat comes back.
 
-ghost use Rattle.std.specs.Prelude.{◌≡◌, ◌<◌, ◌≤◌, Some, None, IfSome, IfNone};
+ghost use Rattle.std.specs.Prelude.{◌≡◌, Some, None, IfSome, IfNone};
 ghost use Rattle.std.specs.Arc.{arc_value};
 ghost use Rattle.crossbeam_queue.specs.Passes.{view, IsPassOf};
 ghost use Rattle.board.specs.declared.view.Hand.TheVariants.{Empty};
@@ -12,6 +12,7 @@ ghost use Rattle.workers.specs.Crewing.{IsTied, Knows};
 use crate::draining::drain;
 use crate::gates::Gate;
 use crate::mailbox::Mailbox;
+use crate::part::Part;
 use crate::returns::{BackQueue, Returns, Same, Ticket};
 use board::{Board, Seat};
 use crossbeam_queue::Pass;
@@ -32,20 +33,17 @@ pub(crate) struct SharedRun<'a, J: TileJob + Drop, A: Allocator> {
     pub(crate) back: BackQueue<J, &'a A>,
 }
 
-// A part of a run, for so many workers from the one that it is offered to on.
+// A part of a run, for the worker that it is offered to and those behind it.
 #[derive(Drop)]
 pub(crate) struct Offer<'a, J: TileJob + Drop, A: Allocator> {
     run: Arc<SharedRun<'a, J, A>, &'a A>,
-    seat: Seat<J>,
     pass: Mine<J>,
-    weight: u32,
-    workers: u32,
+    part: Part<J>,
     // that the allocator outlives its loan
     loan: PhantomData<&'a A>,
 }
 
 impl<'a, J: TileJob + Drop, A: Allocator> Model for Offer<'a, J, A> {
-    ghost use Rattle.std.specs.Prelude.{◌≡◌, ◌<◌, ◌≤◌};
     ghost use Rattle.std.specs.Arc.{arc_value};
     ghost use Rattle.crossbeam_queue.specs.Passes.{view as knows, IsPassOf};
     ghost use Rattle.workers.specs.Crewing.{IsTied, Knows};
@@ -54,8 +52,7 @@ impl<'a, J: TileJob + Drop, A: Allocator> Model for Offer<'a, J, A> {
 
     ghost view = { λ _. tt };
 
-    ghost invariant = { λ o. IsTied J.tile_count (arc_value o.run).board (arc_value o.run).job o.seat
-        × (o.seat.view.weight ≡ o.weight) × (0 < o.workers) × (o.workers ≤ o.weight) × (o.weight ≤ 16)
+    ghost invariant = { λ o. IsTied J.tile_count (arc_value o.run).board (arc_value o.run).job o.part.seat
         × IsPassOf (arc_value o.run).back o.pass × Knows (arc_value o.run).board (knows o.pass) };
 }
 
@@ -112,83 +109,81 @@ fn shared<'a, J: TileJob + Drop, A: Allocator>(
     }
 }
 
-// The offer of a seat to so many workers.
+// The offer of a part.
 fn make_offer<'a, J: TileJob + Drop, A: Allocator>(
     run: Arc<SharedRun<'a, J, A>, &'a A>,
     pass: &mut Mine<J>,
-    seat: Seat<J>,
-    weight: u32,
-    workers: u32,
+    part: Part<J>,
 ) -> Offer<'a, J, A>
-    requires tied { IsTied J.tile_count (arc_value run).board (arc_value run).job seat }
+    requires tied { IsTied J.tile_count (arc_value run).board (arc_value run).job part.seat }
     requires pass { IsPassOf (arc_value run).back pass.old × Knows (arc_value run).board (view pass.old) }
-    requires weight { (seat.view.weight ≡ weight) × (0 < workers) × (workers ≤ weight) × (weight ≤ 16) }
     ensures pass { IsPassOf (arc_value run.entry).back pass.new × (view pass.new ≡ view pass.old) }
 {
     let theirs = run.back.another::<Same>(pass);
     Offer {
         run,
-        seat,
         pass: theirs,
-        weight,
-        workers,
+        part,
         loan: PhantomData,
     }
 }
 
-// Puts the offer of a seat into a mailbox, and says whether its thread sleeps. Where the run can't be shared once more, the
+// Puts the offer of a part into a mailbox, and says whether its thread sleeps. Where the run can't be shared once more, the
 // seat is let go.
 fn put_offer<'a, J: TileJob + Drop, A: Allocator, R: Wait>(
     rt: &R,
     mailbox: &Mailbox<'a, Offer<'a, J, A>>,
     run: Option<Arc<SharedRun<'a, J, A>, &'a A>>,
     pass: &mut Mine<J>,
-    seat: Seat<J>,
-    weight: u32,
-    workers: u32,
+    part: Part<J>,
 ) -> bool
-    requires tied { IfSome run (λ r. IsTied J.tile_count (arc_value r).board (arc_value r).job seat) }
+    requires tied { IfSome run (λ r. IsTied J.tile_count (arc_value r).board (arc_value r).job part.seat) }
     requires pass { IfSome run (λ r. IsPassOf (arc_value r).back pass.old × Knows (arc_value r).board (view pass.old)) }
-    requires weight { (seat.view.weight ≡ weight) × (0 < workers) × (workers ≤ weight) × (weight ≤ 16) }
     ensures pass { IfSome run.entry (λ r. IsPassOf (arc_value r).back pass.new) × (view pass.new ≡ view pass.old) }
     ensures none { IfNone run.entry (pass.new ≡ pass.old) }
 {
     match run {
-        Some(run) => mailbox.put(rt, make_offer(run, pass, seat, weight, workers)),
+        Some(run) => mailbox.put(rt, make_offer(run, pass, part)),
         None => false,
     }
 }
 
-/// Offers the parts of so many workers to the first of the mailboxes, for half of the seat's weight or fewer, and to those
-/// behind its group, and keeps the seat of one. It wakes the threads that it offers to.
+/// Offers what of a part is for others: to the first of the mailboxes for a group of workers, with half of the seat's weight, and to
+/// those behind this group. The seat of one is left. It wakes the threads that it offers to.
 pub(crate) fn offer_others<'a, J: TileJob + Drop, A: Allocator, R: Wait>(
     rt: &R,
     mailboxes: &[Mailbox<'a, Offer<'a, J, A>>],
     run: &Arc<SharedRun<'a, J, A>, &'a A>,
     pass: &mut Mine<J>,
-    seat: Seat<J>,
-    weight: u32,
-    workers: u32,
+    part: Part<J>,
 ) -> Seat<J>
-    requires tied { IsTied J.tile_count (arc_value run.now).board (arc_value run.now).job seat }
+    requires tied { IsTied J.tile_count (arc_value run.now).board (arc_value run.now).job part.seat }
     requires pass { IsPassOf (arc_value run.now).back pass.old × Knows (arc_value run.now).board (view pass.old) }
-    requires weight { (seat.view.weight ≡ weight) × (workers < weight) × (weight ≤ 16) }
     ensures tied { IsTied J.tile_count (arc_value run.now).board (arc_value run.now).job result }
-    ensures same { result.view.placed ≡ seat.view.placed }
+    ensures same { result.view.placed ≡ part.seat.view.placed }
     ensures pass { IsPassOf (arc_value run.now).back pass.new × (view pass.new ≡ view pass.old) }
 {
+    let others = part.others();
+    let Part {
+        seat,
+        weight,
+        workers,
+        ..
+    } = part;
     let Some(mailbox) = mailboxes.first() else {
         return seat;
     };
-    if workers == 0 {
+    if others == 0 {
         return seat;
     }
     let far = weight / 2;
-    let theirs = workers.min(far);
-    let (mine, other) = run.board.split(seat);
-    let asleep = put_offer(rt, mailbox, shared(run), pass, other, far, theirs);
-    let behind = from_place(mailboxes, theirs);
-    let mine = offer_others(rt, behind, run, pass, mine, weight - far, workers - theirs);
+    let group = others.min(far);
+    let (mine, theirs) = run.board.split(seat);
+    let theirs = Part::new(theirs, far, group);
+    let asleep = put_offer(rt, mailbox, shared(run), pass, theirs);
+    let behind = from_place(mailboxes, group);
+    let rest = Part::new(mine, weight - far, workers - group);
+    let mine = offer_others(rt, behind, run, pass, rest);
     if asleep {
         mailbox.bell().ring();
     }
@@ -214,14 +209,12 @@ pub(crate) fn work<'a, J: TileJob + Drop, A: Allocator, G: Gate, R: Wait>(
 ) {
     let Offer {
         run,
-        seat,
         mut pass,
-        weight,
-        workers,
+        part,
         loan: _,
     } = offer;
     let behind = from_place(mailboxes, 1);
-    let seat = offer_others(rt, behind, &run, &mut pass, seat, weight, workers - 1);
+    let seat = offer_others(rt, behind, &run, &mut pass, part);
     let all: &SharedRun<'a, J, A> = &run;
     let seat = drain(&all.board, seat, &all.job, worker, gate);
     hand_back(rt, all, pass, seat);

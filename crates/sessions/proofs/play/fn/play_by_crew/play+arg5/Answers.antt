@@ -13,7 +13,7 @@ returns-in-Flush g c =
 pub returns-in-Execute : goal.returns-in-Execute
 returns-in-Execute g c =
     let s = c.args.lists.now in
-    let list = c.finished_list-list in
+    let list = c.finished_list in
     run_is list.result.now c.in-Execute.restore _ _ _ c.execute_by_crew.result c.execute_by_crew.ensures
     (λ ran. subst (λ (r : Running). RanBy (g.S.ListSource.agrees s) (g.S.ListSource.right s) r c.args.context.now c.execute_by_crew.new.self) (sym c.in-Execute.is)
     (λ agrees. list_taken list.result.now _ c.in-Execute.restore _ _ (list.ensures.right agrees) list.ensures.none_open list.ensures.accepted ran))

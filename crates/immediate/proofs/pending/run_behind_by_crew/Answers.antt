@@ -1,7 +1,7 @@
 use Rattle.std.proofs.Common.{subst, List}
 use Rattle.gfxspec.specs.Commands.{Command}
 use Rattle.immediate.specs.Batched.{HasDrawn, cut_over}
-use Rattle.immediate.proofs.executions.run_behind_by_crew.Goals as goal
+use Rattle.immediate.proofs.pending.run_behind_by_crew.Goals as goal
 
 pub returns-clause-ok : goal.returns-clause-ok
 returns-clause-ok g c = record {

@@ -4,7 +4,7 @@ use Rattle.gfxspec.specs.Recorded.{after_finish}
 use Rattle.immediate.specs.Outputs.{Outputs, HasRun}
 use Rattle.immediate.specs.Held.{Ran, held_of}
 use Rattle.immediate.proofs.Runs.{found, none_found, pending_ran}
-use Rattle.immediate.proofs.context.run_pending_by_crew.Goals as goal
+use Rattle.immediate.proofs.pending.run_pending_by_crew.Goals as goal
 
 pub returns-clause-ok : goal.returns-clause-ok
 returns-clause-ok g c =
