@@ -1,11 +1,11 @@
 -- Lists that are cut into segments, command by command.
-use Rattle.std.proofs.Common.{◌≡◌, ◌∙◌, ap, sym, subst, refl, Bool, ℕ, ◌+◌, ◌<◌, ◌≤◌, List, [], ◌∷◌, ◌++◌, length, map, take, drop, get_or, append_assoc}
+use Rattle.std.proofs.Common.{◌≡◌, ◌∙◌, ap, sym, subst, refl, Bool, ℕ, ◌+◌, ◌<◌, ◌≤◌, List, [], ◌∷◌, ◌++◌, length, map, get_or, append_assoc}
 use Rattle.std.specs.Prelude.{None, Result, Ok, Err, IfOk}
-use Rattle.std.proofs.lemmas.List.{append-nil, take_all, map-append, take-append-drop}
+use Rattle.std.proofs.lemmas.List.{append-nil, take_all, map-append}
 use Rattle.std.proofs.lemmas.List.Elements.{filter_map-append}
 use Rattle.gfxspec.specs.State.{Settings}
 use Rattle.gfxspec.specs.Commands.{Command, Begin, Kept}
-use Rattle.gfxspec.specs.Recorded.{settings_after, open_from, open_after, items, issues, query_begun}
+use Rattle.gfxspec.specs.Recorded.{settings_after, items, issues, query_begun}
 use Rattle.gfxspec.specs.Predication.{performed}
 use Rattle.gfxspec.specs.Refusals.{AreSound, AreAccepted}
 use Rattle.meaning.specs.OneMore.{settings_with, performed_items}

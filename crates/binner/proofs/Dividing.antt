@@ -1,5 +1,5 @@
 -- A draw of a triangle list as several draws, one behind the other.
-use Rattle.std.proofs.Common.{◌≡◌, ◌∙◌, ap, sym, subst, refl, arith, Bool, true, false, not, ◌&&◌, ℕ, ℤ, zero, suc, ◌+◌, ◌-◌, ◌*◌, ◌≤◌, cond, List, [], ◌∷◌, ◌++◌, length, map, take, drop, append_assoc, length-drop}
+use Rattle.std.proofs.Common.{◌≡◌, ◌∙◌, ap, sym, subst, refl, arith, Bool, true, false, not, ◌&&◌, ℕ, ℤ, zero, suc, ◌+◌, ◌-◌, ◌*◌, ◌≤◌, cond, List, [], ◌∷◌, ◌++◌, length, take, drop, append_assoc, length-drop}
 use Rattle.std.specs.Prelude.{Option, Some, None, nat_lt}
 use Rattle.std.specs.List.{list_all}
 use Rattle.std.proofs.Math.Seq.{take-add}
@@ -10,11 +10,11 @@ use Rattle.gfxspec.specs.declared.error.GfxError.{GfxError}
 use Rattle.gfxspec.specs.declared.geometry.Vertex.{Vertex}
 use Rattle.gfxspec.specs.declared.state.Topology.TheVariants.{TriangleList}
 use Rattle.gfxspec.specs.State.{Settings}
-use Rattle.gfxspec.specs.Items.{Item, Drawn}
+use Rattle.gfxspec.specs.Items.{Drawn}
 use Rattle.gfxspec.specs.Assembly.{Primitive, list_primitives, part, vertices_at, drawn_primitives, drawn_indexed, draw_primitives, draw_indexed_primitives}
-use Rattle.gfxspec.specs.Commands.{Command, Draw, DrawIndexed}
+use Rattle.gfxspec.specs.Commands.{Command}
 use Rattle.gfxspec.specs.Recorded.{settings_after, drawn_items}
-use Rattle.gfxspec.specs.Refusals.{are_used_well, is_used_well}
+use Rattle.gfxspec.specs.Refusals.{is_used_well}
 use Rattle.gfxspec.specs.Predication.{withholds}
 use Rattle.meaning.specs.OneMore.{performed_items}
 use Rattle.meaning.proofs.Accepting.{none_of}

@@ -1,5 +1,5 @@
 -- Segments on the target, over what stands in the code, and an execution behind the pending commands.
-use Rattle.std.proofs.Common.{◌≡◌, ◌∙◌, sym, ap, subst, refl, ℕ, ◌<◌, Bool, false, cond, List, [], ◌∷◌, ◌++◌, map, None, Some, Option}
+use Rattle.std.proofs.Common.{◌≡◌, ◌∙◌, sym, ap, subst, refl, ℕ, Bool, false, cond, List, [], ◌∷◌, ◌++◌, map, None, Some, Option}
 use Rattle.std.specs.Prelude.{is_ok, true, is_some, Result, Ok, Err, IfOk, IfSome, OnOk, not, ◌&&◌}
 use Rattle.gfxspec.specs.declared.error.GfxError.{GfxError}
 use Rattle.std.specs.List.{list_any, cons_option}

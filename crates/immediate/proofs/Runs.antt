@@ -1,6 +1,6 @@
 -- Runs of lists, one after the other.
 use Rattle.std.proofs.Common.{◌≡◌, ◌∙◌, ◌⊎◌, inl, inr, sym, ap, subst, refl, arith, ℕ, ◌+◌, ◌<◌, List, [], ◌∷◌, length, get_or, Some, None}
-use Rattle.std.specs.Prelude.{Bool, true, false, Option, is_none, unwrap_or, slice_set, if◌then◌else◌, Result, Ok, Err, MatchOption, MatchResult, IfOk, OnOk, IfErr, OnErr}
+use Rattle.std.specs.Prelude.{Bool, true, false, Option, is_none, unwrap_or, slice_set, if◌then◌else◌, Result, Ok, Err, MatchResult, IfOk, OnOk, IfErr, OnErr}
 use Rattle.std.proofs.lemmas.List.{length-set}
 use Rattle.gfxspec.specs.declared.geometry.Size.{Size}
 use Rattle.gfxspec.specs.declared.error.GfxError.{GfxError}
@@ -161,15 +161,6 @@ module _ {T : Type 0} (items : T → List ℕ) (list : List Command) (o : Output
 pub restored : (restore : Bool) (first mid last : List Command) → mid ≡ after_finish true first → last ≡ (if restore then mid else []) → last ≡ after_finish restore first
 restored true first mid last kept is = is ∙ kept
 restored false first mid last kept is = is
-
--- a list that is there
-pub found : {A : Type 0} (P : Type 0) (Q : A → Type 0) (r : Option A) (x : A) → r ≡ Some x → MatchOption r P Q → Q x
-found P Q r x is h = subst (λ (o : Option _). MatchOption o P Q) is h
-
--- or isn't
-pub none_found : {A : Type 0} (P : Type 0) (Q : A → Type 0) (r : Option A) → ((x : A) → r ≡ Some x → ⊥) → MatchOption r P Q → P
-none_found P Q None not_there h = h
-none_found P Q (Some x) not_there h = absurd (not_there x refl)
 
 pub stored_count : (r : Option ℕ) → is_none r ≡ false → Some (unwrap_or r 0) ≡ r
 stored_count None e = absurd cc

@@ -1,9 +1,7 @@
 //! What runs the pending commands, alone or with executions behind them.
 
-ghost use Rattle.std.specs.Prelude.{true, ◌≡◌, ◌≤◌, [], IfOk, IfErr, OnOk, OnErr, MatchOption};
+ghost use Rattle.std.specs.Prelude.{true, ◌≡◌, ◌≤◌, [], IfErr, OnOk, OnErr};
 ghost use Rattle.gfxspec.specs.declared.error.GfxError.TheVariants.{OutOfMemory};
-ghost use Rattle.gfxspec.specs.Recorded.{after_finish};
-ghost use Rattle.immediate.specs.Outputs.{Outputs};
 ghost use Rattle.immediate.specs.Batched.{HasExecuted, cut_over};
 ghost use Rattle.immediate.specs.Held.{Ran, held_of};
 
@@ -17,22 +15,6 @@ use std::sync::Wait;
 use std::thread::Threads;
 use workers::Gate;
 
-/// The pending list as a run begins it anew, with the kept state. There is none where that is all that is pending: then
-/// nothing is to run.
-fn next_pending<A: Allocator + Copy>(
-    pending: &DeferredContext<A>,
-) -> Result<Option<DeferredContext<A>>, GfxError>
-    ensures next { IfOk result (λ next. MatchOption next
-        ((output : Outputs) → Ran [] true (held_of output pending.now) (held_of output pending.now))
-        (λ list. list ≡ after_finish true pending.now)) }
-    ensures memory { IfErr result (λ e. e ≡ OutOfMemory) }
-{
-    if pending.is_kept_state_alone() {
-        return Ok(None);
-    }
-    Ok(Some(pending.next(true)?))
-}
-
 /// Runs the pending commands on the caller's thread, and begins their list anew with the kept state. Where that is all that
 /// is pending, nothing is done.
 pub(crate) fn run_pending_alone<A: Allocator + Copy + Send>(
@@ -43,9 +25,10 @@ pub(crate) fn run_pending_alone<A: Allocator + Copy + Send>(
     ensures memory { IfErr result (λ e. e ≡ OutOfMemory) }
     ensures same { OnErr result ((output.new ≡ output.old) × (pending.new ≡ pending.old)) }
 {
-    let Some(next) = next_pending(pending)? else {
+    if pending.is_kept_state_alone() {
         return Ok(());
-    };
+    }
+    let next = pending.next(true)?;
     output.run_alone(pending.commands())?;
     *pending = next;
     Ok(())
@@ -64,9 +47,10 @@ pub(crate) fn run_pending<A: Allocator + Copy + Send + Sync, R: Threads + Sync, 
     ensures memory { IfErr result (λ e. e ≡ OutOfMemory) }
     ensures same { OnErr result ((output.new ≡ output.old) × (pending.new ≡ pending.old)) }
 {
-    let Some(begun) = next_pending(pending)? else {
+    if pending.is_kept_state_alone() {
         return Ok(());
-    };
+    }
+    let begun = pending.next(true)?;
     output.run_with_workers(rt, pending.commands(), workers, gate)?;
     *pending = begun;
     Ok(())
@@ -82,9 +66,10 @@ pub(crate) fn run_pending_by_crew<A: Allocator + Copy + Send + Sync, R: Wait, G:
     ensures memory { IfErr result (λ e. e ≡ OutOfMemory) }
     ensures same { OnErr result ((output.new ≡ output.old) × (pending.new ≡ pending.old)) }
 {
-    let Some(fresh) = next_pending(pending)? else {
+    if pending.is_kept_state_alone() {
         return Ok(());
-    };
+    }
+    let fresh = pending.next(true)?;
     output.run_by_crew(pending.commands(), crew)?;
     *pending = fresh;
     Ok(())

@@ -1,4 +1,3 @@
-use Rattle.std.proofs.Common.{◌≡◌}
 use Rattle.tileblock.specs.Surface.{pixel_of}
 use Rattle.tileprog.proofs.Several.{alone_drawn, alone_counts}
 use Rattle.immediate.proofs.Ran.{programs_ran}

@@ -1,4 +1,4 @@
-use Rattle.std.proofs.Common.{rules, ap, sym, ◌≡◌, ◌∙◌, ℕ, List, get_or, replicate}
+use Rattle.std.proofs.Common.{rules, ap, sym, ◌∙◌, ℕ, List, get_or, replicate}
 use Rattle.tileblock.specs.Surface.{pixel_of}
 use Rattle.binner.specs.Compiled.{Compilation}
 use Rattle.tileprog.specs.Programs.{pixel_by_all, lists_of, tiles_of}

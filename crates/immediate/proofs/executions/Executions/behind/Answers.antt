@@ -1,4 +1,4 @@
-use Rattle.std.proofs.Common.{sym, ap, ◌≡◌, ◌∙◌, ◌++◌, [], ℕ, List, map}
+use Rattle.std.proofs.Common.{sym, ap, ◌∙◌, ◌++◌, ℕ, List, map}
 use Rattle.std.specs.Prelude.{Bool}
 use Rattle.gfxspec.specs.Commands.{Command}
 use Rattle.gfxspec.specs.Predication.{performed, result_of}

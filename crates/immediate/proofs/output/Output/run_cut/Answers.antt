@@ -1,4 +1,4 @@
-use Rattle.std.proofs.Common.{◌≡◌, ◌∙◌, ap, sym, subst, map}
+use Rattle.std.proofs.Common.{◌∙◌, ap, sym, subst, map}
 use Rattle.cmdlist.specs.Seen.{command_value}
 use Rattle.immediate.specs.Batched.{HasDrawn, cut_over}
 use Rattle.immediate.proofs.Drawn.{drawn_is_run, ok_given}

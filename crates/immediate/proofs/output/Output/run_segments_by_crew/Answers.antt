@@ -1,4 +1,4 @@
-use Rattle.std.proofs.Common.{◌∙◌, [], ◌∷◌}
+use Rattle.std.proofs.Common.{◌∙◌, []}
 use Rattle.tileprog.specs.Programs.{AllRan, lists_of}
 use Rattle.tileprog.specs.Several.{behind_it}
 use Rattle.tileprog.proofs.Several.{can_run_behind}
