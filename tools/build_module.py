@@ -42,7 +42,7 @@ def toolchain():
     """The folder of the toolchain."""
     rt = shutil.which("rt")
     if rt is None:
-        raise NotBuilt("the command rt is missing: it comes with the toolchain, rattle-kit-13f")
+        raise NotBuilt("the command rt is missing: it comes with the toolchain, rattle-kit-13")
     return pathlib.Path(os.path.realpath(rt)).parent.parent
 
 

@@ -69,7 +69,7 @@ def command(script, image):
         return [program, script, image]
     except ProgramMissing as error:
         if shutil.which("rt") is None:
-            sys.exit(f"first_picture.py: {error}\nThe command rt isn't on the path either: it comes with the toolchain, rattle-kit-13f.")
+            sys.exit(f"first_picture.py: {error}\nThe command rt isn't on the path either: it comes with the toolchain, rattle-kit-13.")
     say("The device is compiled with checks, and without a proof: 30 to 70 seconds on the machines that were measured.")
     return ["rt", "try", "--", script, image]
 

@@ -62,7 +62,7 @@ def run(words, **how):
 def proved_archive():
     """The static library of the crate, as `rt lib` builds it."""
     if shutil.which("rt") is None:
-        raise NotBuilt("the command rt is missing: it comes with the toolchain, rattle-kit-13f")
+        raise NotBuilt("the command rt is missing: it comes with the toolchain, rattle-kit-13")
     print("rt lib, in crates/yuzuratchet", flush=True)
     run(["rt", "lib"], cwd=CRATE)
     return CRATE / "out" / "libyuzuratchet.a"

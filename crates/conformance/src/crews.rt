@@ -2,15 +2,15 @@
 //! thread and no memory is there for.
 
 use crate::calls::{list_of, record_all};
-use crate::meeting::AllAtOnce;
+use crate::meeting::{AllAtOnce, Meeting};
 use cmdlist::{Call, CommandList};
 use gfxspec::{GfxError, Topology, Vertex};
 use immediate::{ImmediateContext, RunCrew};
 use refusing::Refusing;
 use std::alloc::{Allocator, Global};
 use std::sync::Wait;
-use std::sync::atomic::AtomicU64;
 use std::sync::atomic::Ordering::SeqCst;
+use std::sync::atomic::{AtomicBool, AtomicU64};
 use std::test::Fail;
 use std::thread;
 use std::thread::Threads;
@@ -184,6 +184,57 @@ fn one_tile_is_offered_to_nobody(rt: HostRuntime) -> Result<(), Fail> {
     let crew = RunCrew::new(&rt, &alloc, &bells, &gate);
     clear_one_tile(alloc, &crew)?;
     assert!(rt; gate.claims.load(SeqCst) == 0);
+    Ok(())
+}
+
+/// Once it is told to, holds the first claims of a run until four workers have come to theirs.
+#[derive(Drop)]
+struct LaterMeeting {
+    is_on: AtomicBool,
+    first_claims: Meeting,
+}
+
+impl Gate for LaterMeeting {
+    fn before_claim(&self, _worker: u32, turn: u64) {
+        if turn == 0 && self.is_on.load(SeqCst) {
+            self.first_claims.wait();
+        }
+    }
+
+    fn after_hand_in(&self, _worker: u32, _turn: u64) {}
+}
+
+/// Clears a target of two tiles by a crew, and then one of six, at which its threads meet.
+fn clear_few_and_many<R: Threads + Wait + Sync>(
+    alloc: Global,
+    crew: &RunCrew<'_, '_, Global, R, LaterMeeting>,
+) -> Result<(), GfxError> {
+    let mut few = ImmediateContext::new(alloc, 64, 32)?;
+    let mut many = ImmediateContext::new(alloc, 96, 64)?;
+    record_all(&mut few, &[Call::ClearColor([1; 4])])?;
+    record_all(&mut many, &[Call::ClearColor([2; 4])])?;
+    thread::scope(thread::scope_env(), crew.rt, |scope| {
+        start_crews(crew.rt, scope, &crew.compiling, &crew.drawing, crew.gate);
+        let cleared = few.flush_by_crew(crew);
+        crew.gate.is_on.store(true, SeqCst);
+        let cleared = cleared.and(many.flush_by_crew(crew));
+        crew.close();
+        cleared
+    })
+}
+
+// The first run asks for one thread, the second for three.
+#[test]
+fn a_later_run_starts_more_threads(rt: HostRuntime) -> Result<(), Fail> {
+    let alloc: Global = rt.alloc();
+    let bells = Bells::new(3);
+    let gate = LaterMeeting {
+        is_on: AtomicBool::new(false),
+        first_claims: Meeting::new(4),
+    };
+    let crew = RunCrew::new(&rt, &alloc, &bells, &gate);
+    clear_few_and_many(alloc, &crew)?;
+    assert!(rt; gate.first_claims.all_came());
     Ok(())
 }
 

@@ -50,10 +50,10 @@ fn indices<A: Allocator>(alloc: A) -> Result<Vec<u16, A>, GfxError> {
 }
 
 /// A list of three large draws of these vertices, one of them by indices, with a clear between them, and a small one at its end.
-fn large_of<A: Allocator + Copy>(
+fn large_of<'x, A: Allocator + Copy>(
     alloc: A,
-    vertices: &[Vertex],
-    indices: &[u16],
+    vertices: &'x [Vertex],
+    indices: &'x [u16],
 ) -> Result<CommandList<A>, GfxError> {
     list_of(
         alloc,

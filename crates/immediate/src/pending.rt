@@ -101,9 +101,9 @@ pub(crate) fn run_behind_by_crew<A: Allocator + Copy + Send + Sync, R: Wait, G: 
     ensures ok { OnOk result (HasExecuted (cut_over output.old executions) (held_of output.old pending.old) (held_of output.new pending.new)) }
     ensures err { OnErr result ((output.new ≡ output.old) × (pending.new ≡ pending.old)) }
 {
-    let fresh = pending.next(true)?;
+    let behind = pending.next(true)?;
     let Executions { segments, taken } = executions;
     output.run_segments_by_crew(segments, taken, crew)?;
-    *pending = fresh;
+    *pending = behind;
     Ok(())
 }
