@@ -42,7 +42,7 @@ HERE = pathlib.Path(__file__).resolve().parent
 MORE = {
     "large-triangles": 8, "small-triangles": 16, "executed-lists": 8, "clears": 10, "large-xor": 8, "shadow-volumes": 8, "ten-tiles": 20,
     "clear": 100, "one-triangle": 40, "indexed-strip": 8, "idle-pixels": 1, "long-script": 1, "largest-target": 10, "largest-clear": 25,
-    "many-executions": 1, "many-finishes": 4, "many-flushes": 4, "smallest": 1_000,
+    "many-executions": 1, "many-finishes": 4, "many-flushes": 4, "smallest": 1_000, "asked-small": 1, "asked-large": 1,
 }
 
 

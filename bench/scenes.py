@@ -258,6 +258,29 @@ def many_executions(scene):
     return executed(context.finish_command_list(), 20_000)
 
 
+def asked(legs, times):
+    """What draws a triangle with two legs so long, and asks for a pixel behind it, so often: each time is a run of its own."""
+
+    def add(immediate):
+        immediate.ia_set_vertices([(x, y, 100, (1, 2, 3, 255)) for x, y in ((1, 1), (1 + legs, 1), (1, 1 + legs))])
+        immediate.ia_set_topology(LIST)
+        for _ in range(times):
+            immediate.draw(3)
+            immediate.pixel(3, 3)
+
+    return add
+
+
+def asked_small(scene):
+    """20,000 triangles with legs of 60 pixels on a target of 256 by 256, and a question behind each: runs of some 4 microseconds."""
+    return asked(60, 20_000)
+
+
+def asked_large(scene):
+    """5,000 triangles with legs of 230 pixels, and a question behind each: runs of some 30 microseconds."""
+    return asked(230, 5_000)
+
+
 def many_finishes(scene):
     """20,000 empty lists of one context."""
 
@@ -283,13 +306,14 @@ SCENES = {
     "large-xor": large_xor, "shadow-volumes": shadow_volumes, "ten-tiles": ten_tiles, "clear": clear, "one-triangle": one_triangle,
     "indexed-strip": indexed_strip, "idle-pixels": idle_pixels, "long-script": long_script, "largest-target": largest_target, "largest-clear": largest_clear,
     "many-executions": many_executions, "many-finishes": many_finishes, "many-flushes": many_flushes, "smallest": smallest,
+    "asked-small": asked_small, "asked-large": asked_large,
 }
 
 
 # the sides of the targets that aren't 2,048 by 2,048
 SIDES = {
     "long-script": 1, "largest-target": TARGET_SIDE, "largest-clear": TARGET_SIDE,
-    "many-executions": 64, "many-finishes": 64, "many-flushes": 64, "smallest": 64,
+    "many-executions": 64, "many-finishes": 64, "many-flushes": 64, "smallest": 64, "asked-small": 256, "asked-large": 256,
 }
 
 

@@ -21,7 +21,7 @@ use crate::lists::Lists;
 use crate::setup::TriSetup;
 use binmem::{Bins, SealedBins, Words};
 use cmdlist::Command;
-use gfxspec::{DepthStencil, GfxError, Size, tile_count};
+use gfxspec::{DepthStencil, GfxError, Size, TILE_SIDE, tile_count};
 use std::alloc::{AllocError, Allocator};
 use std::marker::Model;
 use std::thread::Threads;
@@ -47,6 +47,17 @@ impl<A: Allocator> Model for Compiled<A> {
     ghost view = { λ c. record { size = c.size; issues = c.issues; numbers = c.bins; touched = c.touched.items; tables = record { states = c.states.items; triangles = c.triangles.items; colors = c.colors.items; depths = c.depths.items } } };
 
     ghost invariant = { λ c. IsCompilation (record { size = c.size; issues = c.issues; numbers = c.bins; touched = c.touched.items; tables = record { states = c.states.items; triangles = c.triangles.items; colors = c.colors.items; depths = c.depths.items } }) };
+}
+
+/// The pixels of a whole tile.
+const TILE_PIXELS: usize = (TILE_SIDE * TILE_SIDE) as usize;
+
+/// How many pixels of a target the rectangle round a triangle has.
+fn pixels_round(triangle: &TriSetup, size: Size) -> usize {
+    let bounds = &triangle.bounds;
+    let width = bounds.right.min(size.width).saturating_sub(bounds.left);
+    let height = bounds.bottom.min(size.height).saturating_sub(bounds.top);
+    (width as usize).saturating_mul(height as usize)
 }
 
 /// No tile has a counted triangle.
@@ -213,6 +224,23 @@ impl<A: Allocator + Copy> Compiled<A> {
         ensures sound { IsCompilation self.now }
     {
         self.touched.as_slice()
+    }
+
+    /// How many pixels the words of all tiles reach, by the rectangles round triangles and the tiles that clears have; so many at
+    /// most are counted.
+    pub fn pixels_reached(&self, most: usize) -> usize
+        ensures { result ≤ most }
+    {
+        let clears = self.colors.len().saturating_add(self.depths.len());
+        let cleared = self.touched.len().saturating_mul(TILE_PIXELS);
+        let mut pixels = clears.saturating_mul(cleared);
+        for triangle in &self.triangles {
+            if pixels >= most {
+                return most;
+            }
+            pixels = pixels.saturating_add(pixels_round(triangle, self.size));
+        }
+        pixels.min(most)
     }
 
     /// The words of a tile, as numbers.

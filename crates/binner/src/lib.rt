@@ -4,6 +4,9 @@
 //! tile is to run its words (`gfxspec` has 32 by 32 pixels to a tile, `tileword` the words). A triangle's word stands only in
 //! tiles where each of its edges holds somewhere, and names the edges that fail somewhere. The trick: nothing is kept by
 //! tile but its words and one flag, so compiling takes the time of the tiles that a list touches.
+//!
+//! Lists can be cut into segments, lists of their own that mean the same one behind the other (`cut`), so that several threads
+//! compile them; and several segments become one list (`Batch`).
 #![tactic(auto)]
 
 mod ahead;

@@ -26,9 +26,19 @@ fn corner(x: i32, y: i32) -> Vertex {
     }
 }
 
-/// A list that clears the colours and counts a triangle over two of six tiles and more.
+/// Sixteen times the same triangle: so many pixels that threads are woken for it.
+fn sixteen_triangles() -> [Vertex; 48] {
+    let mut corners = [corner(0, 0); 48];
+    for triangle in 0..16usize {
+        corners[3 * triangle + 1] = corner(70, 0);
+        corners[3 * triangle + 2] = corner(0, 60);
+    }
+    corners
+}
+
+/// A list that clears the colours and counts triangles over two of six tiles and more.
 fn clearing<A: Allocator + Copy>(alloc: A, shade: u8) -> Result<CommandList<A>, GfxError> {
-    let corners = [corner(0, 0), corner(70, 0), corner(0, 60)];
+    let corners = sixteen_triangles();
     list_of(
         alloc,
         &[
@@ -36,7 +46,7 @@ fn clearing<A: Allocator + Copy>(alloc: A, shade: u8) -> Result<CommandList<A>, 
             Call::SetVertices(&corners),
             Call::SetTopology(Topology::TriangleList),
             Call::Begin(0),
-            Call::Draw(3, 0),
+            Call::Draw(48, 0),
             Call::End(0),
         ],
     )
@@ -155,21 +165,36 @@ impl Gate for Others {
     fn after_hand_in(&self, _worker: u32, _turn: u64) {}
 }
 
-/// Clears a target of one tile so often by the threads of a crew.
-fn clear_one_tile<R: Threads + Wait + Sync, G: Gate + Sync>(
-    alloc: Global,
+/// Clears a target by a crew, as often as there are shades from one on.
+fn clear_often<R: Threads + Wait + Sync, G: Gate + Sync>(
+    context: &mut ImmediateContext<Global>,
     crew: &RunCrew<'_, '_, Global, R, G>,
+    first: u8,
 ) -> Result<(), GfxError> {
-    let mut context = ImmediateContext::new(alloc, 32, 32)?;
+    let mut answer = Ok(());
+    for shade in first..100u8 {
+        answer = answer.and(record_all(context, &[Call::ClearColor([shade; 4])]));
+        answer = answer.and(context.flush_by_crew(crew));
+    }
+    answer
+}
+
+/// Clears a target of so many pixels a side by the threads of a crew once, and then 99 times: how many claims others than the
+/// caller made for the first, and for all.
+fn claims_of_others<R: Threads + Wait + Sync>(
+    alloc: Global,
+    crew: &RunCrew<'_, '_, Global, R, Others>,
+    side: u32,
+) -> Result<(u64, u64), GfxError> {
+    let mut context = ImmediateContext::new(alloc, side, side)?;
     thread::scope(thread::scope_env(), crew.rt, |scope| {
         start_crews(crew.rt, scope, &crew.compiling, &crew.drawing, crew.gate);
-        let mut answer = Ok(());
-        for shade in 0..100u8 {
-            answer = answer.and(record_all(&mut context, &[Call::ClearColor([shade; 4])]));
-            answer = answer.and(context.flush_by_crew(crew));
-        }
+        let one = clear_often(&mut context, crew, 99);
+        let first = crew.gate.claims.load(SeqCst);
+        let many = clear_often(&mut context, crew, 1);
         crew.close();
-        answer
+        one.and(many)?;
+        Ok((first, crew.gate.claims.load(SeqCst)))
     })
 }
 
@@ -182,8 +207,22 @@ fn one_tile_is_offered_to_nobody(rt: HostRuntime) -> Result<(), Fail> {
         claims: AtomicU64::new(0),
     };
     let crew = RunCrew::new(&rt, &alloc, &bells, &gate);
-    clear_one_tile(alloc, &crew)?;
-    assert!(rt; gate.claims.load(SeqCst) == 0);
+    let (_, claims) = claims_of_others(alloc, &crew, 32)?;
+    assert!(rt; claims == 0);
+    Ok(())
+}
+
+// What draws little is the caller's alone, but for the first run.
+#[test]
+fn little_is_offered_to_nobody(rt: HostRuntime) -> Result<(), Fail> {
+    let alloc: Global = rt.alloc();
+    let bells = Bells::new(3);
+    let gate = Others {
+        claims: AtomicU64::new(0),
+    };
+    let crew = RunCrew::new(&rt, &alloc, &bells, &gate);
+    let (first, claims) = claims_of_others(alloc, &crew, 96)?;
+    assert!(rt; claims == first);
     Ok(())
 }
 
@@ -204,13 +243,13 @@ impl Gate for LaterMeeting {
     fn after_hand_in(&self, _worker: u32, _turn: u64) {}
 }
 
-/// Clears a target of two tiles by a crew, and then one of six, at which its threads meet.
+/// Clears a target of two tiles by a crew, and then one of 81, at which its threads meet.
 fn clear_few_and_many<R: Threads + Wait + Sync>(
     alloc: Global,
     crew: &RunCrew<'_, '_, Global, R, LaterMeeting>,
 ) -> Result<(), GfxError> {
     let mut few = ImmediateContext::new(alloc, 64, 32)?;
-    let mut many = ImmediateContext::new(alloc, 96, 64)?;
+    let mut many = ImmediateContext::new(alloc, 288, 288)?;
     record_all(&mut few, &[Call::ClearColor([1; 4])])?;
     record_all(&mut many, &[Call::ClearColor([2; 4])])?;
     thread::scope(thread::scope_env(), crew.rt, |scope| {

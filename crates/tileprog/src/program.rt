@@ -13,6 +13,13 @@ use tileblock::{OpenTile, TileBlock};
 use tilecore::TileJob;
 use tilerun::BlockJob;
 
+/// Beside the first worker.
+const MOST_HELPERS: usize = 15;
+
+/// How many pixels are worth waking one more worker for. They take some ten microseconds; a thread is awake after as many, and what it
+/// draws on has to come into its processor's cache.
+const PIXELS_EACH: usize = 24 * 32 * 32;
+
 /// A compiled list, or several that run one behind the other, as a job whose tiles are those that have words in one of them.
 /// On a board each has the number of its place among these, so a list that draws on ten tiles of a large target pays for ten.
 /// The job owns its lists, so that threads may keep it beside its board for as long as they run tiles.
@@ -129,6 +136,14 @@ impl<A: Allocator + Copy + Send> TileJob for TileProgram<A> {
 
     fn issues(&self) -> u32 {
         self.first.issues()
+    }
+
+    fn helpers(&self) -> u32 {
+        if self.behind.is_some() {
+            return MOST_HELPERS as u32;
+        }
+        let pixels = self.first.pixels_reached(MOST_HELPERS * PIXELS_EACH);
+        (pixels / PIXELS_EACH) as u32
     }
 
     fn number(tile: &PlacedTile<A>) -> u32
