@@ -100,6 +100,18 @@ fn words_of_four_tiles(rt: HostRuntime) -> Result<(), Fail> {
     Ok(())
 }
 
+// Two rectangles of 33 by 33 pixels, and four tiles that a clear has.
+#[test]
+fn pixels_of_rectangles_and_tiles(rt: HostRuntime) -> Result<(), Fail> {
+    let halves = compiled_for(rt.alloc(), &four_tiles(rt.alloc())?, 33)?;
+    assert!(rt; halves.pixels_reached(10_000) == 2 * 33 * 33);
+    assert!(rt; halves.pixels_reached(1_500) == 1_500);
+    let clear = list_of(rt.alloc(), &[Call::ClearColor([1; 4])])?;
+    let cleared = compiled_for(rt.alloc(), &clear, 33)?;
+    assert!(rt; cleared.pixels_reached(10_000) == 4 * 32 * 32);
+    Ok(())
+}
+
 /// A context with a half of 4 by 4 pixels.
 fn half(alloc: Global) -> Result<DeferredContext<Global>, GfxError> {
     let corners = [at(0, 0, 1), at(4, 0, 1), at(0, 4, 1)];
