@@ -1,5 +1,5 @@
 -- A list that is compiled behind others, command by command.
-use Rattle.std.proofs.Common.{◌≡◌, ◌∙◌, ap, sym, subst, refl, arith, Bool, false, ℕ, ◌+◌, ◌*◌, ◌<◌, ◌≤◌, true≢false, IsTrue, List, [], ◌∷◌, ◌++◌, length, map, take, drop, get_or, Some, append_assoc, replicate}
+use Rattle.std.proofs.Common.{◌≡◌, ◌∙◌, ap, sym, subst, refl, arith, Bool, false, ℕ, ◌+◌, ◌<◌, ◌≤◌, true≢false, IsTrue, List, [], ◌∷◌, ◌++◌, length, map, take, drop, get_or, Some, append_assoc, replicate}
 use Rattle.std.proofs.lemmas.List.{append-nil, take_all, take-append-drop, map-append}
 use Rattle.std.proofs.lemmas.List.Elements.{filter_map-append}
 use Rattle.gfxspec.specs.State.{Settings}
@@ -16,15 +16,14 @@ use Rattle.binner.specs.declared.compiling.Compiling.{Compiling}
 use Rattle.binner.specs.declared.entry.Current.{Current}
 use Rattle.binner.specs.Meaning.{entry_of, AreBits}
 use Rattle.binner.specs.Compiling.{HasCompiled, HasRoom, IsSound, IsEntry, IsCurrent, Performs, SameTables}
-use Rattle.binner.specs.Compiled.{IsCompilation}
 use Rattle.binner.specs.Compiling.{tables, compilation_of}
-use Rattle.binner.specs.Batched.{IsBatch, MeansItems}
+use Rattle.binner.specs.Batched.{MeansItems}
 use Rattle.gfxspec.specs.Tiles.{tile_rect}
 use Rattle.binner.specs.Lists.{at}
 use Rattle.binner.proofs.Accepted.{done, done_more}
 use Rattle.binner.proofs.Whole.{kept_sound, kept_means}
 use Rattle.binner.proofs.Noting.{nothing_open, zeros}
-use Rattle.binner.proofs.Ending.{program_means, program_fits}
+use Rattle.binner.proofs.Ending.{program_means}
 
 -- ---- where no issue begins, none is open
 
@@ -123,18 +122,5 @@ module _ {A : Type 0} (results : ℕ → Bool) (cs : List (Code A)) where
 -- ---- the end
 
 module _ {A : Type 0} (c : Compiling A) where
-  pub batch_compiled : IsBatch c → IsCompilation (compilation_of 0 c)
-  batch_compiled h = record {
-    size = h.sound.lists.size;
-    issues = omega arith;
-    tiles = h.sound.lists.bins;
-    short = λ k. most _ _ _ _ (h.sound.short k) h.room.triangles h.room.clears;
-    programs = λ k l. program_fits (tables c) (tile_rect c.lists.size k) h.items c.current (at c.lists k) (h.compiled k l);
-    touched = h.sound.lists.once;
-  }
-    where
-      most : (n t c d : ℕ) → n ≤ 2 * t + (c + d) → t ≤ 65536 → c + d ≤ 65536 → n ≤ 196608
-      most n t c d p q r = omega arith
-
   pub batch_means : (is : List Item) → HasCompiled c is → MeansItems is (compilation_of 0 c)
   batch_means is h k l = program_means (tables c) (tile_rect c.lists.size k) is c.current (at c.lists k) (h k l)

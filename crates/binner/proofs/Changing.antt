@@ -1,8 +1,7 @@
 -- Changes of one tile's list.
-use Rattle.std.proofs.Common.{◌≡◌, ◌∙◌, ap, sym, subst, refl, arith, ℕ, ◌+◌, ◌≤◌, inl, inr, ⊎_elim, List, [], ◌∷◌, ◌++◌, length, Some, true, length-append}
+use Rattle.std.proofs.Common.{◌≡◌, ◌∙◌, ap, sym, subst, refl, arith, ℕ, ◌+◌, ◌≤◌, inl, inr, List, [], ◌∷◌, ◌++◌, length, Some, true, length-append}
 use Rattle.std.specs.Prelude.{Result, Ok, Err, OnOk, None, false}
 use Rattle.std.specs.Result.{is_err}
-use Rattle.std.proofs.lemmas.Bool.{cases_eq}
 use Rattle.gfxspec.specs.declared.geometry.PixelRect.{PixelRect}
 use Rattle.gfxspec.specs.Raster.{Triangle}
 use Rattle.classify.specs.Region.{IsClassOf}
@@ -11,11 +10,11 @@ use Rattle.tileword.specs.declared.edge_mask.EdgeMask.{EdgeMask}
 use Rattle.tileword.specs.declared.word.Word.{Word}
 use Rattle.tileword.specs.declared.word.Word.TheVariants.{State, Tri}
 use Rattle.tileword.specs.EdgeMask.{edge_bits}
-use Rattle.tileword.specs.Word.{encoded, decoded}
+use Rattle.tileword.specs.Word.{encoded}
 use Rattle.binmem.specs.Lists.{IsTail}
 use Rattle.binner.specs.declared.entry.Current.{Current}
 use Rattle.binner.specs.declared.lists.Lists.{Lists}
-use Rattle.binner.specs.Lists.{TileList, at, has_some, IsShort, ChangesAt, IsDrawnSince, GainsWord, PutsInForce, AddsTriangle, CanCut, both_left, TakesClear}
+use Rattle.binner.specs.Lists.{TileList, at, has_some, ChangesAt, IsDrawnSince, GainsWord, PutsInForce, AddsTriangle, TakesClear}
 use Rattle.binner.proofs.Lasting.{drawn_of_tail}
 use Rattle.binner.proofs.Pushing.{flagged, some_pushed}
 
@@ -69,18 +68,6 @@ cleared_longer w o n (inr h) = subst (Longer 1 o) (sym h.cut) (few (length o.num
     few a p = omega arith
 
 module _ {A : Type 0} (k : ℕ) (old new : Lists A) where
-  pub short_at : (m n : ℕ) (P : TileList → TileList → Type 0) → ((o w : TileList) → P o w → Longer m o w) → ChangesAt k P old new → IsShort n old → IsShort (n + m) new
-  short_at m n P longer c h j = ⊎_elim
-      (λ e. subst (λ i. length (at new i).numbers ≤ n + m) (sym e) (more _ _ (longer _ _ c.here) (h k)))
-      (λ ne. same _ _ (ap (λ (a : TileList). length a.numbers) (c.others j ne)) (h j))
-      (cases_eq j k)
-    where
-      more : (a b : ℕ) → a ≤ b + m → b ≤ n → a ≤ n + m
-      more a b p q = omega arith
-
-      same : (a b : ℕ) → a ≡ b → b ≤ n → a ≤ n + m
-      same a b p q = omega arith
-
   pub weaker : (P Q : TileList → TileList → Type 0) → ((o w : TileList) → P o w → Q o w) → ChangesAt k P old new → ChangesAt k Q old new
   weaker P Q f c = record { size = c.size; here = f _ _ c.here; others = c.others }
 
@@ -91,9 +78,6 @@ unchanged k l P h = record { size = refl; here = h; others = λ j ne. refl }
 
 pub stays_forced : {A : Type 0} (k : ℕ) (s : Current) (l : Lists A) (tail : List ℕ) → IsTail (at l k).numbers tail → IsDrawnSince s.first tail → ChangesAt k (PutsInForce s) l l
 stays_forced k s l tail h d = unchanged k l (PutsInForce s) (inl (drawn_of_tail s.first (at l k).numbers tail h d, refl))
-
-pub comes_in_force : {A : Type 0} (k : ℕ) (s : Current) (old new : Lists A) → ChangesAt k (GainsWord (State s.entry)) old new → ChangesAt k (PutsInForce s) old new
-comes_in_force k s old new c = weaker k old new (GainsWord (State s.entry)) (PutsInForce s) (λ o w h. inr h) c
 
 -- ---- a triangle
 
@@ -118,10 +102,3 @@ drawn k s number bits mask tri r old mid near new e h c d f = record {
 
 pub cleared : {A : Type 0} (k : ℕ) (w : Word) (old new : Lists A) → ChangesAt k (GainsWord w) old new → ChangesAt k (TakesClear w) old new
 cleared k w old new c = weaker k old new (GainsWord w) (TakesClear w) (λ o n h. inl h) c
-
-pub cleared_by_cut : {A : Type 0} (k number : ℕ) (w : Word) (old new : Lists A) → CanCut number w (at old k) → decoded (encoded w) ≡ Some w → ChangesAt k (λ o n. n ≡ both_left number w o) old new → ChangesAt k (TakesClear w) old new
-cleared_by_cut k number w old new can d c = record {
-  size = c.size;
-  here = inr (record { number = number; can = can; cut = c.here; decodes = d });
-  others = c.others;
-}

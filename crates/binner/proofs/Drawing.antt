@@ -11,7 +11,7 @@ use Rattle.binner.specs.declared.setup.TriSetup.{TriSetup}
 use Rattle.binner.specs.declared.compiling.Compiling.{Compiling}
 use Rattle.binner.specs.Meaning.{IsSetupOf, AreBits, entry_of}
 use Rattle.binner.specs.Lists.{at}
-use Rattle.binner.specs.Compiling.{tables, HasCompiled, IsSound, IsEntry, IsCurrent, HasRoom, Enters, AddsSetup, Grows}
+use Rattle.binner.specs.Compiling.{tables, HasCompiled, IsSound, IsEntry, Enters, AddsSetup}
 use Rattle.gfxspec.proofs.TileLaws.{tile_within}
 use Rattle.binner.proofs.Steps.{skip_listed, small_tile}
 use Rattle.binner.proofs.Growing.{entered_means, entered_sound, setup_means, setup_sound}
@@ -108,39 +108,6 @@ module _ {A : Type 0} (old : Compiling A) (s : Settings) (bits : ℕ) (now : Cur
   pub drew_all : (new : Compiling A) (left : List Primitive) → left ≡ [] → Drew old new s bits now all left → (items : List Item) (opened : List ℕ) → AreBits bits opened → HasCompiled old items → HasCompiled new (items ++ drawn_items s opened all)
   drew_all new left is h items opened are c =
       subst (λ ps. HasCompiled new (items ++ drawn_items s opened ps)) (sym (append-nil h.done) ∙ ap (λ l. h.done ++ l) (sym is) ∙ h.split) (h.means items opened are c)
-
-  pub drew_grows : (new : Compiling A) (left : List Primitive) → Drew old new s bits now all left → Grows (length all) old new
-  drew_grows new left h = record {
-    size = h.size;
-    states = h.states;
-    drawn = few _ _ _ h.triangles;
-    clears = same _ _ _ _ (ap length h.colors) (ap length h.depths);
-  }
-    where
-      few : (t l r : ℕ) → t + l ≤ r → t ≤ r
-      few t l r h = omega arith
-
-      same : (a b c d : ℕ) → a ≡ c → b ≡ d → a + b ≤ c + d + 1
-      same a b c d p q = omega arith
-
-  pub drew_current : (new : Compiling A) (left : List Primitive) → Drew old new s bits now all left → IsCurrent new s bits
-  drew_current new left h n e = subst (IsEntry new.states.items (entry_of s bits)) (same n (sym h.current ∙ e)) h.place
-    where
-      same : (n : Current) → Some now ≡ Some n → now ≡ n
-      same n e = cc
-
-  -- what the next step asks
-  pub drew_room : (new : Compiling A) (left : List Primitive) → length old.triangles.items + length all ≤ 65536 → length old.colors.items + length old.depths.items ≤ 65536 → Drew old new s bits now all left → HasRoom new
-  drew_room new left a b h = record {
-    triangles = few _ _ _ h.triangles a;
-    clears = same _ _ _ _ (ap length h.colors) (ap length h.depths) b;
-  }
-    where
-      few : (t l r : ℕ) → t + l ≤ r → r ≤ 65536 → t ≤ 65536
-      few t l r h k = omega arith
-
-      same : (a b c d : ℕ) → a ≡ c → b ≡ d → c + d ≤ 65536 → a + b ≤ 65536
-      same a b c d p q h = omega arith
 
   pub drew_more : (new : Compiling A) (p : Primitive) (left whole : List Primitive) → whole ≡ p ∷ left → length old.triangles.items + length all ≤ 65536 → Drew old new s bits now all whole → length new.triangles.items < 65536
   drew_more new p left whole is a h = few _ _ _ _ (ap length is) h.triangles a

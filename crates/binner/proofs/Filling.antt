@@ -1,5 +1,5 @@
 -- A draw whose triangles are set up already.
-use Rattle.std.proofs.Common.{◌≡◌, sym, subst, refl, ℕ, ◌+◌, ◌<◌, ◌≤◌, inl, inr, List, [], ◌∷◌, length, arith}
+use Rattle.std.proofs.Common.{◌≡◌, sym, subst, refl, ℕ, inl, inr, List, [], ◌∷◌, length, arith}
 use Rattle.gfxspec.specs.State.{Settings}
 use Rattle.gfxspec.specs.Assembly.{Primitive}
 use Rattle.gfxspec.specs.Commands.{Command, Draw, DrawIndexed}
@@ -10,7 +10,7 @@ use Rattle.binner.specs.declared.compiling.Compiling.{Compiling}
 use Rattle.binner.specs.Meaning.{IsSetupOf}
 use Rattle.binner.specs.Compiling.{AddsSetup}
 use Rattle.binner.specs.Setups.{ReachesNothing, AreSetups, drawn_by}
-use Rattle.binner.proofs.Drawing.{Drew, drew_setup, drew_skip, drew_more}
+use Rattle.binner.proofs.Drawing.{Drew, drew_setup, drew_skip}
 
 -- how many triangles a command draws
 pub drawn_count : (s : Settings) (c : Command) → length (drawn_by s c) ≡ triangles_of s c
@@ -55,11 +55,6 @@ module _ {A : Type 0} (old mid : Compiling A) (s : Settings) (bits : ℕ) (now :
 
   pub filled_all : (ts : List TriSetup) → ts ≡ [] → Filled old mid s bits now all ts → Drew old mid s bits now all []
   filled_all ts e h = all_dropped h.left h.drew (subst (AreSetups s old.lists.size h.left) e h.made)
-
-  pub filled_more : (t : TriSetup) (rest ts : List TriSetup) → ts ≡ t ∷ rest → length old.triangles.items + length all ≤ 65536 → Filled old mid s bits now all ts → length mid.triangles.items < 65536
-  filled_more t rest ts e few h =
-      let n = next h.left t rest h.drew (subst (AreSetups s old.lists.size h.left) e h.made) in
-      drew_more old s bits now all mid n.p n.left (n.p ∷ n.left) refl few n.drew
 
   pub filled_setup : (new : Compiling A) (t : TriSetup) (rest ts : List TriSetup) → ts ≡ t ∷ rest → Filled old mid s bits now all ts → AddsSetup t now mid new → length new.lists.bins ≡ length mid.lists.bins → Filled old new s bits now all rest
   filled_setup new t rest ts e h a b =

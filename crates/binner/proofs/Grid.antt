@@ -8,7 +8,7 @@ use Rattle.gfxspec.specs.declared.geometry.Size.{Size}
 use Rattle.gfxspec.specs.declared.geometry.PixelRect.{PixelRect}
 use Rattle.gfxspec.specs.Raster.{Triangle}
 use Rattle.gfxspec.specs.Items.{is_in_rect}
-use Rattle.gfxspec.specs.Tiles.{tiles_along, tile_count, tile_rect, IsIn}
+use Rattle.gfxspec.specs.Tiles.{tiles_along, tile_rect, IsIn}
 use Rattle.tileword.specs.declared.word.Word.{Word}
 use Rattle.binner.specs.declared.entry.Current.{Current}
 use Rattle.binner.specs.declared.lists.Lists.{Lists}
@@ -27,9 +27,6 @@ pub record Partly {A : Type 0} (P : ℕ → TileList → TileList → Type 0) (o
   pub each : (k : ℕ) → Step (done k) (P k (at old k) (at new k)) (at new k ≡ at old k)
 
 module _ {A : Type 0} (P : ℕ → TileList → TileList → Type 0) (old : Lists A) where
-  pub nothing_done : (done : ℕ → Bool) → IsLists old → ((k : ℕ) → done k ≡ false) → Partly P old old done
-  nothing_done done l h = record { size = refl; bins = refl; sound = l; each = λ k. subst (λ b. Step b (P k (at old k) (at old k)) (at old k ≡ at old k)) (sym (h k)) refl }
-
   pub same_done : (new : Lists A) (d e : ℕ → Bool) → ((k : ℕ) → d k ≡ e k) → Partly P old new d → Partly P old new e
   same_done new d e same h = record { size = h.size; bins = h.bins; sound = h.sound; each = λ k. subst (λ b. Step b (P k (at old k) (at new k)) (at new k ≡ at old k)) (same k) (h.each k) }
 
@@ -84,12 +81,6 @@ none_above left right top u v = plain
     plain : ((nat_le left u && nat_lt u right) && (nat_le top v && nat_lt v (top))) ≡ false
     plain = grind (arith, nat_tests)
 
-none_of_row : (left right top y u v : ℕ) → rows_above left right top y u v ≡ rows_and_part left right top y left u v
-none_of_row left right top y u v = plain
-  where
-    plain : ((nat_le left u && nat_lt u right) && (nat_le top v && nat_lt v (y))) ≡ (((nat_le left u && nat_lt u right) && (nat_le top v && nat_lt v (y))) || (nat_eq v y && (nat_le left u && nat_lt u (left))))
-    plain = grind (arith, nat_tests)
-
 all_of_row : (left right top y u v : ℕ) → top ≤ y → rows_and_part left right top y right u v ≡ rows_above left right top (y + 1) u v
 all_of_row left right top y u v below = plain
   where
@@ -119,12 +110,6 @@ other_place : (along y x k : ℕ) → k ≢ y * along + x → (k % along ≢ x) 
 other_place along y x k ne = ⊎_elim (λ e. ⊎_elim (λ f. absurd (ne (sym (div-add-mod' k along) ∙ ap (λ n. n * along + k % along) f ∙ ap (λ n. y * along + n) e))) (λ n. inr n) (cases_eq (k / along) y)) (λ n. inl n) (cases_eq (k % along) x)
 
 module _ {A : Type 0} (P : ℕ → TileList → TileList → Type 0) (old : Lists A) (along left right top : ℕ) where
-  pub rows_begin : IsLists old → Partly P old old (by_rows along left right top top)
-  rows_begin l = nothing_done P old _ l (λ k. none_above left right top (k % along) (k / along))
-
-  pub row_begins : (new : Lists A) (y : ℕ) → Partly P old new (by_rows along left right top y) → Partly P old new (by_columns along left right top y left)
-  row_begins new y h = same_done P old new _ _ (λ k. none_of_row left right top y (k % along) (k / along)) h
-
   pub row_ends : (new : Lists A) (y column : ℕ) → top ≤ y → column ≡ right → Partly P old new (by_columns along left right top y column) → Partly P old new (by_rows along left right top (y + 1))
   row_ends new y column below whole h =
       same_done P old new _ _ (λ k. ap (λ x. rows_and_part left right top y x (k % along) (k / along)) whole ∙ all_of_row left right top y (k % along) (k / along) below) h
@@ -205,21 +190,7 @@ module _ {A : Type 0} (old new : Lists A) (tri : Triangle) (bounds : PixelRect) 
   pub rows_end : (left right top y : ℕ) → left ≡ bounds.left / 32 → right ≡ tiles_along (min bounds.right old.size.width) → top ≡ bounds.top / 32 → y ≡ tiles_along (min bounds.bottom old.size.height) → Partly Adds old new (by_rows (tiles_along old.size.width) left right top y) → EachChanges Takes old new
   rows_end left right top y p q r s h = all_taken (same_done Adds old new _ _ (λ k. rw (p, q, r, s) refl) h)
 
-nothing_between : (l r t b u v : ℕ) → (r ≤ l) ⊎ (b ≤ t) → rows_above l r t b u v ≡ false
-nothing_between l r t b u v h = plain h
-  where
-    plain : (r ≤ l) ⊎ (b ≤ t) → ((nat_le l u && nat_lt u r) && (nat_le t v && nat_lt v b)) ≡ false
-    plain (inl p) = grind (arith, nat_tests)
-    plain (inr p) = grind (arith, nat_tests)
-
-pub none_taken : {A : Type 0} (l : Lists A) (tri : Triangle) (bounds : PixelRect) (state : Current) (number : ℕ) → IsLists l → (tiles_along (min bounds.right l.size.width) ≤ bounds.left / 32) ⊎ (tiles_along (min bounds.bottom l.size.height) ≤ bounds.top / 32) → EachChanges (λ k. TakesTriangle tri bounds (tile_rect l.size k) state number) l l
-none_taken l tri bounds state number sound h =
-    all_taken l l tri bounds state number (nothing_done _ l _ sound (λ k. nothing_between _ _ _ _ (k % tiles_along l.size.width) (k / tiles_along l.size.width) h))
-
 -- ---- all tiles
-
-pub clears_begin : {A : Type 0} (w : Word) (l : Lists A) → IsLists l → Partly (λ k. TakesClear w) l l (λ k. nat_lt k 0)
-clears_begin w l s = nothing_done _ l _ s (λ k. grind (arith, nat_tests))
 
 pub one_cleared : {A : Type 0} (w : Word) (old mid new : Lists A) (t : ℕ) → Partly (λ k. TakesClear w) old mid (λ k. nat_lt k t) → ChangesAt t (TakesClear w) mid new → IsLists new → length new.bins ≡ length mid.bins → Partly (λ k. TakesClear w) old new (λ k. nat_lt k (t + 1))
 one_cleared w old mid new t h c s b =
@@ -233,18 +204,6 @@ one_cleared w old mid new t h c s b =
 
     other : (k t : ℕ) → k ≢ t → nat_lt k t ≡ nat_lt k (t + 1)
     other k t ne = grind (arith, nat_tests)
-
-pub all_cleared : {A : Type 0} (w : Word) (old new : Lists A) (t : ℕ) → tile_count old.size ≤ t → Partly (λ k. TakesClear w) old new (λ k. nat_lt k t) → EachChanges (λ k. TakesClear w) old new
-all_cleared w old new t h p = record { size = p.size; each = λ k l. by k (below k l) (p.each k) }
-  where
-    below : (k : ℕ) → k < tile_count old.size → nat_lt k t ≡ true
-    below k l = plain k (tile_count old.size) l h
-      where
-        plain : (k n : ℕ) → k < n → n ≤ t → nat_lt k t ≡ true
-        plain k n l h = grind (arith, nat_tests)
-
-    by : (k : ℕ) → nat_lt k t ≡ true → Step (nat_lt k t) (TakesClear w (at old k) (at new k)) (at new k ≡ at old k) → TakesClear w (at old k) (at new k)
-    by k e s = subst (λ b. Step b (TakesClear w (at old k) (at new k)) (at new k ≡ at old k)) e s
 
 pub right_within : (b w : ℕ) → tiles_along (min b w) ≤ tiles_along w
 right_within b w = omega arith

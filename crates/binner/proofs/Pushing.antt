@@ -200,21 +200,6 @@ abbrev pub flagged : Bool → TileList → TileList
 flagged now o = record { counted = o.counted || now; numbers = o.numbers }
 
 module _ {A : Type 0} (old new : Lists A) (tile : ℕ) (now : Bool) (l : IsLists old) (inside : tile < tile_count old.size) (size : new.size ≡ old.size) (bin : new.bins ≡ old.bins) (touched : new.touched.items ≡ old.touched.items) (counted : new.counted.items ≡ (if now then set old.counted.items tile true else old.counted.items)) where
-  counted_long : length new.counted.items ≡ length old.counted.items
-  counted_long = ap length counted ∙ by now
-    where
-      by : (b : Bool) → length (if b then set old.counted.items tile true else old.counted.items) ≡ length old.counted.items
-      by true = length-set old.counted.items tile true
-      by false = refl
-
-  pub noted_sound : IsLists new
-  noted_sound = record {
-    size = subst (λ s. is_size s ≡ true) (sym size) l.size;
-    bins = ap length bin ∙ l.bins ∙ ap tile_count (sym size);
-    counted = counted_long ∙ l.counted ∙ ap tile_count (sym size);
-    once = λ k. ap (times k) touched ∙ l.once k ∙ sym (ap (λ b. if has_some (words_of b k) then 1 else 0) bin);
-  }
-
   counted_here : slice_index_or new.counted.items tile false ≡ (slice_index_or old.counted.items tile false || now)
   counted_here = ap (λ cs. slice_index_or cs tile false) counted ∙ by now
     where

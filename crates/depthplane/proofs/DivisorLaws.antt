@@ -1,12 +1,10 @@
 -- A quotient by the inverse of its divisor.
 use Rattle.std.proofs.Common.{◌≡◌, ◌∙◌, ap, sym, arith, ℕ, ◌+◌, ◌-◌, ◌*◌, ◌/◌, ◌%◌, ◌<◌, ◌≤◌}
-use Rattle.std.specs.Prelude.{pos, negsuc}
-use Rattle.std.specs.Int.{int_rem_euclid}
+use Rattle.std.specs.Prelude.{pos}
 use Rattle.std.proofs.lemmas.Int.{ints}
 use Rattle.std.proofs.lemmas.Nat.{div-add-mod', mod_below, div-mul-add, mod-mul-add}
 use Rattle.std.proofs.Math.Nat.{add-mul, mul-add, mul-le-mul_left, mul-le-mul_right, mul_right_comm}
-use Rattle.depthplane.specs.Division.{IsDivision, IsDivisor, IsRest}
-use Rattle.depthplane.proofs.DivisionLaws.{Splits, only_split}
+use Rattle.depthplane.specs.Division.{IsDivisor}
 
 mul_assoc : (a b c : ℕ) → a * b * c ≡ a * (b * c)
 mul_assoc a b c = omega arith
@@ -63,34 +61,6 @@ next_parts n d g low least high =
     let is : (g + 1) * d + (n - g * d - d) ≡ n = omega (arith, low, least, spread) in
     let small : n - g * d - d < d = omega (arith, low, least, high) in
     (sym (div-mul-add (g + 1) d (n - g * d - d) small) ∙ ap (λ k. k / d) is, sym (mod-mul-add (g + 1) d (n - g * d - d) small) ∙ ap (λ k. k % d) is)
-
--- a number that isn't below 0, divided
-pub upward : (n d q r : ℕ) → 0 < d → q ≡ n / d % 4294967296 → r ≡ n % d → IsDivision (pos n) (pos d) (record { quotient = q; remainder = pos r })
-upward n d q r some whole rest =
-    let z = div-add-mod' n d in
-    let l = mod_below n d some in
-    let s : Splits (pos n) (pos d) (pos (n / d)) (pos (n % d)) = record { exact = omega (arith, ints, z); rest = record { low = omega (arith, ints); high = omega (arith, ints, l) } } in
-    let only = only_split (pos n) (pos d) (pos (n / d)) (pos (n % d)) (omega (arith, ints, some)) s in
-    record { quotient = ap pos whole ∙ ap (λ k. int_rem_euclid k (pos 4294967296)) (sym only.0); remainder = ap pos rest ∙ sym only.1 }
-
--- a number below 0, divided
-pub downward : (n d q r : ℕ) → 0 < d → q ≡ 4294967295 - n / d % 4294967296 → r ≡ d - 1 - n % d → IsDivision (negsuc n) (pos d) (record { quotient = q; remainder = pos r })
-downward n d q r some whole rest =
-    let z = div-add-mod' n d in
-    let l = mod_below n d some in
-    let s : Splits (negsuc n) (pos d) (negsuc (n / d)) (pos (d - 1 - n % d)) = record { exact = omega (arith, ints, z, l); rest = record { low = omega (arith, ints); high = omega (arith, ints, some) } } in
-    let only = only_split (negsuc n) (pos d) (negsuc (n / d)) (pos (d - 1 - n % d)) (omega (arith, ints, some)) s in
-    let w = div-add-mod' (n / d) 4294967296 in
-    let k = mod_below (n / d) 4294967296 (omega arith) in
-    let t : Splits (negsuc (n / d)) (pos 4294967296) (negsuc (n / d / 4294967296)) (pos (4294967295 - n / d % 4294967296)) = record { exact = omega (arith, ints, w, k); rest = record { low = omega (arith, ints); high = omega (arith, ints) } } in
-    let low = only_split (negsuc (n / d)) (pos 4294967296) (negsuc (n / d / 4294967296)) (pos (4294967295 - n / d % 4294967296)) (omega (arith, ints)) t in
-    record { quotient = ap pos whole ∙ sym low.1 ∙ ap (λ k. int_rem_euclid k (pos 4294967296)) (sym only.0); remainder = ap pos rest ∙ sym only.1 }
-
-pub rest_small : (n d r : ℕ) → 0 < d → r ≡ n % d → IsRest (pos d) (pos r)
-rest_small n d r some is = let l = mod_below n d some in record { low = omega (arith, ints); high = omega (arith, ints, l, is) }
-
-pub rest_below : (n d r : ℕ) → 0 < d → r ≡ d - 1 - n % d → IsRest (pos d) (pos r)
-rest_below n d r some is = let l = mod_below n d some in record { low = omega (arith, ints); high = omega (arith, ints, l, is, some) }
 
 pub some_divisor : (d : ℕ) → IsDivisor (pos d) → 0 < d
 some_divisor d is = let p = is.positive in omega (arith, ints, p)

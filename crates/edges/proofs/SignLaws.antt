@@ -2,9 +2,8 @@
 use Rattle.std.proofs.Common.{◌≡◌, ◌∙◌, ap, sym, subst, refl, arith, ℕ, zero, suc, ◌+◌, ◌*◌, ◌%◌, ◌^◌, ◌<◌, ◌≤◌, List, [], ◌∷◌, length, map, get_or, w32, to_z, of_z, FitsSigned}
 use Rattle.std.specs.Prelude.{ℤ, pos, ◌+ℤ◌, ◌-ℤ◌, ◌*ℤ◌, ◌≤ℤ◌, ◌↔◌, unsigned_abs, slice_index_or, replicate}
 use Rattle.std.specs.Int.{int_wrap}
-use Rattle.std.specs.Int.RustNames.{int_div}
 use Rattle.std.specs.Simd.Lanes.{zip2}
-use Rattle.std.proofs.lemmas.Int.{ints, to_z-of_z, to_z_pos, wrapping_add-bits, wrapping_add_onto, wrapping_mul-bits, int_wrap-add_left, int_wrap-add_right, SFits-int_wrap, quot-rem, rem_below, fits_signed_from_abs}
+use Rattle.std.proofs.lemmas.Int.{ints, to_z-of_z, to_z_pos, wrapping_add-bits, wrapping_add_onto, wrapping_mul-bits, int_wrap-add_left, int_wrap-add_right, SFits-int_wrap, fits_signed_from_abs}
 use Rattle.std.proofs.Math.IntN.{*ℤ_comm}
 use Rattle.std.proofs.lemmas.List.{get_or-map, get_or-replicate, length-map}
 use Rattle.std.proofs.lemmas.Simd.{get_or-zip2, length-zip2}
@@ -17,12 +16,6 @@ use Rattle.edges.specs.declared.EdgeFunction.{EdgeFunction}
 use Rattle.edges.specs.declared.signs.SignLanes.{SignLanes}
 
 -- ---- steps
-
-pub whole_quotient : (s n : ℤ) → s ≡ pos 256 *ℤ n → int_div s (pos 256) ≡ n
-whole_quotient s n is = let q = quot-rem s (pos 256) in let b = rem_below s (pos 256) (omega arith) in omega (arith, ints, q, b)
-
-pub small_quotient : (s : ℤ) → unsigned_abs s ≤ 2 ^ 29 → unsigned_abs (int_div s (pos 256)) ≤ 2 ^ 21
-small_quotient s small = let q = quot-rem s (pos 256) in let b = rem_below s (pos 256) (omega arith) in omega (arith, ints, q, b)
 
 small_step : (s n : ℤ) → s ≡ pos 256 *ℤ n → unsigned_abs s ≤ 2 ^ 29 → unsigned_abs n ≤ 2 ^ 21
 small_step s n is small = omega (arith, ints)

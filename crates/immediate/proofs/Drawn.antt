@@ -85,10 +85,6 @@ pub some_weaker : {T : Type 0} (P Q : T → Type 0) (r : Option T) → ((x : T) 
 some_weaker P Q None f h = tt
 some_weaker P Q (Some x) f h = f x h
 
-pub on_ok_weaker : {T E : Type 0} (P Q : Type 0) (r : Result T E) → (P → Q) → OnOk r P → OnOk r Q
-on_ok_weaker P Q (Ok x) f h = f h
-on_ok_weaker P Q (Err e) f h = tt
-
 pub ok_given : {T E : Type 0} (P : Type 0) (r : Result T E) → is_ok r ≡ true → OnOk r P → P
 ok_given P (Ok x) e h = h
 ok_given P (Err x) e h = absurd cc

@@ -5,7 +5,7 @@ use Rattle.std.specs.List.{list_any, cons_option}
 use Rattle.std.proofs.lemmas.List.{append-nil}
 use Rattle.std.proofs.lemmas.List.Elements.{filter-append}
 use Rattle.gfxspec.specs.Commands.{Command, Draw, DrawIndexed, ClearColor, ClearDepthStencil, Begin, End}
-use Rattle.gfxspec.specs.Recorded.{vertices_set, indices_set, topology_set, raster_set, scissor_set, depth_stencil_set, reference_set, blend_set, predicate_set, last_or, nearest, settings_after, query_begun, issues, query_named, queries_named, ends, open_from, open_after, queries_open, is_drawing}
+use Rattle.gfxspec.specs.Recorded.{vertices_set, indices_set, topology_set, raster_set, scissor_set, depth_stencil_set, reference_set, blend_set, predicate_set, settings_after, query_begun, issues, query_named, queries_named, ends, open_from, open_after, queries_open, is_drawing}
 use Rattle.gfxspec.specs.Session.{begun_from}
 use Rattle.gfxspec.specs.Predication.{withholds, is_performed, performed_behind, performed}
 
@@ -82,9 +82,6 @@ marks_calm h none (c ∷ cs) = chosen (is_drawing c) refl (marks_calm h none cs)
     chosen : (d : Bool) → is_drawing c ≡ d → filter_map h (calm cs) ≡ filter_map h cs → filter_map h (cond (not d) (c ∷ calm cs) (calm cs)) ≡ filter_map h (c ∷ cs)
     chosen true is e = e ∙ sym (ap (λ o. cons_option o (filter_map h cs)) (none c is))
     chosen false is e = ap (λ l. cons_option (h c) l) e
-
-nearest_calm : {X : Type 0} (h : Command → Option X) (d : X) → ((c : Command) → is_drawing c ≡ true → h c ≡ None) → (cs : List Command) → nearest h d (calm cs) ≡ nearest h d cs
-nearest_calm h d none cs = ap (last_or d) (marks_calm h none cs)
 
 settings_calm : (cs : List Command) → settings_after (calm cs) ≡ settings_after cs
 settings_calm cs =

@@ -32,9 +32,6 @@ items-flush : (e before after : List Step) → session_items e (before ++ Flushe
 items-flush e [] after = items-same (e ++ Flushes ∷ []) e after (idle seen e refl) (idle run e refl)
 items-flush e (s ∷ before) after = ap (λ x. step_items e s ++ x) (items-flush (e ++ s ∷ []) before after)
 
-skipped : {X : Type 0} (g : Step → List X) (before after : List Step) → g Flushes ≡ [] → flat_map g (before ++ Flushes ∷ after) ≡ flat_map g (before ++ after)
-skipped g before after h = flat_map-append g before (Flushes ∷ after) ∙ ap (λ x. flat_map g before ++ (x ++ flat_map g after)) h ∙ sym (flat_map-append g before after)
-
 pub items_of_session-flush : (before after : List Step) → items_of_session (before ++ Flushes ∷ after) ≡ items_of_session (before ++ after)
 items_of_session-flush before after = items-flush [] before after
 
