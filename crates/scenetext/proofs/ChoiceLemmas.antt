@@ -1,6 +1,6 @@
 -- Choices by their numbers: what a number names, and that it is named by no other.
 use Rattle.std.proofs.Common.{◌≡◌, ◌≢◌, ℕ, ◌-◌, Bool, true, false, eqb, [], ◌∷◌, get_or, zero, suc, refl, arith}
-use Rattle.std.specs.Prelude.{Option, Some, None, IsSome, IfNone}
+use Rattle.std.specs.Prelude.{Option, Some, None, IfNone}
 use Rattle.gfxspec.specs.declared.state.Cull.{Cull}
 use Rattle.gfxspec.specs.declared.state.Cull.TheVariants as culls
 use Rattle.gfxspec.specs.declared.state.Topology.{Topology}
@@ -12,14 +12,15 @@ use Rattle.gfxspec.specs.declared.state.StencilOp.TheVariants as stencils
 use Rattle.gfxspec.specs.declared.state.LogicOp.{LogicOp}
 use Rattle.gfxspec.specs.declared.state.LogicOp.TheVariants as logics
 use Rattle.gfxspec.specs.Numbers.{cull_number, topology_number, compare_number, stencil_op_number, logic_op_number}
+use Rattle.scenetext.specs.declared.range.Range.{Range}
 use Rattle.scenetext.specs.declared.range.TheConstants.{FLAG, CULL, TOPOLOGY, COMPARISON, STENCIL_OP, LOGIC_OP}
 use Rattle.scenetext.specs.Spelling.{flag_number}
 use Rattle.scenetext.specs.Ranges.{IsIn}
 
--- a choice that has a number is found by it
-pub some_choice : {T : Type 0} (number : T → ℕ) (n : ℕ) (found : Option T) (x : T) → number x ≡ n → IfNone found ((one : T) → number one ≢ n) → IsSome found
-some_choice number n (Some t) x is none = refl
-some_choice number n None x is none = absurd (none x is)
+-- a number is out of range where no choice has it
+pub no_choice : {T : Type 0} (number : T → ℕ) (n : ℕ) (found : Option T) (x : T) (r : Range) → (IsIn r n → number x ≡ n) → IfNone found ((one : T) → number one ≢ n) → IfNone found (IsIn r n → ⊥)
+no_choice number n (Some t) x r back none = tt
+no_choice number n None x r back none = λ h. none x (back h)
 
 -- ---- flags
 

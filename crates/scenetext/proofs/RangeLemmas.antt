@@ -1,9 +1,13 @@
 -- Numbers of some ranges, one word for each.
-use Rattle.std.proofs.Common.{◌≡◌, ◌⊎◌, ℕ, ◌^◌, ◌<◌, Bool, true, false, ◌&&◌, ltb, List, [], ◌∷◌, ◌++◌, length, map, refl, ap, ◌∙◌, arith, inl, inr}
-use Rattle.std.specs.Prelude.{decimal}
+use Rattle.std.proofs.Common.{◌≡◌, ℕ, ◌^◌, ◌<◌, Bool, true, false, ◌&&◌, ltb, List, [], ◌∷◌, ◌++◌, length, map, refl, ap, ◌∙◌, arith}
+use Rattle.std.specs.Prelude.{decimal, nat_le, Option, Some, None, IfNone, IfErr}
+use Rattle.std.specs.Option.{ok_or}
 use Rattle.std.specs.List.{list_all, AllByRecursion}
 use Rattle.std.proofs.lemmas.Bool.Decides.{nat_tests}
+use Rattle.scenetext.specs.declared.fault.Fault.TheVariants.{Argument}
+use Rattle.scenetext.specs.declared.fault.ReadError.TheVariants as errors
 use Rattle.scenetext.specs.declared.range.Range.{Range}
+use Rattle.scenetext.specs.declared.range.TheConstants.{U32}
 use Rattle.scenetext.specs.Numbers.{fits_kind, fit}
 use Rattle.scenetext.specs.Ranges.{kind_of, kinds, IsIn, AreIn}
 use Rattle.scenetext.specs.Faults.{word}
@@ -65,17 +69,16 @@ naturals_back (r ∷ rs) (w ∷ ws) s e h =
 
 -- ---- words that are no numbers of their ranges
 
-pub out_of_range : (r : Range) (w : List ℕ) (n : ℕ) → w ≡ decimal n → n < 2 ^ 32 → r.high < 2 ^ 32 → (n < r.low) ⊎ (r.high < n) → fits_kind (kind_of r) w ≡ false
+pub out_of_range : (r : Range) (w : List ℕ) (n : ℕ) → w ≡ decimal n → n < 2 ^ 32 → nat_le r.high U32.high ≡ true → (IsIn r n → ⊥) → fits_kind (kind_of r) w ≡ false
 out_of_range r w n e h small out = false_from _ (λ t. (
-    let v = natural_between r.low r.high w (omega arith) t in
+    let v = natural_between r.low r.high w (grind (arith, nat_tests)) t in
     let same : value w ≡ n = ap value e ∙ value-decimal n (omega arith) in
-    elim out [ inl below ↦ absurd (omega (arith, v.1)) | inr above ↦ absurd (omega (arith, v.2)) ]))
+    out (record { low = omega (arith, v.1); high = omega (arith, v.2) })))
 
-pub AreIn-push : (rs : List Range) (ns : List ℕ) (r : Range) (n : ℕ) → AreIn rs ns → IsIn r n → AreIn (rs ++ r ∷ []) (ns ++ n ∷ [])
-AreIn-push [] [] r n h i = (i, tt)
-AreIn-push [] (m ∷ ns) r n h i = absurd h
-AreIn-push (q ∷ rs) [] r n h i = absurd h
-AreIn-push (q ∷ rs) (m ∷ ns) r n h i = (h.0, AreIn-push rs ns r n h.1 i)
+-- the fault where a number stands for no value
+pub argument_refused : {T : Type 0} (r : Range) (w : List ℕ) (n : ℕ) (found : Option T) → w ≡ decimal n → n < 2 ^ 32 → nat_le r.high U32.high ≡ true → IfNone found (IsIn r n → ⊥) → IfErr (ok_or found (errors.Fault Argument)) (λ e. (e ≡ errors.Fault Argument) × (fits_kind (kind_of r) w ≡ false))
+argument_refused r w n None e h small out = (refl, out_of_range r w n e h small out)
+argument_refused r w n (Some x) e h small out = tt
 
 pub and_false : (a b : Bool) → b ≡ false → (a && b) ≡ false
 and_false true b e = e

@@ -1,34 +1,32 @@
 -- What the parts of the reader owe.
-use Rattle.std.proofs.Common.{◌≡◌, ◌≢◌, ℕ, ℤ, pos, zero, suc, ◌+◌, ◌-◌, ◌*◌, ◌<◌, Bool, true, false, ◌&&◌, List, [], ◌∷◌, ◌++◌, length, map, replicate, Option, Some, refl, sym, ap, subst, ◌∙◌, append_assoc, arith}
-use Rattle.std.specs.Prelude.{decimal, codes, slice_index, count_by, FitsSigned}
+use Rattle.std.proofs.Common.{◌≡◌, ℕ, zero, suc, ◌+◌, ◌-◌, ◌*◌, ◌<◌, Bool, true, false, ◌&&◌, List, [], ◌∷◌, ◌++◌, length, map, replicate, Some, refl, sym, ap, subst, ◌∙◌, append_assoc, arith}
+use Rattle.std.specs.Prelude.{Result, IfErr, decimal, slice_index, count_by}
+use Rattle.std.specs.Result.{IsErrAnd}
 use Rattle.std.specs.List.{AllByRecursion, flat_map}
-use Rattle.std.specs.Int.{w32}
-use Rattle.std.specs.Fmt.{signed_decimal}
 use Rattle.std.proofs.lemmas.List.{length-append, length-map}
 use Rattle.std.proofs.lemmas.Bool.Decides.{nat_tests}
+use Rattle.std.proofs.lemmas.Result.{err_from_is_err_and}
 use Rattle.std.proofs.lemmas.Fmt.{digits_value-decimal}
 use Rattle.gfxspec.specs.declared.geometry.Vertex.{Vertex}
-use Rattle.gfxspec.specs.State.{RasterSetting}
-use Rattle.gfxspec.specs.Commands as gfx
-use Rattle.scenetext.specs.declared.fault.Fault.{Fault}
+use Rattle.gfxspec.specs.DepthStencil.{FaceSetting}
 use Rattle.scenetext.specs.declared.fault.Fault.TheVariants as faults
 use Rattle.scenetext.specs.declared.fault.ReadError.{ReadError}
 use Rattle.scenetext.specs.declared.fault.ReadError.TheVariants as errors
 use Rattle.scenetext.specs.declared.command.CommandWord.{CommandWord}
 use Rattle.scenetext.specs.declared.command.CommandWord.TheVariants as words
-use Rattle.scenetext.specs.Scene.{Actor, Verb, Call, Execute}
+use Rattle.scenetext.specs.Scene.{Actor, Verb, Execute}
 use Rattle.scenetext.specs.Text.{TextLine, words_of}
-use Rattle.scenetext.specs.Numbers.{Kind, NonZero, context_word, fits_kind, fit, i32s}
-use Rattle.scenetext.specs.Commands.{vertex_kinds, ranges, shape, name, serves, kinds_of}
-use Rattle.scenetext.specs.Spelling.{raster_numbers, bias_words, vertex_words, verb_words, IsVertex, IsVerb, actor_word, is_immediate_actor}
-use Rattle.scenetext.specs.Faults.{word, or_fault, unless, arguments_fault, finishes, has_list, later_line_fault}
+use Rattle.scenetext.specs.Numbers.{Kind, NonZero, context_word, fits_kind, fit}
+use Rattle.scenetext.specs.Commands.{vertex_kinds, face_ranges, ranges, shape, name, serves, kinds_of}
+use Rattle.scenetext.specs.Spelling.{face_numbers, vertex_words, verb_words, IsVertex, IsVerb, actor_word, is_immediate_actor}
+use Rattle.scenetext.specs.Faults.{word, or_fault, unless, finishes, has_list, later_line_fault}
 use Rattle.scenetext.specs.declared.range.TheConstants.{INDEX}
 use Rattle.scenetext.specs.Ranges.{kind_of, kinds, AreIn}
 use Rattle.scenetext.specs.Reading.{Reads, Refuses, Counts, LacksCounted, IsHead, RefusesLine}
 use Rattle.scenetext.proofs.NumberLemmas.{own}
 use Rattle.scenetext.proofs.RangeLemmas.{and_false, fit_fails, length-AreIn, naturals_fit}
 use Rattle.scenetext.proofs.GroupLemmas.{fit-append, vertex_fits, length-vertex_words, length-vertices, groups_of, IsIndex, index_ranges, indices_in, singles_of}
-use Rattle.scenetext.proofs.VerbLemmas.{spelled_bias, Fits, verb_fits, command_named-name}
+use Rattle.scenetext.proofs.VerbLemmas.{Fits, verb_fits, command_named-name}
 use Rattle.scenetext.proofs.SceneLemmas.{actor_known, immediate_is}
 
 fit-front : (ks ls : List Kind) (ws : List (List ℕ)) → fit ks ws ≡ false → fit (ks ++ ls) ws ≡ false
@@ -40,15 +38,40 @@ fit-front (k ∷ ks) ls (w ∷ ws) h = by (fits_kind k w) (fit ks ws) (fit (ks +
     by true b c h f = f h
     by false b c h f = refl
 
+-- an error that a `?` hands on
+pub handed_on : {T E : Type 0} (r : Result T E) (e : E) (P : E → Type 0) → IsErrAnd r (λ d. d ≡ e) → P e → IfErr r P
+handed_on r e P h p =
+    let d = err_from_is_err_and r h in
+    rw (d.1, d.2) p
+
+-- the next word does not fit
+pub next_fails : (k : Kind) (ks : List Kind) (ws : List (List ℕ)) → fits_kind k (word ws 0) ≡ false → fit (k ∷ ks) ws ≡ false
+next_fails k ks [] f = refl
+next_fails k ks (w ∷ ws) f = rw f refl
+
+-- the words behind one do not
+pub later_fail : (k : Kind) (ks : List Kind) (old ws : List (List ℕ)) (w : List ℕ) → old ≡ w ∷ ws → fit ks ws ≡ false → fit (k ∷ ks) old ≡ false
+later_fail k ks old ws w e f = ap (fit (k ∷ ks)) e ∙ and_false (fits_kind k w) _ f
+
+-- the next face does not fit
+pub face_fails : (ks : List Kind) (ws : List (List ℕ)) → fit (kinds face_ranges) ws ≡ false → fit (kinds face_ranges ++ ks) ws ≡ false
+face_fails ks ws h = fit-front (kinds face_ranges) ks ws h
+
+-- the words behind a face do not
+pub behind_face_fail : (ks : List Kind) (f : FaceSetting) (old ws : List (List ℕ)) → old ≡ map decimal (face_numbers f) ++ ws → fit ks ws ≡ false → fit (kinds face_ranges ++ ks) old ≡ false
+behind_face_fail ks f old ws e h = ap (fit (kinds face_ranges ++ ks)) e ∙ search (and_false, h)
+
+-- how words do not fit
+pub ruleset words_fail = (next_fails, later_fail, face_fails, behind_face_fail)
+
+-- arguments of which one does not fit
+pub refused : (c : CommandWord) (ks : List Kind) (ws : List (List ℕ)) (e : ReadError) → kinds_of (shape c) (length ws) ≡ Some ks → e ≡ errors.Fault faults.Argument → fit ks ws ≡ false → Refuses c ws e
+refused c ks ws e found is f = subst (Refuses c ws) (sym is) (λ rows. ap (λ o. or_fault o faults.ArgumentCount (λ ls. unless (fit ls ws) faults.Argument rows)) found ∙ ap (λ b. unless b faults.Argument rows) f)
+
 -- ---- a rasterizer state with a bias
 
-raster_fails : (ws : List (List ℕ)) → length ws ≡ 4 → fit (kinds (ranges words.Raster) ++ NonZero ∷ []) ws ≡ false → (rows : Option Fault) → arguments_fault (shape words.Raster) ws rows ≡ Some faults.Argument
-raster_fails ws four f rows =
-    ap (λ n. or_fault (kinds_of (shape words.Raster) n) faults.ArgumentCount (λ ks. unless (fit ks ws) faults.Argument rows)) four
-    ∙ ap (λ b. unless b faults.Argument rows) f
-
 refused_raster : (ws : List (List ℕ)) (e : ReadError) → length ws ≡ 4 → e ≡ errors.Fault faults.Argument → fit (kinds (ranges words.Raster) ++ NonZero ∷ []) ws ≡ false → Refuses words.Raster ws e
-refused_raster ws e four is f = subst (Refuses words.Raster ws) (sym is) (raster_fails ws four f)
+refused_raster ws e four is f = refused words.Raster (kinds (ranges words.Raster) ++ NonZero ∷ []) ws e (ap (kinds_of (shape words.Raster)) four) is f
 
 -- one of the three numbers is none of its range
 pub numbers_refused : (ws : List (List ℕ)) (e : ReadError) → length ws ≡ 4 → e ≡ errors.Fault faults.Argument → fit (kinds (ranges words.Raster)) ws ≡ false → Refuses words.Raster ws e
@@ -60,42 +83,9 @@ bias_refused ws rest values e four are h is f =
     refused_raster ws e four is
     (ap (fit (kinds (ranges words.Raster) ++ NonZero ∷ [])) are
     ∙ fit-append (kinds (ranges words.Raster)) (NonZero ∷ []) (map decimal values) rest (length-AreIn (ranges words.Raster) values h ∙ sym (length-map values decimal)) (naturals_fit (ranges words.Raster) values refl h)
-    ∙ last rest f)
-  where
-    last : (rest : List (List ℕ)) → fits_kind NonZero (word rest 0) ≡ false → fit (NonZero ∷ []) rest ≡ false
-    last [] f = refl
-    last (w ∷ ws) f = rw f refl
-
--- a state of these numbers and this bias
-pub reads_biased : (ws behind rest : List (List ℕ)) (ns : List ℕ) (bias : ℤ) (r : RasterSetting) → length ws ≡ 4 → ws ≡ map decimal ns ++ behind → behind ≡ signed_decimal bias ∷ rest → AreIn (ranges words.Raster) ns → FitsSigned w32 bias → bias ≢ pos 0 → raster_numbers r ≡ ns → r.depth_bias ≡ bias → Reads words.Raster ws (Call (gfx.SetRaster r))
-reads_biased ws behind rest ns bias r four are last h f ne numbers moved =
-    let three = length-AreIn (ranges words.Raster) ns h ∙ sym (length-map ns decimal) in
-    let whole = sym four ∙ ap length are ∙ length-append (map decimal ns) behind in
-    let one = ap length last in
-    let none : rest ≡ [] = empty rest (omega (arith, three, whole, one)) in
-    record {
-      words_are = ap (λ xs. codes "raster" ∷ (map decimal xs ++ bias_words r.depth_bias)) numbers ∙ ap (λ b. codes "raster" ∷ (map decimal ns ++ bias_words b)) moved
-          ∙ ap (λ xs. codes "raster" ∷ (map decimal ns ++ xs)) (spelled_bias bias ne ∙ ap (λ xs. signed_decimal bias ∷ xs) (sym none) ∙ sym last) ∙ ap (λ xs. codes "raster" ∷ xs) (sym are);
-      verb = (subst (AreIn (ranges words.Raster)) (sym numbers) h, subst (FitsSigned w32) (sym moved) f);
-      taken = λ im. refl;
-    }
-  where
-    empty : (xs : List (List ℕ)) → length xs ≡ 0 → xs ≡ []
-    empty [] e = refl
-    empty (x ∷ xs) e = absurd (omega arith)
+    ∙ next_fails NonZero [] rest f)
 
 -- ---- vertices
-
-first_false : (a b : Bool) → a ≡ false → (a && b) ≡ false
-first_false true b e = absurd cc
-first_false false b e = refl
-
-pub second_fails : (old ws : List (List ℕ)) (x : ℤ) → old ≡ signed_decimal x ∷ ws → 0 < length ws → fits_kind i32s (word ws 0) ≡ false → fit vertex_kinds old ≡ false
-second_fails old [] x e l f = absurd (omega arith)
-second_fails old (w ∷ ws) x e l f = ap (fit vertex_kinds) e ∙ and_false (fits_kind i32s (signed_decimal x)) _ (first_false (fits_kind i32s w) _ f)
-
-pub others_fail : (old us ws : List (List ℕ)) (x y : ℤ) (ks : List Kind) → old ≡ signed_decimal x ∷ us → us ≡ signed_decimal y ∷ ws → fit ks ws ≡ false → fit (i32s ∷ i32s ∷ ks) old ≡ false
-others_fail old us ws x y ks e f h = ap (fit (i32s ∷ i32s ∷ ks)) (e ∙ ap (λ r. signed_decimal x ∷ r) f) ∙ and_false (fits_kind i32s (signed_decimal x)) _ (and_false (fits_kind i32s (signed_decimal y)) _ h)
 
 fit_vertices_fail : (vs : List Vertex) (ws : List (List ℕ)) (r : ℕ) → AllByRecursion IsVertex vs → fit vertex_kinds ws ≡ false → fit (flat_map (λ k. k) (replicate (length vs + suc r) vertex_kinds)) (flat_map vertex_words vs ++ ws) ≡ false
 fit_vertices_fail [] ws r h f =
@@ -109,12 +99,12 @@ fit_vertices_fail (v ∷ vs) ws r h f =
     ∙ fit_vertices_fail vs ws r h.1 f
 
 -- a vertex that is none, behind others
-pub vertices_refuse : (old ws : List (List ℕ)) (vs : List Vertex) (r : ℕ) → old ≡ flat_map vertex_words vs ++ ws → AllByRecursion IsVertex vs → length ws ≡ 7 * suc r → fit vertex_kinds ws ≡ false → (rows : Option Fault) → arguments_fault (shape words.Vb) old rows ≡ Some faults.Argument
-vertices_refuse old ws vs r e h l f rows =
-    let n : length old ≡ 7 * (length vs + suc r) = omega (arith, ap length e, length-append (flat_map vertex_words vs) ws, length-vertices vs h) in
+pub vertices_refuse : (old ws : List (List ℕ)) (vs : List Vertex) (r : ℕ) (e : ReadError) → e ≡ errors.Fault faults.Argument → old ≡ flat_map vertex_words vs ++ ws → AllByRecursion IsVertex vs → length ws ≡ 7 * suc r → fit vertex_kinds ws ≡ false → Refuses words.Vb old e
+vertices_refuse old ws vs r e is t h l f =
+    let n : length old ≡ 7 * (length vs + suc r) = omega (arith, ap length t, length-append (flat_map vertex_words vs) ws, length-vertices vs h) in
     let found = groups_of (length old) (length vs + suc r) n in
-    let fails : fit (flat_map (λ k. k) (replicate (length vs + suc r) vertex_kinds)) old ≡ false = ap (fit (flat_map (λ k. k) (replicate (length vs + suc r) vertex_kinds))) e ∙ fit_vertices_fail vs ws r h f in
-    ap (λ o. or_fault o faults.ArgumentCount (λ ks. unless (fit ks old) faults.Argument rows)) found ∙ ap (λ b. unless b faults.Argument rows) fails
+    let fails : fit (flat_map (λ k. k) (replicate (length vs + suc r) vertex_kinds)) old ≡ false = ap (fit (flat_map (λ k. k) (replicate (length vs + suc r) vertex_kinds))) t ∙ fit_vertices_fail vs ws r h f in
+    refused words.Vb (flat_map (λ k. k) (replicate (length vs + suc r) vertex_kinds)) old e found is fails
 
 -- ---- indices
 
@@ -127,16 +117,16 @@ replicate-middle x (suc a) b =
     rw e (ap (λ xs. x ∷ xs) (replicate-middle x a b))
 
 -- a word that is no index, behind others
-pub indices_refuse : (old ws : List (List ℕ)) (is : List ℕ) → old ≡ map decimal is ++ ws → AllByRecursion IsIndex is → 0 < length ws → fits_kind (kind_of INDEX) (word ws 0) ≡ false → (rows : Option Fault) → arguments_fault (shape words.Ib) old rows ≡ Some faults.Argument
-indices_refuse old ws is e h l f rows =
+pub indices_refuse : (old ws : List (List ℕ)) (is : List ℕ) (e : ReadError) → e ≡ errors.Fault faults.Argument → old ≡ map decimal is ++ ws → AllByRecursion IsIndex is → 0 < length ws → fits_kind (kind_of INDEX) (word ws 0) ≡ false → Refuses words.Ib old e
+indices_refuse old ws is e fault t h l f =
     let more = length ws - 1 in
-    let n : length old ≡ length is + suc more = omega (arith, ap length e, length-append (map decimal is) ws, length-map is decimal) in
+    let n : length old ≡ length is + suc more = omega (arith, ap length t, length-append (map decimal is) ws, length-map is decimal) in
     let found : kinds_of (shape words.Ib) (length old) ≡ Some (kinds (index_ranges (length is + suc more))) = ap (kinds_of (shape words.Ib)) n ∙ singles_of (length is + suc more) in
     let fails : fit (kinds (index_ranges (length is + suc more))) old ≡ false =
-    ap (fit (kinds (index_ranges (length is + suc more)))) e
+    ap (fit (kinds (index_ranges (length is + suc more)))) t
     ∙ ap (λ rs. fit (kinds rs) (map decimal is ++ ws)) (replicate-middle INDEX (length is) more)
     ∙ fit_fails (index_ranges (length is)) is INDEX (index_ranges more) ws (indices_in is h) l f in
-    ap (λ o. or_fault o faults.ArgumentCount (λ ks. unless (fit ks old) faults.Argument rows)) found ∙ ap (λ b. unless b faults.Argument rows) fails
+    refused words.Ib (kinds (index_ranges (length is + suc more))) old e found fault fails
 
 -- ---- a later line
 

@@ -7,7 +7,7 @@
 //! word, and takes memory for vertices, indices and lines alone.
 #![tactic(auto)]
 
-mod choices;
+mod argument;
 mod command;
 mod fault;
 mod law;

@@ -8,10 +8,10 @@ ghost use Rattle.scenetext.specs.Spelling.{actor_word, is_immediate_actor, IsAct
 ghost use Rattle.scenetext.specs.Faults.{is_immediate};
 ghost use Rattle.scenetext.specs.Reading.{ReadsLine, RefusesLine, HasCounted, LacksCounted, IsHead, RefusesHead, ReadsSize, RefusesFirst};
 
+use crate::argument::next_argument;
 use crate::command::CommandWord;
 use crate::fault::{Fault, ReadError};
-use crate::numbers::naturals;
-use crate::range::U32;
+use crate::numbers::expect;
 use crate::scene::{Actor, Line, Verb};
 use crate::text::FormedLine;
 use crate::verbs::verb_of;
@@ -101,6 +101,9 @@ pub(crate) fn size_of(line: FormedLine) -> Result<Size, ReadError>
     if word != b"target".as_slice() {
         return Err(ReadError::Fault(Fault::FirstLine));
     }
-    let [width, height] = naturals(&mut words, [U32, U32])?;
-    Ok(Size { width, height })
+    expect(&words, 2)?;
+    Ok(Size {
+        width: next_argument(&mut words)?,
+        height: next_argument(&mut words)?,
+    })
 }

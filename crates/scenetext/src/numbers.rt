@@ -2,34 +2,22 @@
 
 ghost use Rattle.std.specs.Prelude.{◌≡◌, ◌≢◌, ◌<◌, ◌≤◌, ◌++◌, ◌∷◌, ℕ, ℤ, pos, length, map, decimal, IfOk, IfErr, IfSome, IfNone, OnOk, Err, [], true, false};
 ghost use Rattle.std.specs.Fmt.{signed_decimal};
+ghost use Rattle.states.specs.DepthStencil.{face_setting};
 ghost use Rattle.scenetext.specs.Numbers.{NonZero, fits_kind, fit, i32s, is_context, context_word};
-ghost use Rattle.scenetext.specs.Commands.{OneOf, vertex_kinds};
-ghost use Rattle.scenetext.specs.Spelling.{vertex_words, IsVertex};
+ghost use Rattle.scenetext.specs.Commands.{face_ranges, ranges, vertex_kinds};
+ghost use Rattle.scenetext.specs.Spelling.{face_numbers, vertex_words, IsVertex};
 ghost use Rattle.scenetext.specs.Faults.{word};
-ghost use Rattle.scenetext.specs.Reading.{RefusesShape, IsFault};
-ghost use Rattle.scenetext.specs.Ranges.{kind_of, kinds, IsIn, AreIn};
+ghost use Rattle.scenetext.specs.Ranges.{kinds, AreIn};
 
+use crate::argument::next_argument;
+use crate::command::CommandWord;
 use crate::fault::{Fault, ReadError};
-use crate::range::{BYTE, Range, U32};
 use crate::words::{Words, context};
 use gfxspec::Vertex;
-
-/// The number that the next word spells, within a range.
-pub(crate) fn next_natural(words: &mut Words, range: Range) -> Result<u32, ReadError>
-    requires { 0 < length words.old }
-    ensures ok { IfOk result (λ n. (words.old ≡ decimal n ∷ words.new) × IsIn range n) }
-    ensures err { IfErr result (λ e. (e ≡ ReadError.Fault Fault.Argument) × (fits_kind (kind_of range) (word words.old 0) ≡ false)) }
-{
-    let Some(number) = words.next_natural() else {
-        return Err(ReadError::Fault(Fault::Argument));
-    };
-    if number < range.low || range.high < number {
-        return Err(ReadError::Fault(Fault::Argument));
-    }
-    Ok(number)
-}
+use states::Face;
 
 /// The number, which may be negative, that the next word spells.
+#[inline(always)]
 pub(crate) fn next_integer(words: &mut Words) -> Result<i32, ReadError>
     requires { 0 < length words.old }
     ensures ok { IfOk result (λ z. words.old ≡ signed_decimal z ∷ words.new) }
@@ -53,22 +41,6 @@ pub(crate) fn next_nonzero(words: &mut Words) -> Result<i32, ReadError>
     }
 }
 
-/// The numbers that the next words spell, one for each range.
-pub(crate) fn next_naturals<const N: usize>(
-    words: &mut Words,
-    ranges: [Range; N],
-) -> Result<[u32; N], ReadError>
-    requires { N ≤ length words.old }
-    ensures ok { IfOk result (λ values. (words.old ≡ map decimal values ++ words.new) × AreIn ranges.entry values) }
-    ensures err { IfErr result (λ e. (e ≡ ReadError.Fault Fault.Argument) × (fit (kinds ranges.entry) words.old ≡ false)) }
-{
-    let mut values = [0; N];
-    for i in 0..N {
-        values[i] = next_natural(words, ranges[i])?;
-    }
-    Ok(values)
-}
-
 /// Tests how many arguments there are.
 pub(crate) fn expect(words: &Words, count: usize) -> Result<(), ReadError>
     ensures ok { OnOk result (length words.now ≡ count) }
@@ -79,19 +51,6 @@ pub(crate) fn expect(words: &Words, count: usize) -> Result<(), ReadError>
     } else {
         Err(ReadError::Fault(Fault::ArgumentCount))
     }
-}
-
-/// The numbers that all words spell, one for each range.
-pub(crate) fn naturals<const N: usize>(
-    words: &mut Words,
-    ranges: [Range; N],
-) -> Result<[u32; N], ReadError>
-    ensures ok { IfOk result (λ values. (words.old ≡ map decimal values) × AreIn ranges.entry values) }
-    ensures err { IfErr result (RefusesShape (OneOf (kinds ranges.entry ∷ [])) words.old) }
-    ensures fault { IfErr result IsFault }
-{
-    expect(words, N)?;
-    next_naturals(words, ranges)
 }
 
 /// The context that the next word names.
@@ -106,15 +65,43 @@ pub(crate) fn next_context(words: &mut Words) -> Result<u32, ReadError>
     }
 }
 
+/// The colour that the next four words spell.
+pub(crate) fn next_color(words: &mut Words) -> Result<[u8; 4], ReadError>
+    requires { 4 ≤ length words.old }
+    ensures ok { IfOk result (λ rgba. (words.old ≡ map decimal rgba ++ words.new) × AreIn (ranges CommandWord.Clearc) rgba) }
+    ensures err { IfErr result (λ e. (e ≡ ReadError.Fault Fault.Argument) × (fit (kinds (ranges CommandWord.Clearc)) words.old ≡ false)) }
+{
+    let red = next_argument(words)?;
+    let green = next_argument(words)?;
+    let blue = next_argument(words)?;
+    let alpha = next_argument(words)?;
+    Ok([red, green, blue, alpha])
+}
+
 /// The vertex that the next seven words spell.
 pub(crate) fn next_vertex(words: &mut Words) -> Result<Vertex, ReadError>
     requires { 7 ≤ length words.old }
     ensures ok { IfOk result (λ v. (words.old ≡ vertex_words v ++ words.new) × IsVertex v) }
     ensures err { IfErr result (λ e. (e ≡ ReadError.Fault Fault.Argument) × (fit vertex_kinds words.old ≡ false)) }
 {
-    let x = next_integer(words)?;
-    let y = next_integer(words)?;
-    let [z, red, green, blue, alpha] = next_naturals(words, [U32, BYTE, BYTE, BYTE, BYTE])?;
-    let rgba = [red as u8, green as u8, blue as u8, alpha as u8];
-    Ok(Vertex { x, y, z, rgba })
+    Ok(Vertex {
+        x: next_integer(words)?,
+        y: next_integer(words)?,
+        z: next_argument(words)?,
+        rgba: next_color(words)?,
+    })
+}
+
+/// The operations and the comparison of a face that the next four words spell.
+pub(crate) fn next_face(words: &mut Words) -> Result<Face, ReadError>
+    requires { 4 ≤ length words.old }
+    ensures ok { IfOk result (λ face. (words.old ≡ map decimal (face_numbers (face_setting face)) ++ words.new) × AreIn face_ranges (face_numbers (face_setting face))) }
+    ensures err { IfErr result (λ e. (e ≡ ReadError.Fault Fault.Argument) × (fit (kinds face_ranges) words.old ≡ false)) }
+{
+    Ok(Face {
+        fail: next_argument(words)?,
+        depth_fail: next_argument(words)?,
+        pass: next_argument(words)?,
+        func: next_argument(words)?,
+    })
 }

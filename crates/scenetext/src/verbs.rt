@@ -1,33 +1,25 @@
 //! The arguments of each command.
 
-ghost use Rattle.std.specs.Prelude.{◌≡◌, length, IfOk, IfErr};
+ghost use Rattle.std.specs.Prelude.{◌≡◌, ◌≤◌, ◌++◌, pos, false, map, decimal, length, IfOk, IfErr};
+ghost use Rattle.states.specs.Raster.{raster_setting};
 ghost use Rattle.scenetext.specs.Seen.{verb_value};
+ghost use Rattle.scenetext.specs.Numbers.{fit};
 ghost use Rattle.scenetext.specs.Reading.{Reads, Refuses};
 ghost use Rattle.scenetext.specs.Commands.{ranges};
-ghost use Rattle.scenetext.specs.Ranges.{AreIn};
+ghost use Rattle.scenetext.specs.Ranges.{kinds, AreIn};
 ghost use Rattle.scenetext.specs.Spelling.{raster_numbers};
 
-use crate::choices::{color_mask_of, comparison_of, cull_of, face_of, logic_op_of, topology_of};
+use crate::argument::next_argument;
 use crate::command::CommandWord;
 use crate::fault::{Fault, ReadError};
 use crate::numbers::{
-    expect, naturals, next_context, next_integer, next_natural, next_naturals, next_nonzero,
-    next_vertex,
-};
-use crate::range::{
-    BYTE, COLOR_MASK, COMPARISON, CULL, FLAG, INDEX, LOGIC_OP, Range, STENCIL_OP, TOPOLOGY, U32,
+    expect, next_color, next_context, next_face, next_integer, next_nonzero, next_vertex,
 };
 use crate::scene::{Indices, Verb, Vertices};
 use crate::words::Words;
 use gfxspec::PixelRect;
 use states::{BlendDesc, BlendState, DepthStencilDesc, DepthStencilState, RasterDesc, RasterState};
 use std::alloc::Allocator;
-
-/// The ranges of the numbers of a depth-stencil state, with its reference last.
-const DEPTH_STENCIL: [Range; 15] = [
-    FLAG, FLAG, COMPARISON, FLAG, BYTE, BYTE, STENCIL_OP, STENCIL_OP, STENCIL_OP, COMPARISON,
-    STENCIL_OP, STENCIL_OP, STENCIL_OP, COMPARISON, BYTE,
-];
 
 fn set_vertices<A: Allocator>(alloc: A, words: &mut Words) -> Result<Verb<A>, ReadError>
     ensures ok { IfOk result (λ v. Reads CommandWord.Vb words.old (verb_value v)) }
@@ -51,7 +43,7 @@ fn set_indices<A: Allocator>(alloc: A, words: &mut Words) -> Result<Verb<A>, Rea
     let count = words.count();
     let mut indices = Vec::with_capacity(alloc, count)?;
     for _ in 0..count {
-        indices.push(next_natural(words, INDEX)? as u16)?;
+        indices.push(next_argument(words)?)?;
     }
     Ok(Verb::SetIndices(Indices::from_vec(indices)))
 }
@@ -60,22 +52,21 @@ fn set_topology<A: Allocator>(words: &mut Words) -> Result<Verb<A>, ReadError>
     ensures ok { IfOk result (λ v. Reads CommandWord.Topology words.old (verb_value v)) }
     ensures err { IfErr result (Refuses CommandWord.Topology words.old) }
 {
-    let [topology] = naturals(words, [TOPOLOGY])?;
-    Ok(Verb::SetTopology(topology_of(topology)))
+    expect(words, 1)?;
+    Ok(Verb::SetTopology(next_argument(words)?))
 }
 
-/// The rasterizer state of three numbers and a bias.
-fn raster_of(numbers: [u32; 3], depth_bias: i32) -> RasterState
-    requires { AreIn (ranges CommandWord.Raster) numbers }
-    ensures numbers { raster_numbers result ≡ numbers }
-    ensures bias { result.depth_bias ≡ depth_bias }
+/// The rasterizer state that the next three words spell, with no bias.
+fn next_raster(words: &mut Words) -> Result<RasterDesc, ReadError>
+    requires { 3 ≤ length words.old }
+    ensures ok { IfOk result (λ raster. (words.old ≡ map decimal (raster_numbers (raster_setting raster)) ++ words.new) × AreIn (ranges CommandWord.Raster) (raster_numbers (raster_setting raster)) × (raster.depth_bias ≡ pos 0)) }
+    ensures err { IfErr result (λ e. (e ≡ ReadError.Fault Fault.Argument) × (fit (kinds (ranges CommandWord.Raster)) words.old ≡ false)) }
 {
-    let [cull, front_ccw, scissor] = numbers;
-    RasterState::new(RasterDesc {
-        cull: cull_of(cull),
-        front_ccw: front_ccw == 1,
-        scissor: scissor == 1,
-        depth_bias,
+    Ok(RasterDesc {
+        cull: next_argument(words)?,
+        front_ccw: next_argument(words)?,
+        scissor: next_argument(words)?,
+        depth_bias: 0,
     })
 }
 
@@ -86,9 +77,12 @@ fn set_biased_raster<A: Allocator>(words: &mut Words) -> Result<Verb<A>, ReadErr
     ensures ok { IfOk result (λ v. Reads CommandWord.Raster words.old (verb_value v)) }
     ensures err { IfErr result (Refuses CommandWord.Raster words.old) }
 {
-    let numbers = next_naturals(words, [CULL, FLAG, FLAG])?;
+    let raster = next_raster(words)?;
     let depth_bias = next_nonzero(words)?;
-    Ok(Verb::SetRaster(raster_of(numbers, depth_bias)))
+    Ok(Verb::SetRaster(RasterState::new(RasterDesc {
+        depth_bias,
+        ..raster
+    })))
 }
 
 fn set_raster<A: Allocator>(words: &mut Words) -> Result<Verb<A>, ReadError>
@@ -99,20 +93,20 @@ fn set_raster<A: Allocator>(words: &mut Words) -> Result<Verb<A>, ReadError>
         return set_biased_raster(words);
     }
     expect(words, 3)?;
-    let numbers = next_naturals(words, [CULL, FLAG, FLAG])?;
-    Ok(Verb::SetRaster(raster_of(numbers, 0)))
+    let raster = next_raster(words)?;
+    Ok(Verb::SetRaster(RasterState::new(raster)))
 }
 
 fn set_scissor<A: Allocator>(words: &mut Words) -> Result<Verb<A>, ReadError>
     ensures ok { IfOk result (λ v. Reads CommandWord.Scissor words.old (verb_value v)) }
     ensures err { IfErr result (Refuses CommandWord.Scissor words.old) }
 {
-    let [left, top, right, bottom] = naturals(words, [U32, U32, U32, U32])?;
+    expect(words, 4)?;
     Ok(Verb::SetScissor(PixelRect {
-        left,
-        top,
-        right,
-        bottom,
+        left: next_argument(words)?,
+        top: next_argument(words)?,
+        right: next_argument(words)?,
+        bottom: next_argument(words)?,
     }))
 }
 
@@ -120,45 +114,29 @@ fn set_depth_stencil<A: Allocator>(words: &mut Words) -> Result<Verb<A>, ReadErr
     ensures ok { IfOk result (λ v. Reads CommandWord.Ds words.old (verb_value v)) }
     ensures err { IfErr result (Refuses CommandWord.Ds words.old) }
 {
-    let [
-        depth,
-        write,
-        func,
-        stencil,
-        read_mask,
-        write_mask,
-        front_fail,
-        front_depth_fail,
-        front_pass,
-        front_func,
-        back_fail,
-        back_depth_fail,
-        back_pass,
-        back_func,
-        reference,
-    ] = naturals(words, DEPTH_STENCIL)?;
+    expect(words, 15)?;
     let state = DepthStencilState::new(DepthStencilDesc {
-        depth: depth == 1,
-        write: write == 1,
-        func: comparison_of(func),
-        stencil: stencil == 1,
-        read_mask: read_mask as u8,
-        write_mask: write_mask as u8,
-        front: face_of(front_fail, front_depth_fail, front_pass, front_func),
-        back: face_of(back_fail, back_depth_fail, back_pass, back_func),
+        depth: next_argument(words)?,
+        write: next_argument(words)?,
+        func: next_argument(words)?,
+        stencil: next_argument(words)?,
+        read_mask: next_argument(words)?,
+        write_mask: next_argument(words)?,
+        front: next_face(words)?,
+        back: next_face(words)?,
     });
-    Ok(Verb::SetDepthStencil(state, reference as u8))
+    Ok(Verb::SetDepthStencil(state, next_argument(words)?))
 }
 
 fn set_blend<A: Allocator>(words: &mut Words) -> Result<Verb<A>, ReadError>
     ensures ok { IfOk result (λ v. Reads CommandWord.Blend words.old (verb_value v)) }
     ensures err { IfErr result (Refuses CommandWord.Blend words.old) }
 {
-    let [logic, op, mask] = naturals(words, [FLAG, LOGIC_OP, COLOR_MASK])?;
+    expect(words, 3)?;
     Ok(Verb::SetBlend(BlendState::new(BlendDesc {
-        logic: logic == 1,
-        op: logic_op_of(op),
-        mask: color_mask_of(mask),
+        logic: next_argument(words)?,
+        op: next_argument(words)?,
+        mask: next_argument(words)?,
     })))
 }
 
@@ -170,15 +148,18 @@ fn set_predication<A: Allocator>(words: &mut Words) -> Result<Verb<A>, ReadError
         return Ok(Verb::SetPredication(None));
     }
     expect(words, 2)?;
-    let [query, value] = next_naturals(words, [U32, FLAG])?;
-    Ok(Verb::SetPredication(Some((query, value == 1))))
+    let query = next_argument(words)?;
+    let value = next_argument(words)?;
+    Ok(Verb::SetPredication(Some((query, value))))
 }
 
 fn draw<A: Allocator>(words: &mut Words) -> Result<Verb<A>, ReadError>
     ensures ok { IfOk result (λ v. Reads CommandWord.Draw words.old (verb_value v)) }
     ensures err { IfErr result (Refuses CommandWord.Draw words.old) }
 {
-    let [count, start] = naturals(words, [U32, U32])?;
+    expect(words, 2)?;
+    let count = next_argument(words)?;
+    let start = next_argument(words)?;
     Ok(Verb::Draw(count, start))
 }
 
@@ -187,7 +168,8 @@ fn draw_indexed<A: Allocator>(words: &mut Words) -> Result<Verb<A>, ReadError>
     ensures err { IfErr result (Refuses CommandWord.Drawi words.old) }
 {
     expect(words, 3)?;
-    let [count, start] = next_naturals(words, [U32, U32])?;
+    let count = next_argument(words)?;
+    let start = next_argument(words)?;
     let base = next_integer(words)?;
     Ok(Verb::DrawIndexed(count, start, base))
 }
@@ -196,40 +178,42 @@ fn clear_color<A: Allocator>(words: &mut Words) -> Result<Verb<A>, ReadError>
     ensures ok { IfOk result (λ v. Reads CommandWord.Clearc words.old (verb_value v)) }
     ensures err { IfErr result (Refuses CommandWord.Clearc words.old) }
 {
-    let [red, green, blue, alpha] = naturals(words, [BYTE, BYTE, BYTE, BYTE])?;
-    Ok(Verb::ClearColor([red as u8, green as u8, blue as u8, alpha as u8]))
+    expect(words, 4)?;
+    Ok(Verb::ClearColor(next_color(words)?))
 }
 
 fn clear_depth_stencil<A: Allocator>(words: &mut Words) -> Result<Verb<A>, ReadError>
     ensures ok { IfOk result (λ v. Reads CommandWord.Cleards words.old (verb_value v)) }
     ensures err { IfErr result (Refuses CommandWord.Cleards words.old) }
 {
-    let [depth, stencil] = naturals(words, [U32, BYTE])?;
-    Ok(Verb::ClearDepthStencil(depth, stencil as u8))
+    expect(words, 2)?;
+    let depth = next_argument(words)?;
+    let stencil = next_argument(words)?;
+    Ok(Verb::ClearDepthStencil(depth, stencil))
 }
 
 fn begin<A: Allocator>(words: &mut Words) -> Result<Verb<A>, ReadError>
     ensures ok { IfOk result (λ v. Reads CommandWord.Begin words.old (verb_value v)) }
     ensures err { IfErr result (Refuses CommandWord.Begin words.old) }
 {
-    let [number] = naturals(words, [U32])?;
-    Ok(Verb::Begin(number))
+    expect(words, 1)?;
+    Ok(Verb::Begin(next_argument(words)?))
 }
 
 fn end<A: Allocator>(words: &mut Words) -> Result<Verb<A>, ReadError>
     ensures ok { IfOk result (λ v. Reads CommandWord.End words.old (verb_value v)) }
     ensures err { IfErr result (Refuses CommandWord.End words.old) }
 {
-    let [number] = naturals(words, [U32])?;
-    Ok(Verb::End(number))
+    expect(words, 1)?;
+    Ok(Verb::End(next_argument(words)?))
 }
 
 fn finish<A: Allocator>(words: &mut Words) -> Result<Verb<A>, ReadError>
     ensures ok { IfOk result (λ v. Reads CommandWord.Finish words.old (verb_value v)) }
     ensures err { IfErr result (Refuses CommandWord.Finish words.old) }
 {
-    let [restore] = naturals(words, [FLAG])?;
-    Ok(Verb::Finish(restore == 1))
+    expect(words, 1)?;
+    Ok(Verb::Finish(next_argument(words)?))
 }
 
 fn flush<A: Allocator>(words: &mut Words) -> Result<Verb<A>, ReadError>
@@ -246,23 +230,26 @@ fn execute<A: Allocator>(words: &mut Words) -> Result<Verb<A>, ReadError>
 {
     expect(words, 3)?;
     let context = next_context(words)?;
-    let [list, restore] = next_naturals(words, [U32, FLAG])?;
-    Ok(Verb::Execute(context, list, restore == 1))
+    let list = next_argument(words)?;
+    let restore = next_argument(words)?;
+    Ok(Verb::Execute(context, list, restore))
 }
 
 fn query<A: Allocator>(words: &mut Words) -> Result<Verb<A>, ReadError>
     ensures ok { IfOk result (λ v. Reads CommandWord.Query words.old (verb_value v)) }
     ensures err { IfErr result (Refuses CommandWord.Query words.old) }
 {
-    let [number] = naturals(words, [U32])?;
-    Ok(Verb::Query(number))
+    expect(words, 1)?;
+    Ok(Verb::Query(next_argument(words)?))
 }
 
 fn pixel<A: Allocator>(words: &mut Words) -> Result<Verb<A>, ReadError>
     ensures ok { IfOk result (λ v. Reads CommandWord.Pixel words.old (verb_value v)) }
     ensures err { IfErr result (Refuses CommandWord.Pixel words.old) }
 {
-    let [x, y] = naturals(words, [U32, U32])?;
+    expect(words, 2)?;
+    let x = next_argument(words)?;
+    let y = next_argument(words)?;
     Ok(Verb::Pixel(x, y))
 }
 

@@ -11,6 +11,7 @@ use crate::text::FormedLine;
 use std::marker::Model;
 
 /// How many digits stand at the front of a line, and their number. The count ends at ten, since no number of 32 bits has more.
+#[inline(always)]
 fn leading_digits(line: &[u8]) -> (usize, u64)
     ensures { LeadsWith line.now result.0 result.1 }
 {

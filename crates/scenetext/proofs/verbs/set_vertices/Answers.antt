@@ -1,14 +1,12 @@
-use Rattle.std.proofs.Common.{arith, ◌/◌, ◌-◌, ◌+◌, ◌∙◌, rules}
-use Rattle.std.proofs.lemmas.Result.{err_from_is_err_and}
-use Rattle.scenetext.proofs.ReadLemmas.{vertices_refuse}
+use Rattle.std.proofs.Common.{arith, ◌/◌, ◌-◌, ◌+◌, rules}
+use Rattle.scenetext.proofs.ReadLemmas.{handed_on, vertices_refuse}
 use Rattle.scenetext.proofs.verbs.set_vertices.Goals as goal
 use Rattle.std.proofs.lemmas.Grind.{common_steps}
 
 pub returns-in_err-next_vertex-clause-err : goal.returns-in_err-next_vertex-clause-err
 returns-in_err-next_vertex-clause-err g c =
-    let p = err_from_is_err_and c.from_residual-in_err-next_vertex.result c.from_residual-in_err-next_vertex.ensures.1 in
-    rw (p.1, p.2 ∙ c.in_err-next_vertex.ensures.err.0)
-    (vertices_refuse c.args.words.now c.loop.words c.loop.vertices.items (c.count-count.result / 7 - (c.loop.counter + 1)) c.loop.invariant.taken c.loop.invariant.each (omega (arith, c.loop.invariant.left)) c.in_err-next_vertex.ensures.err.1)
+    handed_on _ _ _ c.from_residual-in_err-next_vertex.ensures.1
+    (vertices_refuse c.args.words.now c.loop.words c.loop.vertices.items (c.count-count.result / 7 - (c.loop.counter + 1)) _ c.in_err-next_vertex.ensures.err.0 c.loop.invariant.taken c.loop.invariant.each (omega (arith, c.loop.invariant.left)) c.in_err-next_vertex.ensures.err.1)
 
 pub count-count-requires : goal.count-count-requires
 count-count-requires g c = search rules
