@@ -170,9 +170,6 @@ byte_at_added text i f g l h a = rw (take_more text i 0 l) (a false (take i text
 said : (text : List ℕ) (i : ℕ) (f : FrontForm) → HasForm false (take i text) f → form false text ≡ (f.separates && form f.in_word (drop i text))
 said text i f h = ap (form false) (sym (take-append-drop i text)) ∙ h.behind (drop i text)
 
-pub few_spaces : (bytes : List ℕ) (f : FrontForm) (begun : Bool) → HasForm begun bytes f → f.spaces ≤ length bytes
-few_spaces bytes f begun h = omega (arith, h.spaces, count_by-le-length (λ b. eqb b 32) bytes)
-
 -- ---- the end of the first line
 
 and_swap : (a b : Bool) → (a && b) ≡ (b && a)
