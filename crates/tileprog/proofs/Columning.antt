@@ -109,10 +109,10 @@ column_behind s old new x y z n h e f most =
     none_plus n = omega arith
 
 -- a column in the words of the whole stroke
-pub column_is : (s : Stroke) (mid new : Block) (mask : ℕ) (clip : PixelRect) (a x n : ℕ) → ColumnDrew (record s { mask = mask; clip = clip }) mid new a n → mask ≡ s.mask → clip ≡ s.clip → a ≡ x → ColumnDrew s mid new x n
-column_is s mid new mask clip a x n h e f g =
-    let P : ℕ → PixelRect → ℕ → Type 0 = λ m c v. ColumnDrew (record s { mask = m; clip = c }) mid new v n in
-    subst (λ v. P s.mask s.clip v) g (subst (λ c. P s.mask c a) f (subst (λ m. P m clip a) e h))
+pub column_is : (s : Stroke) (mid new : Block) (plane : DeepTriangle) (mask : ℕ) (clip : PixelRect) (a x n : ℕ) → ColumnDrew (record s { plane = plane; mask = mask; clip = clip }) mid new a n → plane ≡ s.plane → mask ≡ s.mask → clip ≡ s.clip → a ≡ x → ColumnDrew s mid new x n
+column_is s mid new plane mask clip a x n h d e f g =
+    let P : DeepTriangle → ℕ → PixelRect → ℕ → Type 0 = λ p m c v. ColumnDrew (record s { plane = p; mask = m; clip = c }) mid new v n in
+    subst (λ v. P s.plane s.mask s.clip v) g (subst (λ c. P s.plane s.mask c a) f (subst (λ m. P s.plane m clip a) e (subst (λ p. P p mask clip a) d h)))
 
 -- one column more
 pub column_more : (s : Stroke) (old mid new : Block) (left x z n m : ℕ) → IsWithin s.clip old.rect → left ≤ x → Drew s old mid (in_box left x s.clip.top s.clip.bottom) → ColumnDrew s mid new x m → z ≡ x + 8 → Drew s old new (in_box left z s.clip.top s.clip.bottom)

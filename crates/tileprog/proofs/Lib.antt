@@ -21,3 +21,4 @@ pub mod Places
 pub mod AlikeLaws
 pub mod CellLaws
 pub mod Operating
+pub mod Leaving

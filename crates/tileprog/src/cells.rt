@@ -1,36 +1,35 @@
 //! Cells of a column: eight rows of a span, whose depths are asked about together.
 
-ghost use Rattle.std.specs.Prelude.{◌≡◌, ◌<◌, ◌≤◌, ◌+◌, ◌*◌, ℕ, true, false, IsTrue, IfSome, Some};
+ghost use Rattle.std.specs.Prelude.{◌≡◌, ◌<◌, ◌≤◌, ◌+◌, ◌*◌, ℕ, true, false, IsTrue, IfSome, Some, None};
 ghost use Rattle.classify.specs.Region.{IsReal};
 ghost use Rattle.gfxspec.specs.Raster.{centre, covers};
 ghost use Rattle.depthplane.specs.Place.{depth_of};
 ghost use Rattle.tileprog.specs.Alike.{HasOutcome};
-ghost use Rattle.tileprog.specs.Cells.{InRows, AllHave, AreCovered, EdgesAre, IsUnwritten, IsLong, LiesWithin, Tells};
+ghost use Rattle.tileprog.specs.Cells.{InRows, AllHave, AreCovered, EdgesAre, IsUnwritten, IsLong, Tells};
 ghost use Rattle.tileprog.specs.Columns.{IsColumn};
-ghost use Rattle.tileprog.specs.Strokes.{IsNamed};
 
 use crate::alike::opposite;
 use crate::brush::Brush;
 use crate::column::Column;
 use crate::hidden::none_passes;
 use classify::{Class, classify};
-use depthplane::Plane;
 use edges::EdgeSet;
 use gfxspec::PixelRect;
 use std::alloc::Allocator;
 use tileblock::{DepthBounds, TileBlock};
 
-/// What is known of the pixels of a column in eight rows of the tile: whether all named edges hold at each of them, or at none, and
-/// whether the depth test passes at all or at none.
+/// The pixels of a column in eight rows of the tile, from `row` on, and what is known of them: whether all named edges hold at each of
+/// them, or at none, and whether the depth test passes at all or at none.
 #[derive(Clone, Copy)]
 pub(crate) struct Cell {
+    pub(crate) row: u32,
     pub(crate) covered: Option<bool>,
     pub(crate) deep: Option<bool>,
 }
 
 /// The eight rows of a column from `row` on.
 #[inline(always)]
-fn cell_rect(rect: PixelRect, column: &Column, row: u32) -> PixelRect
+fn cell_rect(rect: PixelRect, column: &Column<'_>, row: u32) -> PixelRect
     requires column { column.now.x ≤ 4096 }
     requires top { rect.top ≤ 4096 }
     requires row { row < 32 }
@@ -61,7 +60,7 @@ fn edges_outcome(set: &EdgeSet, rect: PixelRect) -> Option<bool>
 
 /// Whether a clip rectangle leaves all of a column in all rows of a tile. A triangle that is less high is drawn faster than asked about.
 #[inline(always)]
-pub(crate) fn is_long(rect: PixelRect, column: &Column) -> bool
+pub(crate) fn is_long(rect: PixelRect, column: &Column<'_>) -> bool
     requires column { column.now.x ≤ 4096 }
     requires top { rect.top ≤ 4096 }
     ensures { IsTrue result → IsLong column.now rect }
@@ -72,40 +71,38 @@ pub(crate) fn is_long(rect: PixelRect, column: &Column) -> bool
         && column.x + 8 <= rect.right
 }
 
-/// Whether the named edges hold at all pixels of the eight rows of a column from `row` on, or not all of them at any.
+/// Whether the named edges hold at all pixels of the eight rows of a column from `row` on, or not all of them at any. Where none is named
+/// there is no set to ask.
 #[inline(always)]
 fn cover_outcome(
-    set: &EdgeSet,
-    plane: &Plane,
+    set: Option<&EdgeSet>,
     rect: PixelRect,
-    column: &Column,
-    mask: u8,
+    column: &Column<'_>,
     row: u32,
 ) -> Option<bool>
-    requires same { mask ≡ column.now.mask }
-    requires set { set.now ≡ plane.now.triangle }
+    requires some { IfSome set (λ s. s.now ≡ column.now.plane.now.triangle) }
+    requires none { set ≡ None → column.now.mask ≡ 0 }
     requires column { IsColumn column.now rect }
     requires long { IsLong column.now rect }
     requires row { row + 8 ≤ 32 }
-    requires named { IsNamed plane.now column.now.mask rect }
-    ensures { IfSome result (λ all. AreCovered all column.now.mask plane.now.triangle rect column.now.x row (row + 8)) }
+    ensures { IfSome result (λ all. AreCovered all column.now.mask column.now.plane.now.triangle rect column.now.x row (row + 8)) }
 {
-    if mask == 0 {
+    let Some(set) = set else {
         return Some(true);
-    }
+    };
     edges_outcome(set, cell_rect(rect, column, row))
 }
 
 /// What the depths of a triangle lie between where it covers pixels in the eight rows of a column from `row` on, if its plane tells.
 #[inline(always)]
-fn cell_range(plane: &Plane, rect: PixelRect, column: &Column, row: u32) -> Option<DepthBounds>
+fn cell_range(rect: PixelRect, column: &Column<'_>, row: u32) -> Option<DepthBounds>
     requires column { IsColumn column.now rect }
     requires row { row + 8 ≤ 32 }
-    ensures { IfSome result (λ between. (u v : ℕ) → InRows rect column.now.x row (row + 8) u v → IsTrue (covers plane.now.triangle (centre u v))
-        → (between.least ≤ depth_of plane.now u v) × (depth_of plane.now u v ≤ between.greatest)) }
+    ensures { IfSome result (λ between. (u v : ℕ) → InRows rect column.now.x row (row + 8) u v → IsTrue (covers column.now.plane.now.triangle (centre u v))
+        → (between.least ≤ depth_of column.now.plane.now u v) × (depth_of column.now.plane.now u v ≤ between.greatest)) }
 {
     let cell = cell_rect(rect, column, row);
-    let Some((least, greatest)) = plane.range_about(cell) else {
+    let Some((least, greatest)) = column.plane.range_about(cell) else {
         return None;
     };
     Some(DepthBounds { least, greatest })
@@ -137,16 +134,14 @@ fn outcome_between(range: DepthBounds, known: DepthBounds, brush: &Brush) -> Opt
 #[inline(always)]
 fn deep_from<A: Allocator>(
     block: &TileBlock<A>,
-    plane: &Plane,
-    column: &Column,
+    column: &Column<'_>,
     cell: u32,
     brush: &Brush,
 ) -> Option<bool>
     requires column { IsColumn column.now block.now.rect }
     requires cell { cell < 4 }
-    requires corners { LiesWithin plane.now column.now.corners }
     requires depth { brush.now.state.depth ≡ true }
-    ensures deep { IfSome result (λ deep. AllHave deep brush.now.state plane.now block.now column.now.x (8 * cell) (8 * cell + 8)) }
+    ensures deep { IfSome result (λ deep. AllHave deep brush.now.state column.now.plane.now block.now column.now.x (8 * cell) (8 * cell + 8)) }
     ensures unwritten { IfSome result (IsUnwritten brush.now.state) }
 {
     let Some(known) = block.cell_bounds(column.span, cell) else {
@@ -156,7 +151,7 @@ fn deep_from<A: Allocator>(
     if near.is_some() {
         return near;
     }
-    let Some(range) = cell_range(plane, block.rect(), column, 8 * cell) else {
+    let Some(range) = cell_range(block.rect(), column, 8 * cell) else {
         return None;
     };
     outcome_between(range, known, brush)
@@ -167,16 +162,14 @@ fn deep_from<A: Allocator>(
 #[inline(always)]
 fn depth_outcome<A: Allocator>(
     block: &TileBlock<A>,
-    plane: &Plane,
-    column: &Column,
+    column: &Column<'_>,
     cell: u32,
     covered: Option<bool>,
     brush: &Brush,
 ) -> Option<bool>
     requires column { IsColumn column.now block.now.rect }
     requires cell { cell < 4 }
-    requires corners { LiesWithin plane.now column.now.corners }
-    ensures deep { IfSome result (λ deep. AllHave deep brush.now.state plane.now block.now column.now.x (8 * cell) (8 * cell + 8)) }
+    ensures deep { IfSome result (λ deep. AllHave deep brush.now.state column.now.plane.now block.now column.now.x (8 * cell) (8 * cell + 8)) }
     ensures unwritten { IfSome result (IsUnwritten brush.now.state) }
 {
     if !brush.state.depth() {
@@ -185,7 +178,7 @@ fn depth_outcome<A: Allocator>(
     if covered == Some(false) {
         return None;
     }
-    deep_from(block, plane, column, cell, brush)
+    deep_from(block, column, cell, brush)
 }
 
 /// Looks at the stored depths of a cell that is asked about, where nothing is known of them. A brush that stores depths doesn't look: the
@@ -216,25 +209,26 @@ fn look_at<A: Allocator>(
 #[inline(always)]
 pub(crate) fn cell_of<A: Allocator>(
     block: &mut TileBlock<A>,
-    set: &EdgeSet,
-    plane: &Plane,
-    column: &Column,
-    mask: u8,
+    set: Option<&EdgeSet>,
+    column: &Column<'_>,
     cell: u32,
     brush: &Brush,
 ) -> Cell
-    requires same { mask ≡ column.now.mask }
-    requires set { set.now ≡ plane.now.triangle }
+    requires some { IfSome set (λ s. s.now ≡ column.now.plane.now.triangle) }
+    requires none { set ≡ None → column.now.mask ≡ 0 }
     requires column { IsColumn column.now block.old.rect }
     requires long { IsLong column.now block.old.rect }
     requires cell { cell < 4 }
-    requires named { IsNamed plane.now column.now.mask block.old.rect }
-    requires corners { LiesWithin plane.now column.now.corners }
     ensures block { block.new ≡ block.old }
-    ensures told { Tells result brush.now.state plane.now column.now.mask block.old column.now.x (8 * cell) }
+    ensures row { result.row ≡ 8 * cell }
+    ensures told { Tells result brush.now.state column.now.plane.now column.now.mask block.old column.now.x (8 * cell) }
 {
-    let covered = cover_outcome(set, plane, block.rect(), column, mask, 8 * cell);
+    let covered = cover_outcome(set, block.rect(), column, 8 * cell);
     look_at(block, column.span, cell, covered, brush);
-    let deep = depth_outcome(block, plane, column, cell, covered, brush);
-    Cell { covered, deep }
+    let deep = depth_outcome(block, column, cell, covered, brush);
+    Cell {
+        row: 8 * cell,
+        covered,
+        deep,
+    }
 }

@@ -1,22 +1,19 @@
 //! A triangle over a tile, in columns of spans.
 
 ghost use Rattle.std.specs.Prelude.{◌≡◌, ◌<◌, ◌≤◌, ◌+◌, ◌*◌};
-ghost use Rattle.tileprog.specs.Edges.{BeganIn};
-ghost use Rattle.tileprog.specs.Strokes.{IsNamed};
 ghost use Rattle.tileprog.specs.Kinds.{tests_of};
-ghost use Rattle.tileprog.specs.declared.kind.Tests.TheVariants.{Open, Depth};
-ghost use Rattle.tileprog.specs.Cells.{LiesWithin};
-ghost use Rattle.tileprog.specs.Columns.{IsColumn, ColumnDrew};
+ghost use Rattle.tileprog.specs.declared.kind.Tests.TheVariants.{Open};
+ghost use Rattle.tileprog.specs.Columns.{EdgesAt, IsColumn, ColumnDrew, WalksAt, stroke_in};
 ghost use Rattle.tileprog.specs.Made.{AreOf};
 
 use crate::brush::Brush;
+use crate::brushes::DepthBrush;
 use crate::column::Column;
 use crate::kind::MadeTests;
-use crate::rows::{depth_row, open_row};
+use crate::rows::{depth_row, open_row, pixels_left};
 use crate::stencils::stencil_column;
-use depthplane::{Plane, Walks};
+use depthplane::Walks;
 use edges::EdgeWalk;
-use gfxspec::Compare;
 use std::alloc::Allocator;
 use tileblock::TileBlock;
 
@@ -25,26 +22,24 @@ use tileblock::TileBlock;
 #[inline(always)]
 fn open_rows<A: Allocator>(
     block: &mut TileBlock<A>,
-    column: &Column,
+    column: &Column<'_>,
     mask: u8,
     edges: &EdgeWalk<'_>,
-    plane: &Plane,
     brush: Brush,
 ) -> u32
     requires same { mask ≡ column.now.mask }
     requires column { IsColumn column.now block.old.rect }
-    requires edges { edges.now ≡ record edges.now { triangle = plane.now.triangle; x = column.now.x; y = column.now.clip.top } }
-    requires begun { BeganIn edges.now block.old.rect }
-    requires named { IsNamed plane.now column.now.mask block.old.rect }
+    requires edges { EdgesAt edges.now column.now block.old.rect column.now.clip.top }
     requires kind { tests_of brush.state ≡ Open }
-    ensures { ColumnDrew (record { brush = brush; plane = plane.now; mask = column.now.mask; clip = column.now.clip }) block.old block.new column.now.x result }
+    ensures { ColumnDrew (stroke_in brush column.now) block.old block.new column.now.x result }
 {
     let column = *column;
     let mut edges = edges.copied();
     let rect = block.rect();
     let mut passed = 0u32;
     for row in column.clip.top - rect.top..column.clip.bottom - rect.top {
-        let more = open_row(block, &column, mask, row, &edges, plane, &brush);
+        let pixels = pixels_left(block, &column, mask, row, &edges);
+        let more = open_row(block, &column, pixels, &brush);
         passed += more;
         edges.down();
     }
@@ -55,22 +50,19 @@ fn open_rows<A: Allocator>(
 #[inline(never)]
 fn open_column<A: Allocator>(
     block: &mut TileBlock<A>,
-    column: &Column,
+    column: &Column<'_>,
     edges: &EdgeWalk<'_>,
-    plane: &Plane,
     brush: Brush,
 ) -> u32
     requires column { IsColumn column.now block.old.rect }
-    requires edges { edges.now ≡ record edges.now { triangle = plane.now.triangle; x = column.now.x; y = column.now.clip.top } }
-    requires begun { BeganIn edges.now block.old.rect }
-    requires named { IsNamed plane.now column.now.mask block.old.rect }
+    requires edges { EdgesAt edges.now column.now block.old.rect column.now.clip.top }
     requires kind { tests_of brush.state ≡ Open }
-    ensures { ColumnDrew (record { brush = brush; plane = plane.now; mask = column.now.mask; clip = column.now.clip }) block.old block.new column.now.x result }
+    ensures { ColumnDrew (stroke_in brush column.now) block.old block.new column.now.x result }
 {
     if column.mask == 0 {
-        open_rows(block, column, 0, edges, plane, brush)
+        open_rows(block, column, 0, edges, brush)
     } else {
-        open_rows(block, column, column.mask, edges, plane, brush)
+        open_rows(block, column, column.mask, edges, brush)
     }
 }
 
@@ -78,24 +70,17 @@ fn open_column<A: Allocator>(
 #[inline(always)]
 fn depth_spans<A: Allocator, W: Walks>(
     block: &mut TileBlock<A>,
-    column: &Column,
+    column: &Column<'_>,
     mask: u8,
     edges: &EdgeWalk<'_>,
     walk: &W,
-    func: Compare,
-    write: bool,
-    brush: Brush,
+    brush: DepthBrush,
 ) -> u32
     requires same { mask ≡ column.now.mask }
     requires column { IsColumn column.now block.old.rect }
-    requires edges { edges.now ≡ record edges.now { triangle = (W.place walk.now).plane.triangle; x = column.now.x; y = column.now.clip.top } }
-    requires begun { BeganIn edges.now block.old.rect }
-    requires walk { W.place walk.now ≡ record (W.place walk.now) { x = column.now.x; y = column.now.clip.top } }
-    requires left { block.old.rect.left ≤ (W.place walk.now).left }
-    requires top { block.old.rect.top ≤ (W.place walk.now).top }
-    requires named { IsNamed (W.place walk.now).plane column.now.mask block.old.rect }
-    requires kind { tests_of brush.state ≡ Depth func write }
-    ensures { ColumnDrew (record { brush = brush; plane = (W.place walk.now).plane; mask = column.now.mask; clip = column.now.clip }) block.old block.new column.now.x result }
+    requires edges { EdgesAt edges.now column.now block.old.rect column.now.clip.top }
+    requires walk { WalksAt (W.place walk.now) column.now block.old.rect column.now.clip.top }
+    ensures { ColumnDrew (stroke_in brush.brush column.now) block.old block.new column.now.x result }
 {
     let column = *column;
     let mut edges = edges.copied();
@@ -103,9 +88,8 @@ fn depth_spans<A: Allocator, W: Walks>(
     let rect = block.rect();
     let mut passed = 0u32;
     for row in column.clip.top - rect.top..column.clip.bottom - rect.top {
-        let more = depth_row(
-            block, &column, mask, row, &edges, &walk, func, write, &brush,
-        );
+        let pixels = pixels_left(block, &column, mask, row, &edges);
+        let more = depth_row(block, &column, pixels, &walk, &brush);
         passed += more;
         edges.down();
         walk.next();
@@ -117,27 +101,20 @@ fn depth_spans<A: Allocator, W: Walks>(
 #[inline(always)]
 fn depth_rows<A: Allocator, W: Walks>(
     block: &mut TileBlock<A>,
-    column: &Column,
+    column: &Column<'_>,
     edges: &EdgeWalk<'_>,
     walk: &W,
-    func: Compare,
-    write: bool,
-    brush: Brush,
+    brush: DepthBrush,
 ) -> u32
     requires column { IsColumn column.now block.old.rect }
-    requires edges { edges.now ≡ record edges.now { triangle = (W.place walk.now).plane.triangle; x = column.now.x; y = column.now.clip.top } }
-    requires begun { BeganIn edges.now block.old.rect }
-    requires walk { W.place walk.now ≡ record (W.place walk.now) { x = column.now.x; y = column.now.clip.top } }
-    requires left { block.old.rect.left ≤ (W.place walk.now).left }
-    requires top { block.old.rect.top ≤ (W.place walk.now).top }
-    requires named { IsNamed (W.place walk.now).plane column.now.mask block.old.rect }
-    requires kind { tests_of brush.state ≡ Depth func write }
-    ensures { ColumnDrew (record { brush = brush; plane = (W.place walk.now).plane; mask = column.now.mask; clip = column.now.clip }) block.old block.new column.now.x result }
+    requires edges { EdgesAt edges.now column.now block.old.rect column.now.clip.top }
+    requires walk { WalksAt (W.place walk.now) column.now block.old.rect column.now.clip.top }
+    ensures { ColumnDrew (stroke_in brush.brush column.now) block.old block.new column.now.x result }
 {
     if column.mask == 0 {
-        depth_spans(block, column, 0, edges, walk, func, write, brush)
+        depth_spans(block, column, 0, edges, walk, brush)
     } else {
-        depth_spans(block, column, column.mask, edges, walk, func, write, brush)
+        depth_spans(block, column, column.mask, edges, walk, brush)
     }
 }
 
@@ -146,24 +123,17 @@ fn depth_rows<A: Allocator, W: Walks>(
 #[inline(always)]
 fn sure_depth_rows<A: Allocator, W: Walks>(
     block: &mut TileBlock<A>,
-    column: &Column,
+    column: &Column<'_>,
     edges: &EdgeWalk<'_>,
     walk: &W,
-    func: Compare,
-    write: bool,
-    brush: Brush,
+    brush: DepthBrush,
 ) -> u32
     requires column { IsColumn column.now block.old.rect }
-    requires edges { edges.now ≡ record edges.now { triangle = (W.place walk.now).plane.triangle; x = column.now.x; y = column.now.clip.top } }
-    requires begun { BeganIn edges.now block.old.rect }
-    requires walk { W.place walk.now ≡ record (W.place walk.now) { x = column.now.x; y = column.now.clip.top } }
-    requires left { block.old.rect.left ≤ (W.place walk.now).left }
-    requires top { block.old.rect.top ≤ (W.place walk.now).top }
-    requires named { IsNamed (W.place walk.now).plane column.now.mask block.old.rect }
-    requires kind { tests_of brush.state ≡ Depth func write }
-    ensures { ColumnDrew (record { brush = brush; plane = (W.place walk.now).plane; mask = column.now.mask; clip = column.now.clip }) block.old block.new column.now.x result }
+    requires edges { EdgesAt edges.now column.now block.old.rect column.now.clip.top }
+    requires walk { WalksAt (W.place walk.now) column.now block.old.rect column.now.clip.top }
+    ensures { ColumnDrew (stroke_in brush.brush column.now) block.old block.new column.now.x result }
 {
-    depth_rows(block, column, edges, walk, func, write, brush)
+    depth_rows(block, column, edges, walk, brush)
 }
 
 /// A column under a brush that tests depth alone; the answer is how many pixels pass. Whether all depths are sure is known to each of
@@ -171,27 +141,20 @@ fn sure_depth_rows<A: Allocator, W: Walks>(
 #[inline(always)]
 fn depth_column<A: Allocator, W: Walks>(
     block: &mut TileBlock<A>,
-    column: &Column,
+    column: &Column<'_>,
     edges: &EdgeWalk<'_>,
     walk: &W,
-    func: Compare,
-    write: bool,
-    brush: Brush,
+    brush: DepthBrush,
 ) -> u32
     requires column { IsColumn column.now block.old.rect }
-    requires edges { edges.now ≡ record edges.now { triangle = (W.place walk.now).plane.triangle; x = column.now.x; y = column.now.clip.top } }
-    requires begun { BeganIn edges.now block.old.rect }
-    requires walk { W.place walk.now ≡ record (W.place walk.now) { x = column.now.x; y = column.now.clip.top } }
-    requires left { block.old.rect.left ≤ (W.place walk.now).left }
-    requires top { block.old.rect.top ≤ (W.place walk.now).top }
-    requires named { IsNamed (W.place walk.now).plane column.now.mask block.old.rect }
-    requires kind { tests_of brush.state ≡ Depth func write }
-    ensures { ColumnDrew (record { brush = brush; plane = (W.place walk.now).plane; mask = column.now.mask; clip = column.now.clip }) block.old block.new column.now.x result }
+    requires edges { EdgesAt edges.now column.now block.old.rect column.now.clip.top }
+    requires walk { WalksAt (W.place walk.now) column.now block.old.rect column.now.clip.top }
+    ensures { ColumnDrew (stroke_in brush.brush column.now) block.old block.new column.now.x result }
 {
     if walk.is_sure() {
-        sure_depth_rows(block, column, edges, walk, func, write, brush)
+        sure_depth_rows(block, column, edges, walk, brush)
     } else {
-        depth_rows(block, column, edges, walk, func, write, brush)
+        depth_rows(block, column, edges, walk, brush)
     }
 }
 
@@ -199,31 +162,28 @@ fn depth_column<A: Allocator, W: Walks>(
 #[inline(always)]
 pub(crate) fn draw_column<A: Allocator, W: Walks>(
     block: &mut TileBlock<A>,
-    column: &Column,
+    column: &Column<'_>,
     edges: &EdgeWalk<'_>,
-    plane: &Plane,
     walk: &W,
     tests: &MadeTests<'_>,
     brush: &Brush,
 ) -> u32
     requires column { IsColumn column.now block.old.rect }
-    requires edges { edges.now ≡ record edges.now { triangle = plane.now.triangle; x = column.now.x; y = column.now.clip.top } }
-    requires begun { BeganIn edges.now block.old.rect }
-    requires walk { W.place walk.now ≡ record (W.place walk.now) { plane = plane.now; x = column.now.x; y = column.now.clip.top } }
-    requires left { block.old.rect.left ≤ (W.place walk.now).left }
-    requires top { block.old.rect.top ≤ (W.place walk.now).top }
-    requires named { IsNamed plane.now column.now.mask block.old.rect }
-    requires corners { LiesWithin plane.now column.now.corners }
-    requires tests { AreOf tests.now brush.now plane.now.triangle }
-    ensures { ColumnDrew (record { brush = brush.now; plane = plane.now; mask = column.now.mask; clip = column.now.clip }) block.old block.new column.now.x result }
+    requires edges { EdgesAt edges.now column.now block.old.rect column.now.clip.top }
+    requires walk { WalksAt (W.place walk.now) column.now block.old.rect column.now.clip.top }
+    requires tests { AreOf tests.now brush.now column.now.plane.now.triangle }
+    ensures { ColumnDrew (stroke_in brush.now column.now) block.old block.new column.now.x result }
 {
     match tests {
-        MadeTests::Nothing => open_column(block, column, edges, plane, *brush),
+        MadeTests::Nothing => open_column(block, column, edges, *brush),
         MadeTests::DepthAlone(func, write) => {
-            depth_column(block, column, edges, walk, *func, *write, *brush)
+            let tested = DepthBrush {
+                func: *func,
+                write: *write,
+                brush: *brush,
+            };
+            depth_column(block, column, edges, walk, tested)
         }
-        MadeTests::Both(test, set) => {
-            stencil_column(block, column, set, plane, edges, walk, test, brush)
-        }
+        MadeTests::Both(tested, set) => { stencil_column(block, column, set, edges, walk, tested) }
     }
 }

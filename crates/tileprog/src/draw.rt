@@ -11,6 +11,7 @@ ghost use Rattle.tileprog.specs.Spreads.{IsOver, SpreadDrew, edges_begin, stroke
 ghost use Rattle.tileprog.specs.Strokes.{IsWithin, IsNamed, Stroked};
 
 use crate::brush::Brush;
+use crate::brushes::StencilBrush;
 use crate::column::column_of;
 use crate::columns::draw_column;
 use crate::kind::{MadeTests, Tests};
@@ -54,7 +55,6 @@ fn draw_spans<A: Allocator, W: Walks>(
     ensures { SpreadDrew (stroke_of triangle.now) block.old block.new result }
 {
     let rect = block.rect();
-    let plane = triangle.plane;
     let brush = triangle.brush;
     let mut passed = 0u32;
     for span in triangle.first..triangle.past {
@@ -62,10 +62,11 @@ fn draw_spans<A: Allocator, W: Walks>(
             rect.left + 8 * span,
             span,
             triangle.clip,
+            triangle.plane,
             triangle.mask,
             triangle.corners,
         );
-        let more = draw_column(block, &column, &edges, plane, &walk, tests, brush);
+        let more = draw_column(block, &column, &edges, &walk, tests, brush);
         passed += more;
         if span + 1 == triangle.past {
             return passed;
@@ -240,9 +241,12 @@ pub(crate) fn draw<A: Allocator>(
             draw_tested(block, triangle, mask, &tests, brush, clip)
         }
         Tests::Stencil => {
-            let test = StencilTest::of(&brush.state, brush.front, brush.reference);
+            let tested = StencilBrush {
+                test: StencilTest::of(&brush.state, brush.front, brush.reference),
+                brush: *brush,
+            };
             let set = triangle.edges.unpacked();
-            let tests = MadeTests::Both(&test, &set);
+            let tests = MadeTests::Both(&tested, &set);
             draw_tested(block, triangle, mask, &tests, brush, clip)
         }
     }

@@ -13,6 +13,7 @@
 mod alike;
 mod behind;
 mod brush;
+mod brushes;
 mod cells;
 mod column;
 mod columns;
@@ -22,6 +23,7 @@ mod hidden;
 mod kind;
 mod order;
 mod paint;
+mod pixels;
 mod program;
 mod rows;
 mod spans;

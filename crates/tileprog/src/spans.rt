@@ -1,30 +1,37 @@
 //! One span of eight pixels.
 
-ghost use Rattle.std.specs.Prelude.{◌≡◌, ◌<◌, ◌≤◌, ◌+◌, ◌==◌, ◌&&◌, ◌||◌, not, true, IsTrue, ℕ, List, slice_index, if◌then◌else◌};
-ghost use Rattle.std.specs.Int.{bit_at};
+ghost use Rattle.std.specs.Prelude.{◌≡◌, ◌<◌, ◌≤◌, ◌+◌, ◌==◌, ◌&&◌, ◌||◌, not, true, IsTrue, ℕ, List, slice_index};
 ghost use Rattle.gfxspec.specs.DepthStencil.{compares, depth_passes};
 ghost use Rattle.lanes.specs.Stencil.{has, reference_passes};
 ghost use Rattle.tileblock.specs.SpanStored.{SpanStored, lane_pixel};
 ghost use Rattle.tileprog.specs.Cells.{IsStill, IsUnwritten};
 ghost use Rattle.tileprog.specs.Kinds.{tests_of};
-ghost use Rattle.tileprog.specs.declared.kind.Tests.TheVariants.{Open, Depth, Stencil};
+ghost use Rattle.tileprog.specs.declared.kind.Tests.TheVariants.{Open};
 ghost use Rattle.tileprog.specs.Counting.{eight, one_if};
 ghost use Rattle.tileprog.specs.Alike.{operated};
 ghost use Rattle.tileprog.specs.SpanDrawn.{painted_lane, tested_lane, drawn_lane, deepened_lane, kept_lane, stenciled_lane, operated_lane, ArePassed, RowsStored};
 
 use crate::brush::Brush;
-use gfxspec::Compare;
+use crate::brushes::{DepthBrush, StencilBrush};
+use crate::pixels::SpanPixels;
 use lanes::{StencilTest, depth_mask, write8};
 use std::alloc::Allocator;
 use tileblock::TileBlock;
 
-/// Writes the colours of the span's pixels whose bits are set.
+/// What is known of the tests at the covered pixels of some rows: whether depth passes at each of them or at none, and whether the stencil
+/// test is known to pass always.
+#[derive(Clone, Copy)]
+pub(crate) struct KnownTests {
+    pub(crate) deep: bool,
+    pub(crate) always: bool,
+}
+
+/// Writes the colours of these pixels.
 #[inline(always)]
-fn paint_span<A: Allocator>(block: &mut TileBlock<A>, span: u32, row: u32, bits: u8, brush: &Brush)
-    requires span { span < 4 }
-    requires row { row < 32 }
-    ensures { SpanStored block.old block.new span row (painted_lane brush.now bits) }
+fn paint_span<A: Allocator>(block: &mut TileBlock<A>, pixels: SpanPixels, brush: &Brush)
+    ensures { SpanStored block.old block.new pixels.span pixels.row (painted_lane brush.now pixels.bits) }
 {
+    let SpanPixels { span, row, bits } = pixels;
     let write = brush.write;
     let old = block.color_span(span, row);
     if bits == 0 {
@@ -45,13 +52,12 @@ fn paint_span<A: Allocator>(block: &mut TileBlock<A>, span: u32, row: u32, bits:
     }
 }
 
-/// Stores depths where bits are set.
+/// Stores depths at these pixels.
 #[inline(always)]
-fn put_depths<A: Allocator>(block: &mut TileBlock<A>, span: u32, row: u32, bits: u8, new: &[u32; 8])
-    requires span { span < 4 }
-    requires row { row < 32 }
-    ensures { SpanStored block.old block.new span row (deepened_lane bits new.now) }
+fn put_depths<A: Allocator>(block: &mut TileBlock<A>, pixels: SpanPixels, new: &[u32; 8])
+    ensures { SpanStored block.old block.new pixels.span pixels.row (deepened_lane pixels.bits new.now) }
 {
+    let SpanPixels { span, row, bits } = pixels;
     if bits == 255 {
         block.set_depth_span(span, row, *new);
     } else if bits != 0 {
@@ -59,19 +65,12 @@ fn put_depths<A: Allocator>(block: &mut TileBlock<A>, span: u32, row: u32, bits:
     }
 }
 
-/// Stores stencil values where bits are set.
+/// Stores stencil values at these pixels.
 #[inline(always)]
-fn put_stencils<A: Allocator>(
-    block: &mut TileBlock<A>,
-    span: u32,
-    row: u32,
-    bits: u8,
-    new: &[u8; 8],
-)
-    requires span { span < 4 }
-    requires row { row < 32 }
-    ensures { SpanStored block.old block.new span row (stenciled_lane bits new.now) }
+fn put_stencils<A: Allocator>(block: &mut TileBlock<A>, pixels: SpanPixels, new: &[u8; 8])
+    ensures { SpanStored block.old block.new pixels.span pixels.row (stenciled_lane pixels.bits new.now) }
 {
+    let SpanPixels { span, row, bits } = pixels;
     if bits == 255 {
         block.set_stencil_span(span, row, *new);
     } else {
@@ -79,42 +78,31 @@ fn put_stencils<A: Allocator>(
     }
 }
 
-/// The span's covered pixels at which depth passes, as bits.
+/// Those of these pixels at which depth passes, as bits.
 #[inline(always)]
 fn passed_depths<A: Allocator>(
     block: &TileBlock<A>,
-    span: u32,
-    row: u32,
-    cover: u8,
+    pixels: SpanPixels,
     new: &[u32; 8],
-    func: Compare,
-    write: bool,
-    brush: &Brush,
+    brush: &DepthBrush,
 ) -> u8
-    requires span { span < 4 }
-    requires row { row < 32 }
-    requires kind { tests_of brush.now.state ≡ Depth func write }
-    ensures { ArePassed brush.now block.now span row cover new.now result }
+    ensures { ArePassed brush.now.brush block.now pixels.span pixels.row pixels.bits new.now result }
 {
-    cover & depth_mask(func, new, &block.depth_span(span, row))
+    pixels.bits & depth_mask(brush.func, new, &block.depth_span(pixels.span, pixels.row))
 }
 
-/// Stores depths where bits are set, if depths are to be stored.
+/// Stores depths at these pixels, if depths are to be stored.
 #[inline(always)]
 fn keep_depths<A: Allocator>(
     block: &mut TileBlock<A>,
-    span: u32,
-    row: u32,
-    bits: u8,
+    pixels: SpanPixels,
     new: &[u32; 8],
     write: bool,
 )
-    requires span { span < 4 }
-    requires row { row < 32 }
-    ensures { SpanStored block.old block.new span row (kept_lane write bits new.now) }
+    ensures { SpanStored block.old block.new pixels.span pixels.row (kept_lane write pixels.bits new.now) }
 {
     if write {
-        put_depths(block, span, row, bits, new);
+        put_depths(block, pixels, new);
     }
 }
 
@@ -122,22 +110,17 @@ fn keep_depths<A: Allocator>(
 #[inline(always)]
 fn draw_passed<A: Allocator>(
     block: &mut TileBlock<A>,
-    span: u32,
-    row: u32,
-    bits: u8,
+    passed: SpanPixels,
     new: &[u32; 8],
-    write: bool,
-    brush: &Brush,
+    brush: &DepthBrush,
 )
-    requires span { span < 4 }
-    requires row { row < 32 }
-    ensures { SpanStored block.old block.new span row (λ j p. painted_lane brush.now bits j (kept_lane write bits new.now j p)) }
+    ensures { SpanStored block.old block.new passed.span passed.row (λ j p. painted_lane brush.now.brush passed.bits j (kept_lane brush.now.write passed.bits new.now j p)) }
 {
-    keep_depths(block, span, row, bits, new, write);
-    paint_span(block, span, row, bits, brush);
+    keep_depths(block, passed, new, brush.write);
+    paint_span(block, passed, &brush.brush);
 }
 
-/// Bit j is set where depth passes at pixel j, or isn't tested.
+/// Bit j is set where depth passes at pixel j of a span, or isn't tested.
 #[inline(always)]
 fn deep_mask<A: Allocator>(
     block: &TileBlock<A>,
@@ -158,126 +141,113 @@ fn deep_mask<A: Allocator>(
     }
 }
 
-/// Stores what the operations of a stencil test leave of the span's covered values, unless each is kept.
+/// Stores what the operations of a stencil test leave of the values at these pixels, unless each is kept.
 #[inline(always)]
 fn change_stencils<A: Allocator>(
     block: &mut TileBlock<A>,
-    span: u32,
-    row: u32,
-    cover: u8,
+    pixels: SpanPixels,
     stored: &[u8; 8],
     passing: u8,
     deep: u8,
     test: &StencilTest,
 )
-    requires span { span < 4 }
-    requires row { row < 32 }
-    requires stored { (j : ℕ) → j < 8 → slice_index stored.now j ≡ (lane_pixel block.old span row j).ds.stencil }
+    requires stored { (j : ℕ) → j < 8 → slice_index stored.now j ≡ (lane_pixel block.old pixels.span pixels.row j).ds.stencil }
     requires small { (j : ℕ) → j < 8 → slice_index stored.now j < 256 }
-    ensures { SpanStored block.old block.new span row (operated_lane test.now cover passing deep) }
+    ensures { SpanStored block.old block.new pixels.span pixels.row (operated_lane test.now pixels.bits passing deep) }
 {
-    if test.keeps(cover, passing, deep) {
+    if test.keeps(pixels.bits, passing, deep) {
         return;
     }
-    put_stencils(block, span, row, cover, &test.after(stored, passing, deep));
+    put_stencils(block, pixels, &test.after(stored, passing, deep));
 }
 
-/// Tests stencil and depth at the span's covered pixels, and stores what the tests leave.
+/// Tests stencil and depth at these pixels, and stores what the tests leave; the answer has a bit for each that passes.
 #[inline(always)]
 fn test_stencils<A: Allocator>(
     block: &mut TileBlock<A>,
-    span: u32,
-    row: u32,
-    cover: u8,
+    pixels: SpanPixels,
     new: &[u32; 8],
-    test: &StencilTest,
-    brush: &Brush,
+    brush: &StencilBrush,
 ) -> u8
-    requires span { span < 4 }
-    requires row { row < 32 }
-    requires kind { tests_of brush.now.state ≡ Stencil }
-    requires test { test.now ≡ record { setting = brush.now.state; face = if brush.now.front then brush.now.state.front else brush.now.state.back; reference = brush.now.reference } }
-    ensures block { SpanStored block.old block.new span row (tested_lane brush.now cover new.now) }
-    ensures bits { ArePassed brush.now block.old span row cover new.now result }
+    ensures block { SpanStored block.old block.new pixels.span pixels.row (tested_lane brush.now.brush pixels.bits new.now) }
+    ensures bits { ArePassed brush.now.brush block.old pixels.span pixels.row pixels.bits new.now result }
 {
-    let stored = block.stencil_span(span, row);
-    let passing = test.passes(&stored);
-    let deep = deep_mask(block, span, row, new, brush);
-    let passed = cover & (passing & deep);
-    change_stencils(block, span, row, cover, &stored, passing, deep, test);
-    if brush.state.depth() && brush.state.write() {
-        put_depths(block, span, row, passed, new);
+    let stored = block.stencil_span(pixels.span, pixels.row);
+    let passing = brush.test.passes(&stored);
+    let deep = deep_mask(block, pixels.span, pixels.row, new, &brush.brush);
+    let bits = pixels.bits & (passing & deep);
+    change_stencils(block, pixels, &stored, passing, deep, &brush.test);
+    if brush.brush.state.depth() && brush.brush.state.write() {
+        let passed = SpanPixels {
+            span: pixels.span,
+            row: pixels.row,
+            bits,
+        };
+        put_depths(block, passed, new);
     }
-    passed
+    bits
 }
 
-/// Draws the span's covered pixels under a brush without tests.
+/// Draws these pixels under a brush without tests.
 #[inline(always)]
-pub(crate) fn draw_open<A: Allocator>(
-    block: &mut TileBlock<A>,
-    span: u32,
-    row: u32,
-    cover: u8,
-    brush: &Brush,
-)
-    requires span { span < 4 }
-    requires row { row < 32 }
+pub(crate) fn draw_open<A: Allocator>(block: &mut TileBlock<A>, pixels: SpanPixels, brush: &Brush)
     requires kind { tests_of brush.now.state ≡ Open }
-    ensures block { (new : List ℕ) → SpanStored block.old block.new span row (drawn_lane brush.now cover new) }
-    ensures bits { (new : List ℕ) → ArePassed brush.now block.old span row cover new cover }
+    ensures block { (new : List ℕ) → SpanStored block.old block.new pixels.span pixels.row (drawn_lane brush.now pixels.bits new) }
+    ensures bits { (new : List ℕ) → ArePassed brush.now block.old pixels.span pixels.row pixels.bits new pixels.bits }
 {
-    paint_span(block, span, row, cover, brush);
+    paint_span(block, pixels, brush);
 }
 
-/// Draws the span's covered pixels under a brush that tests depth alone; the answer has a bit for each that passes. Where all eight
-/// pass, which is known once, whole spans are stored.
+/// Draws these pixels under a brush that tests depth alone; the answer has a bit for each that passes. Where all eight pass, which is
+/// known once, whole spans are stored.
 #[inline(always)]
 pub(crate) fn draw_depths<A: Allocator>(
     block: &mut TileBlock<A>,
-    span: u32,
-    row: u32,
-    cover: u8,
+    pixels: SpanPixels,
     new: &[u32; 8],
-    func: Compare,
-    write: bool,
-    brush: &Brush,
+    brush: &DepthBrush,
 ) -> u8
-    requires span { span < 4 }
-    requires row { row < 32 }
-    requires kind { tests_of brush.now.state ≡ Depth func write }
-    ensures block { SpanStored block.old block.new span row (drawn_lane brush.now cover new.now) }
-    ensures bits { ArePassed brush.now block.old span row cover new.now result }
+    ensures block { SpanStored block.old block.new pixels.span pixels.row (drawn_lane brush.now.brush pixels.bits new.now) }
+    ensures bits { ArePassed brush.now.brush block.old pixels.span pixels.row pixels.bits new.now result }
 {
-    let passed = passed_depths(block, span, row, cover, new, func, write, brush);
-    if passed == 255 {
-        draw_passed(block, span, row, 255, new, write, brush);
+    let bits = passed_depths(block, pixels, new, brush);
+    if bits == 255 {
+        let all = SpanPixels {
+            span: pixels.span,
+            row: pixels.row,
+            bits: 255,
+        };
+        draw_passed(block, all, new, brush);
     } else {
-        draw_passed(block, span, row, passed, new, write, brush);
+        let passed = SpanPixels {
+            span: pixels.span,
+            row: pixels.row,
+            bits,
+        };
+        draw_passed(block, passed, new, brush);
     }
-    passed
+    bits
 }
 
-/// Draws the span's covered pixels under a brush with a stencil test; the answer has a bit for each that passes.
+/// Draws these pixels under a brush with a stencil test; the answer has a bit for each that passes.
 #[inline(always)]
 pub(crate) fn draw_stencils<A: Allocator>(
     block: &mut TileBlock<A>,
-    span: u32,
-    row: u32,
-    cover: u8,
+    pixels: SpanPixels,
     new: &[u32; 8],
-    test: &StencilTest,
-    brush: &Brush,
+    brush: &StencilBrush,
 ) -> u8
-    requires span { span < 4 }
-    requires row { row < 32 }
-    requires kind { tests_of brush.now.state ≡ Stencil }
-    requires test { test.now ≡ record { setting = brush.now.state; face = if brush.now.front then brush.now.state.front else brush.now.state.back; reference = brush.now.reference } }
-    ensures block { SpanStored block.old block.new span row (drawn_lane brush.now cover new.now) }
-    ensures bits { ArePassed brush.now block.old span row cover new.now result }
+    ensures block { SpanStored block.old block.new pixels.span pixels.row (drawn_lane brush.now.brush pixels.bits new.now) }
+    ensures bits { ArePassed brush.now.brush block.old pixels.span pixels.row pixels.bits new.now result }
 {
-    let passed = test_stencils(block, span, row, cover, new, test, brush);
-    paint_span(block, span, row, passed, brush);
-    passed
+    let bits = test_stencils(block, pixels, new, brush);
+    let passed = SpanPixels {
+        span: pixels.span,
+        row: pixels.row,
+        bits,
+    };
+    paint_span(block, passed, &brush.brush);
+    bits
 }
 
 /// A bit for each of eight lanes, or none.
@@ -297,37 +267,34 @@ fn passing_mask(test: &StencilTest, always: bool, stored: &[u8; 8]) -> u8
     if always { 255 } else { test.passes(stored) }
 }
 
-/// Draws the span's covered pixels under a brush with a stencil test, where the depth test is known to pass at each of them, or at
-/// none, and no depth is stored; the answer has a bit for each that passes.
+/// Draws these pixels under a brush with a stencil test, where the depth test is known to pass at each of them, or at none, and no depth
+/// is stored; the answer has a bit for each that passes.
 #[inline(always)]
 pub(crate) fn draw_alike<A: Allocator>(
     block: &mut TileBlock<A>,
-    span: u32,
-    row: u32,
-    cover: u8,
-    deep: bool,
-    always: bool,
-    test: &StencilTest,
-    brush: &Brush,
+    pixels: SpanPixels,
+    known: KnownTests,
+    brush: &StencilBrush,
 ) -> u8
-    requires span { span < 4 }
-    requires row { row < 32 }
-    requires kind { tests_of brush.now.state ≡ Stencil }
-    requires test { test.now ≡ record { setting = brush.now.state; face = if brush.now.front then brush.now.state.front else brush.now.state.back; reference = brush.now.reference } }
-    requires unwritten { IsUnwritten brush.now.state deep }
-    requires always { IsTrue always → (v : ℕ) → reference_passes test.now v ≡ true }
-    ensures block { (new : List ℕ) → ((j : ℕ) → j < 8 → has cover j ≡ true → depth_passes brush.now.state (slice_index new j) (lane_pixel block.old span row j).ds.depth ≡ deep)
-        → SpanStored block.old block.new span row (drawn_lane brush.now cover new) }
-    ensures bits { (new : List ℕ) → ((j : ℕ) → j < 8 → has cover j ≡ true → depth_passes brush.now.state (slice_index new j) (lane_pixel block.old span row j).ds.depth ≡ deep)
-        → ArePassed brush.now block.old span row cover new result }
+    requires unwritten { IsUnwritten brush.now.brush.state known.deep }
+    requires always { IsTrue known.always → (v : ℕ) → reference_passes brush.now.test v ≡ true }
+    ensures block { (new : List ℕ) → ((j : ℕ) → j < 8 → has pixels.bits j ≡ true → depth_passes brush.now.brush.state (slice_index new j) (lane_pixel block.old pixels.span pixels.row j).ds.depth ≡ known.deep)
+        → SpanStored block.old block.new pixels.span pixels.row (drawn_lane brush.now.brush pixels.bits new) }
+    ensures bits { (new : List ℕ) → ((j : ℕ) → j < 8 → has pixels.bits j ≡ true → depth_passes brush.now.brush.state (slice_index new j) (lane_pixel block.old pixels.span pixels.row j).ds.depth ≡ known.deep)
+        → ArePassed brush.now.brush block.old pixels.span pixels.row pixels.bits new result }
 {
-    let all = all_lanes(deep);
-    let stored = block.stencil_span(span, row);
-    let passing = passing_mask(test, always, &stored);
-    let passed = cover & (passing & all);
-    change_stencils(block, span, row, cover, &stored, passing, all, test);
-    paint_span(block, span, row, passed, brush);
-    passed
+    let all = all_lanes(known.deep);
+    let stored = block.stencil_span(pixels.span, pixels.row);
+    let passing = passing_mask(&brush.test, known.always, &stored);
+    let bits = pixels.bits & (passing & all);
+    change_stencils(block, pixels, &stored, passing, all, &brush.test);
+    let passed = SpanPixels {
+        span: pixels.span,
+        row: pixels.row,
+        bits,
+    };
+    paint_span(block, passed, &brush.brush);
+    bits
 }
 
 /// Does the operation of a stencil test that passes at all pixels of two rows of a span, where the depth test has one outcome at
@@ -363,43 +330,35 @@ pub(crate) fn keeps_colors(deep: bool, brush: &Brush) -> bool
 
 /// Whether a brush changes nothing where the stencil test passes, as it always does, and the depth test passes at all pixels or at none.
 #[inline(always)]
-pub(crate) fn is_still(deep: bool, test: &StencilTest, brush: &Brush) -> bool
-    requires { (v : ℕ) → reference_passes test.now v ≡ true }
-    ensures { IsTrue result → IsStill brush.now test.now deep }
+pub(crate) fn is_still(deep: bool, brush: &StencilBrush) -> bool
+    requires { (v : ℕ) → reference_passes brush.now.test v ≡ true }
+    ensures { IsTrue result → IsStill brush.now.brush brush.now.test deep }
 {
-    let kept = keeps_colors(deep, brush);
+    let kept = keeps_colors(deep, &brush.brush);
     if !kept {
         return false;
     }
-    test.keeps(255, 255, all_lanes(deep))
+    brush.test.keeps(255, 255, all_lanes(deep))
 }
 
-/// The covered pixels of a span that pass, where nothing changes. Nothing that is read is used, so nothing is left of it when it is
-/// compiled.
+/// Those of these pixels that pass, where nothing changes. Nothing that is read is used, so nothing is left of it when it is compiled.
 #[inline(always)]
 pub(crate) fn keep_alike<A: Allocator>(
     block: &TileBlock<A>,
-    span: u32,
-    row: u32,
-    cover: u8,
+    pixels: SpanPixels,
     deep: bool,
-    test: &StencilTest,
-    brush: &Brush,
+    brush: &StencilBrush,
 ) -> u8
-    requires span { span < 4 }
-    requires row { row < 32 }
-    requires kind { tests_of brush.now.state ≡ Stencil }
-    requires test { test.now ≡ record { setting = brush.now.state; face = if brush.now.front then brush.now.state.front else brush.now.state.back; reference = brush.now.reference } }
-    requires unwritten { IsUnwritten brush.now.state deep }
-    requires still { IsStill brush.now test.now deep }
-    ensures block { (new : List ℕ) → ((j : ℕ) → j < 8 → has cover j ≡ true → depth_passes brush.now.state (slice_index new j) (lane_pixel block.now span row j).ds.depth ≡ deep)
-        → SpanStored block.now block.now span row (drawn_lane brush.now cover new) }
-    ensures bits { (new : List ℕ) → ((j : ℕ) → j < 8 → has cover j ≡ true → depth_passes brush.now.state (slice_index new j) (lane_pixel block.now span row j).ds.depth ≡ deep)
-        → ArePassed brush.now block.now span row cover new result }
+    requires unwritten { IsUnwritten brush.now.brush.state deep }
+    requires still { IsStill brush.now.brush brush.now.test deep }
+    ensures block { (new : List ℕ) → ((j : ℕ) → j < 8 → has pixels.bits j ≡ true → depth_passes brush.now.brush.state (slice_index new j) (lane_pixel block.now pixels.span pixels.row j).ds.depth ≡ deep)
+        → SpanStored block.now block.now pixels.span pixels.row (drawn_lane brush.now.brush pixels.bits new) }
+    ensures bits { (new : List ℕ) → ((j : ℕ) → j < 8 → has pixels.bits j ≡ true → depth_passes brush.now.brush.state (slice_index new j) (lane_pixel block.now pixels.span pixels.row j).ds.depth ≡ deep)
+        → ArePassed brush.now.brush block.now pixels.span pixels.row pixels.bits new result }
 {
-    let _stored = block.stencil_span(span, row);
-    let _colors = block.color_span(span, row);
-    cover & all_lanes(deep)
+    let _stored = block.stencil_span(pixels.span, pixels.row);
+    let _colors = block.color_span(pixels.span, pixels.row);
+    pixels.bits & all_lanes(deep)
 }
 
 /// How many bits a mask of eight lanes has.

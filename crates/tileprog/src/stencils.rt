@@ -1,62 +1,61 @@
 //! Columns under a stencil test, cell by cell: what eight rows have in common is asked once.
 
-ghost use Rattle.std.specs.Prelude.{◌≡◌, ◌<◌, ◌≤◌, ◌+◌, ◌*◌, ℕ, true, false, IsTrue, IfSome, if◌then◌else◌};
+ghost use Rattle.std.specs.Prelude.{◌≡◌, ◌<◌, ◌≤◌, ◌+◌, ◌*◌, ℕ, true, false, IsTrue, IfSome, None};
 ghost use Rattle.gfxspec.specs.Limits.{side_bound};
 ghost use Rattle.lanes.specs.Stencil.{reference_passes};
-ghost use Rattle.tileprog.specs.declared.kind.Tests.TheVariants.{Stencil};
-ghost use Rattle.tileprog.specs.Cells.{AllHave, AreCovered, IsLong, IsStill, IsUnwritten, LiesWithin, Tells};
-ghost use Rattle.tileprog.specs.Columns.{IsColumn, ColumnDrew, Continues};
-ghost use Rattle.tileprog.specs.Edges.{BeganIn};
-ghost use Rattle.tileprog.specs.Kinds.{tests_of};
-ghost use Rattle.tileprog.specs.Strokes.{IsNamed};
+ghost use Rattle.tileprog.specs.Cells.{AllHave, AreCovered, IsLong, IsStill, IsUnwritten, Tells};
+ghost use Rattle.tileprog.specs.Columns.{EdgesAt, IsColumn, ColumnDrew, Continues, WalksAt, stroke_in};
 
 use crate::brush::Brush;
+use crate::brushes::StencilBrush;
 use crate::cells::{Cell, cell_of, is_long};
 use crate::column::Column;
-use crate::rows::{alike_row, cut_row, deep_row, operated_rows, stencil_row};
-use crate::spans::{is_still, keeps_colors};
-use depthplane::{Plane, Walks};
+use crate::rows::{alike_row, cut_row, deep_row, operated_rows, pixels_left, stencil_row};
+use crate::spans::{KnownTests, is_still, keeps_colors};
+use depthplane::Walks;
 use edges::{EdgeSet, EdgeWalk};
-use lanes::StencilTest;
 use std::alloc::Allocator;
+use std::ops::Range;
 use tileblock::TileBlock;
 
-/// The rows of a column from `row` on and before `past`, one by one; the answer is how many pixels pass. Where the depth test's
-/// outcome is known no depth is looked at.
+/// What is known of the depth test of a brush at every pixel.
+#[inline(always)]
+fn untested(brush: &Brush) -> Option<bool>
+    ensures { IfSome result (λ deep. (deep ≡ true) × (brush.now.state.depth ≡ false)) }
+{
+    if brush.state.depth() {
+        None
+    } else {
+        Some(true)
+    }
+}
+
+/// These rows of a column, one by one, from where the walks stand; the answer is how many pixels pass. Where depth isn't tested no depth is
+/// looked at.
 #[inline(never)]
 fn each_row<A: Allocator, W: Walks>(
     block: &mut TileBlock<A>,
-    column: &Column,
-    mask: u8,
-    row: u32,
-    past: u32,
+    column: &Column<'_>,
+    rows: Range<u32>,
     edges: EdgeWalk<'_>,
     mut walk: W,
-    known: Option<bool>,
-    test: &StencilTest,
-    brush: &Brush,
+    brush: &StencilBrush,
 ) -> u32
-    requires same { mask ≡ column.now.mask }
     requires column { IsColumn column.now block.old.rect }
-    requires first { column.now.clip.top ≤ block.old.rect.top + row }
-    requires order { row ≤ past }
-    requires last { block.old.rect.top + past ≤ column.now.clip.bottom }
-    requires edges { edges ≡ record edges { triangle = (W.place walk).plane.triangle; x = column.now.x; y = block.old.rect.top + row } }
-    requires begun { BeganIn edges block.old.rect }
-    requires walk { W.place walk ≡ record (W.place walk) { x = column.now.x; y = block.old.rect.top + row } }
-    requires left { block.old.rect.left ≤ (W.place walk).left }
-    requires top { block.old.rect.top ≤ (W.place walk).top }
-    requires named { IsNamed (W.place walk).plane column.now.mask block.old.rect }
-    requires kind { tests_of brush.now.state ≡ Stencil }
-    requires test { test.now ≡ record { setting = brush.now.state; face = if brush.now.front then brush.now.state.front else brush.now.state.back; reference = brush.now.reference } }
-    requires known { IfSome known (λ deep. AllHave deep brush.now.state (W.place walk).plane block.old column.now.x row past) }
-    requires unwritten { IfSome known (IsUnwritten brush.now.state) }
-    ensures { Continues (record { brush = brush.now; plane = (W.place walk).plane; mask = column.now.mask; clip = column.now.clip }) block.old block.new column.now.x (block.old.rect.top + row) (block.old.rect.top + past) result }
+    requires first { column.now.clip.top ≤ block.old.rect.top + rows.start }
+    requires order { rows.start ≤ rows.end }
+    requires last { block.old.rect.top + rows.end ≤ column.now.clip.bottom }
+    requires edges { EdgesAt edges column.now block.old.rect (block.old.rect.top + rows.start) }
+    requires walk { WalksAt (W.place walk) column.now block.old.rect (block.old.rect.top + rows.start) }
+    ensures { Continues (stroke_in brush.now.brush column.now) block.old block.new column.now.x (block.old.rect.top + rows.start) (block.old.rect.top + rows.end) result }
 {
+    let known = untested(&brush.brush);
+    let mask = column.mask;
     let mut edges = edges.copied();
     let mut passed = 0u32;
-    for at in row..past {
-        let more = stencil_row(block, column, mask, at, &edges, &walk, known, test, brush);
+    for at in rows.start..rows.end {
+        let pixels = pixels_left(block, column, mask, at, &edges);
+        let more = stencil_row(block, column, pixels, &walk, known, brush);
         passed += more;
         edges.down();
         walk.next();
@@ -69,31 +68,25 @@ fn each_row<A: Allocator, W: Walks>(
 #[inline(always)]
 fn alike_rows<A: Allocator>(
     block: &mut TileBlock<A>,
-    column: &Column,
-    plane: &Plane,
+    column: &Column<'_>,
     row: u32,
-    deep: bool,
-    always: bool,
+    known: KnownTests,
     still: bool,
-    test: &StencilTest,
-    brush: &Brush,
+    brush: &StencilBrush,
 ) -> u32
     requires column { IsColumn column.now block.old.rect }
     requires long { IsLong column.now block.old.rect }
     requires row { row + 8 ≤ 32 }
-    requires named { IsNamed plane.now column.now.mask block.old.rect }
-    requires kind { tests_of brush.now.state ≡ Stencil }
-    requires test { test.now ≡ record { setting = brush.now.state; face = if brush.now.front then brush.now.state.front else brush.now.state.back; reference = brush.now.reference } }
-    requires covered { AreCovered true column.now.mask plane.now.triangle block.old.rect column.now.x row (row + 8) }
-    requires deep { AllHave deep brush.now.state plane.now block.old column.now.x row (row + 8) }
-    requires unwritten { IsUnwritten brush.now.state deep }
-    requires always { IsTrue always → (v : ℕ) → reference_passes test.now v ≡ true }
-    requires still { IsTrue still → IsStill brush.now test.now deep }
-    ensures { Continues (record { brush = brush.now; plane = plane.now; mask = column.now.mask; clip = column.now.clip }) block.old block.new column.now.x (block.old.rect.top + row) (block.old.rect.top + (row + 8)) result }
+    requires covered { AreCovered true column.now.mask column.now.plane.now.triangle block.old.rect column.now.x row (row + 8) }
+    requires deep { AllHave known.deep brush.now.brush.state column.now.plane.now block.old column.now.x row (row + 8) }
+    requires unwritten { IsUnwritten brush.now.brush.state known.deep }
+    requires always { IsTrue known.always → (v : ℕ) → reference_passes brush.now.test v ≡ true }
+    requires still { IsTrue still → IsStill brush.now.brush brush.now.test known.deep }
+    ensures { Continues (stroke_in brush.now.brush column.now) block.old block.new column.now.x (block.old.rect.top + row) (block.old.rect.top + (row + 8)) result }
 {
     let mut passed = 0u32;
     for at in row..row + 8 {
-        let more = alike_row(block, column, plane, at, deep, always, still, test, brush);
+        let more = alike_row(block, column, at, known, still, brush);
         passed += more;
     }
     passed
@@ -103,29 +96,24 @@ fn alike_rows<A: Allocator>(
 #[inline(never)]
 fn paired_rows<A: Allocator>(
     block: &mut TileBlock<A>,
-    column: &Column,
-    plane: &Plane,
+    column: &Column<'_>,
     row: u32,
     deep: bool,
-    test: &StencilTest,
-    brush: &Brush,
+    brush: &StencilBrush,
 ) -> u32
     requires column { IsColumn column.now block.old.rect }
     requires long { IsLong column.now block.old.rect }
     requires row { row + 8 ≤ 32 }
-    requires named { IsNamed plane.now column.now.mask block.old.rect }
-    requires kind { tests_of brush.now.state ≡ Stencil }
-    requires test { test.now ≡ record { setting = brush.now.state; face = if brush.now.front then brush.now.state.front else brush.now.state.back; reference = brush.now.reference } }
-    requires covered { AreCovered true column.now.mask plane.now.triangle block.old.rect column.now.x row (row + 8) }
-    requires deep { AllHave deep brush.now.state plane.now block.old column.now.x row (row + 8) }
-    requires unwritten { IsUnwritten brush.now.state deep }
-    requires always { (v : ℕ) → reference_passes test.now v ≡ true }
-    requires colors { deep ≡ true → (brush.now.write.keep ≡ 4294967295) × (brush.now.write.flip ≡ 0) }
-    ensures { Continues (record { brush = brush.now; plane = plane.now; mask = column.now.mask; clip = column.now.clip }) block.old block.new column.now.x (block.old.rect.top + row) (block.old.rect.top + (row + 8)) result }
+    requires covered { AreCovered true column.now.mask column.now.plane.now.triangle block.old.rect column.now.x row (row + 8) }
+    requires deep { AllHave deep brush.now.brush.state column.now.plane.now block.old column.now.x row (row + 8) }
+    requires unwritten { IsUnwritten brush.now.brush.state deep }
+    requires always { (v : ℕ) → reference_passes brush.now.test v ≡ true }
+    requires colors { deep ≡ true → (brush.now.brush.write.keep ≡ 4294967295) × (brush.now.brush.write.flip ≡ 0) }
+    ensures { Continues (stroke_in brush.now.brush column.now) block.old block.new column.now.x (block.old.rect.top + row) (block.old.rect.top + (row + 8)) result }
 {
     let mut passed = 0u32;
     for pair in 0..4u32 {
-        let more = operated_rows(block, column, plane, row + 2 * pair, deep, test, brush);
+        let more = operated_rows(block, column, row + 2 * pair, deep, brush);
         passed += 2 * more;
     }
     passed
@@ -135,66 +123,61 @@ fn paired_rows<A: Allocator>(
 #[inline(always)]
 fn sure_rows<A: Allocator>(
     block: &mut TileBlock<A>,
-    column: &Column,
-    plane: &Plane,
+    column: &Column<'_>,
     row: u32,
     deep: bool,
-    test: &StencilTest,
-    brush: &Brush,
+    brush: &StencilBrush,
 ) -> u32
     requires column { IsColumn column.now block.old.rect }
     requires long { IsLong column.now block.old.rect }
     requires row { row + 8 ≤ 32 }
-    requires named { IsNamed plane.now column.now.mask block.old.rect }
-    requires kind { tests_of brush.now.state ≡ Stencil }
-    requires test { test.now ≡ record { setting = brush.now.state; face = if brush.now.front then brush.now.state.front else brush.now.state.back; reference = brush.now.reference } }
-    requires covered { AreCovered true column.now.mask plane.now.triangle block.old.rect column.now.x row (row + 8) }
-    requires deep { AllHave deep brush.now.state plane.now block.old column.now.x row (row + 8) }
-    requires unwritten { IsUnwritten brush.now.state deep }
-    requires always { (v : ℕ) → reference_passes test.now v ≡ true }
-    ensures { Continues (record { brush = brush.now; plane = plane.now; mask = column.now.mask; clip = column.now.clip }) block.old block.new column.now.x (block.old.rect.top + row) (block.old.rect.top + (row + 8)) result }
+    requires covered { AreCovered true column.now.mask column.now.plane.now.triangle block.old.rect column.now.x row (row + 8) }
+    requires deep { AllHave deep brush.now.brush.state column.now.plane.now block.old column.now.x row (row + 8) }
+    requires unwritten { IsUnwritten brush.now.brush.state deep }
+    requires always { (v : ℕ) → reference_passes brush.now.test v ≡ true }
+    ensures { Continues (stroke_in brush.now.brush column.now) block.old block.new column.now.x (block.old.rect.top + row) (block.old.rect.top + (row + 8)) result }
 {
-    let still = is_still(deep, test, brush);
+    let known = KnownTests { deep, always: true };
+    let still = is_still(deep, brush);
     if still {
-        return alike_rows(block, column, plane, row, deep, true, true, test, brush);
+        return alike_rows(block, column, row, known, true, brush);
     }
-    let kept = keeps_colors(deep, brush);
+    let kept = keeps_colors(deep, &brush.brush);
     if kept {
-        return paired_rows(block, column, plane, row, deep, test, brush);
+        return paired_rows(block, column, row, deep, brush);
     }
-    alike_rows(block, column, plane, row, deep, true, false, test, brush)
+    alike_rows(block, column, row, known, false, brush)
 }
 
 /// The same where the stencil test's outcome may be known: each loop over rows has what is known as a constant.
 #[inline(always)]
 fn known_rows<A: Allocator>(
     block: &mut TileBlock<A>,
-    column: &Column,
-    plane: &Plane,
+    column: &Column<'_>,
     row: u32,
     deep: bool,
-    test: &StencilTest,
-    brush: &Brush,
+    brush: &StencilBrush,
 ) -> u32
     requires column { IsColumn column.now block.old.rect }
     requires long { IsLong column.now block.old.rect }
     requires row { row + 8 ≤ 32 }
-    requires named { IsNamed plane.now column.now.mask block.old.rect }
-    requires kind { tests_of brush.now.state ≡ Stencil }
-    requires test { test.now ≡ record { setting = brush.now.state; face = if brush.now.front then brush.now.state.front else brush.now.state.back; reference = brush.now.reference } }
-    requires covered { AreCovered true column.now.mask plane.now.triangle block.old.rect column.now.x row (row + 8) }
-    requires deep { AllHave deep brush.now.state plane.now block.old column.now.x row (row + 8) }
-    requires unwritten { IsUnwritten brush.now.state deep }
-    ensures { Continues (record { brush = brush.now; plane = plane.now; mask = column.now.mask; clip = column.now.clip }) block.old block.new column.now.x (block.old.rect.top + row) (block.old.rect.top + (row + 8)) result }
+    requires covered { AreCovered true column.now.mask column.now.plane.now.triangle block.old.rect column.now.x row (row + 8) }
+    requires deep { AllHave deep brush.now.brush.state column.now.plane.now block.old column.now.x row (row + 8) }
+    requires unwritten { IsUnwritten brush.now.brush.state deep }
+    ensures { Continues (stroke_in brush.now.brush column.now) block.old block.new column.now.x (block.old.rect.top + row) (block.old.rect.top + (row + 8)) result }
 {
-    let always = test.always_passes();
+    let always = brush.test.always_passes();
     if !always {
-        return alike_rows(block, column, plane, row, deep, false, false, test, brush);
+        let known = KnownTests {
+            deep,
+            always: false,
+        };
+        return alike_rows(block, column, row, known, false, brush);
     }
     if deep {
-        sure_rows(block, column, plane, row, true, test, brush)
+        sure_rows(block, column, row, true, brush)
     } else {
-        sure_rows(block, column, plane, row, false, test, brush)
+        sure_rows(block, column, row, false, brush)
     }
 }
 
@@ -220,50 +203,29 @@ fn depths_below<W: Walks>(walk: &mut W, rows: u32)
     }
 }
 
-/// A cell that an edge may cut and of which the depth test's outcome isn't known; the answer is how many pixels pass. The walks begin at
-/// the head of the column.
+/// A cell from `row` on that an edge may cut and of which the depth test's outcome isn't known; the answer is how many pixels pass. The
+/// walks begin at the head of the column.
 #[inline(always)]
 fn walked_rows<A: Allocator, W: Walks>(
     block: &mut TileBlock<A>,
-    column: &Column,
-    mask: u8,
-    plane: &Plane,
+    column: &Column<'_>,
     row: u32,
     edges: &EdgeWalk<'_>,
     walk: &W,
-    test: &StencilTest,
-    brush: &Brush,
+    brush: &StencilBrush,
 ) -> u32
-    requires same { mask ≡ column.now.mask }
     requires column { IsColumn column.now block.old.rect }
     requires long { IsLong column.now block.old.rect }
     requires row { row + 8 ≤ 32 }
-    requires edges { edges.now ≡ record edges.now { triangle = plane.now.triangle; x = column.now.x; y = column.now.clip.top } }
-    requires begun { BeganIn edges.now block.old.rect }
-    requires walk { W.place walk.now ≡ record (W.place walk.now) { plane = plane.now; x = column.now.x; y = column.now.clip.top } }
-    requires left { block.old.rect.left ≤ (W.place walk.now).left }
-    requires top { block.old.rect.top ≤ (W.place walk.now).top }
-    requires named { IsNamed plane.now column.now.mask block.old.rect }
-    requires kind { tests_of brush.now.state ≡ Stencil }
-    requires test { test.now ≡ record { setting = brush.now.state; face = if brush.now.front then brush.now.state.front else brush.now.state.back; reference = brush.now.reference } }
-    ensures { Continues (record { brush = brush.now; plane = plane.now; mask = column.now.mask; clip = column.now.clip }) block.old block.new column.now.x (block.old.rect.top + row) (block.old.rect.top + (row + 8)) result }
+    requires edges { EdgesAt edges.now column.now block.old.rect column.now.clip.top }
+    requires walk { WalksAt (W.place walk.now) column.now block.old.rect column.now.clip.top }
+    ensures { Continues (stroke_in brush.now.brush column.now) block.old block.new column.now.x (block.old.rect.top + row) (block.old.rect.top + (row + 8)) result }
 {
     let mut here = edges.copied();
     let mut depths = walk.copied();
     edges_below(&mut here, row);
     depths_below(&mut depths, row);
-    each_row(
-        block,
-        column,
-        mask,
-        row,
-        row + 8,
-        here,
-        depths,
-        None,
-        test,
-        brush,
-    )
+    each_row(block, column, row..row + 8, here, depths, brush)
 }
 
 /// A cell of which all pixels are covered and the depth test's outcome isn't known; the answer is how many pixels pass. The walk begins at
@@ -271,31 +233,24 @@ fn walked_rows<A: Allocator, W: Walks>(
 #[inline(never)]
 fn deep_rows<A: Allocator, W: Walks>(
     block: &mut TileBlock<A>,
-    column: &Column,
-    plane: &Plane,
+    column: &Column<'_>,
     row: u32,
     walk: &W,
-    test: &StencilTest,
-    brush: &Brush,
+    brush: &StencilBrush,
 ) -> u32
     requires column { IsColumn column.now block.old.rect }
     requires long { IsLong column.now block.old.rect }
     requires row { row + 8 ≤ 32 }
-    requires walk { W.place walk.now ≡ record (W.place walk.now) { plane = plane.now; x = column.now.x; y = column.now.clip.top } }
-    requires left { block.old.rect.left ≤ (W.place walk.now).left }
-    requires top { block.old.rect.top ≤ (W.place walk.now).top }
-    requires named { IsNamed plane.now column.now.mask block.old.rect }
-    requires kind { tests_of brush.now.state ≡ Stencil }
-    requires test { test.now ≡ record { setting = brush.now.state; face = if brush.now.front then brush.now.state.front else brush.now.state.back; reference = brush.now.reference } }
-    requires covered { AreCovered true column.now.mask plane.now.triangle block.old.rect column.now.x row (row + 8) }
-    ensures { Continues (record { brush = brush.now; plane = plane.now; mask = column.now.mask; clip = column.now.clip }) block.old block.new column.now.x (block.old.rect.top + row) (block.old.rect.top + (row + 8)) result }
+    requires walk { WalksAt (W.place walk.now) column.now block.old.rect column.now.clip.top }
+    requires covered { AreCovered true column.now.mask column.now.plane.now.triangle block.old.rect column.now.x row (row + 8) }
+    ensures { Continues (stroke_in brush.now.brush column.now) block.old block.new column.now.x (block.old.rect.top + row) (block.old.rect.top + (row + 8)) result }
 {
     let mut depths = walk.copied();
     depths_below(&mut depths, row);
     let past = row + 8;
     let mut passed = 0u32;
     for at in row..past {
-        let more = deep_row(block, column, plane, at, &depths, test, brush);
+        let more = deep_row(block, column, at, &depths, brush);
         passed += more;
         depths.next();
     }
@@ -307,38 +262,29 @@ fn deep_rows<A: Allocator, W: Walks>(
 #[inline(always)]
 fn masked_rows<A: Allocator>(
     block: &mut TileBlock<A>,
-    column: &Column,
-    mask: u8,
-    plane: &Plane,
+    column: &Column<'_>,
     row: u32,
     edges: &EdgeWalk<'_>,
-    deep: bool,
-    always: bool,
-    test: &StencilTest,
-    brush: &Brush,
+    known: KnownTests,
+    brush: &StencilBrush,
 ) -> u32
-    requires same { mask ≡ column.now.mask }
     requires column { IsColumn column.now block.old.rect }
     requires long { IsLong column.now block.old.rect }
     requires row { row + 8 ≤ 32 }
-    requires edges { edges.now ≡ record edges.now { triangle = plane.now.triangle; x = column.now.x; y = column.now.clip.top } }
-    requires begun { BeganIn edges.now block.old.rect }
-    requires named { IsNamed plane.now column.now.mask block.old.rect }
-    requires kind { tests_of brush.now.state ≡ Stencil }
-    requires test { test.now ≡ record { setting = brush.now.state; face = if brush.now.front then brush.now.state.front else brush.now.state.back; reference = brush.now.reference } }
-    requires deep { AllHave deep brush.now.state plane.now block.old column.now.x row (row + 8) }
-    requires unwritten { IsUnwritten brush.now.state deep }
-    requires always { IsTrue always → (v : ℕ) → reference_passes test.now v ≡ true }
-    ensures { Continues (record { brush = brush.now; plane = plane.now; mask = column.now.mask; clip = column.now.clip }) block.old block.new column.now.x (block.old.rect.top + row) (block.old.rect.top + (row + 8)) result }
+    requires edges { EdgesAt edges.now column.now block.old.rect column.now.clip.top }
+    requires deep { AllHave known.deep brush.now.brush.state column.now.plane.now block.old column.now.x row (row + 8) }
+    requires unwritten { IsUnwritten brush.now.brush.state known.deep }
+    requires always { IsTrue known.always → (v : ℕ) → reference_passes brush.now.test v ≡ true }
+    ensures { Continues (stroke_in brush.now.brush column.now) block.old block.new column.now.x (block.old.rect.top + row) (block.old.rect.top + (row + 8)) result }
 {
+    let mask = column.mask;
     let mut here = edges.copied();
     edges_below(&mut here, row);
     let past = row + 8;
     let mut passed = 0u32;
     for at in row..past {
-        let more = cut_row(
-            block, column, mask, plane, at, &here, deep, always, test, brush,
-        );
+        let pixels = pixels_left(block, column, mask, at, &here);
+        let more = cut_row(block, column, pixels, known, brush);
         passed += more;
         here.down();
     }
@@ -349,42 +295,40 @@ fn masked_rows<A: Allocator>(
 #[inline(never)]
 fn cut_rows<A: Allocator>(
     block: &mut TileBlock<A>,
-    column: &Column,
-    mask: u8,
-    plane: &Plane,
+    column: &Column<'_>,
     row: u32,
     edges: &EdgeWalk<'_>,
     deep: bool,
-    test: &StencilTest,
-    brush: &Brush,
+    brush: &StencilBrush,
 ) -> u32
-    requires same { mask ≡ column.now.mask }
     requires column { IsColumn column.now block.old.rect }
     requires long { IsLong column.now block.old.rect }
     requires row { row + 8 ≤ 32 }
-    requires edges { edges.now ≡ record edges.now { triangle = plane.now.triangle; x = column.now.x; y = column.now.clip.top } }
-    requires begun { BeganIn edges.now block.old.rect }
-    requires named { IsNamed plane.now column.now.mask block.old.rect }
-    requires kind { tests_of brush.now.state ≡ Stencil }
-    requires test { test.now ≡ record { setting = brush.now.state; face = if brush.now.front then brush.now.state.front else brush.now.state.back; reference = brush.now.reference } }
-    requires deep { AllHave deep brush.now.state plane.now block.old column.now.x row (row + 8) }
-    requires unwritten { IsUnwritten brush.now.state deep }
-    ensures { Continues (record { brush = brush.now; plane = plane.now; mask = column.now.mask; clip = column.now.clip }) block.old block.new column.now.x (block.old.rect.top + row) (block.old.rect.top + (row + 8)) result }
+    requires edges { EdgesAt edges.now column.now block.old.rect column.now.clip.top }
+    requires deep { AllHave deep brush.now.brush.state column.now.plane.now block.old column.now.x row (row + 8) }
+    requires unwritten { IsUnwritten brush.now.brush.state deep }
+    ensures { Continues (stroke_in brush.now.brush column.now) block.old block.new column.now.x (block.old.rect.top + row) (block.old.rect.top + (row + 8)) result }
 {
-    let always = test.always_passes();
+    let always = brush.test.always_passes();
     if !always {
-        return masked_rows(
-            block, column, mask, plane, row, edges, deep, false, test, brush,
-        );
+        let known = KnownTests {
+            deep,
+            always: false,
+        };
+        return masked_rows(block, column, row, edges, known, brush);
     }
     if deep {
-        masked_rows(
-            block, column, mask, plane, row, edges, true, true, test, brush,
-        )
+        let known = KnownTests {
+            deep: true,
+            always: true,
+        };
+        masked_rows(block, column, row, edges, known, brush)
     } else {
-        masked_rows(
-            block, column, mask, plane, row, edges, false, true, test, brush,
-        )
+        let known = KnownTests {
+            deep: false,
+            always: true,
+        };
+        masked_rows(block, column, row, edges, known, brush)
     }
 }
 
@@ -392,216 +336,128 @@ fn cut_rows<A: Allocator>(
 #[inline(always)]
 fn cut_cell<A: Allocator, W: Walks>(
     block: &mut TileBlock<A>,
-    column: &Column,
-    mask: u8,
-    plane: &Plane,
-    row: u32,
-    edges: &EdgeWalk<'_>,
-    walk: &W,
-    known: Option<bool>,
-    test: &StencilTest,
-    brush: &Brush,
-) -> u32
-    requires same { mask ≡ column.now.mask }
-    requires column { IsColumn column.now block.old.rect }
-    requires long { IsLong column.now block.old.rect }
-    requires row { row + 8 ≤ 32 }
-    requires edges { edges.now ≡ record edges.now { triangle = plane.now.triangle; x = column.now.x; y = column.now.clip.top } }
-    requires begun { BeganIn edges.now block.old.rect }
-    requires walk { W.place walk.now ≡ record (W.place walk.now) { plane = plane.now; x = column.now.x; y = column.now.clip.top } }
-    requires left { block.old.rect.left ≤ (W.place walk.now).left }
-    requires top { block.old.rect.top ≤ (W.place walk.now).top }
-    requires named { IsNamed plane.now column.now.mask block.old.rect }
-    requires kind { tests_of brush.now.state ≡ Stencil }
-    requires test { test.now ≡ record { setting = brush.now.state; face = if brush.now.front then brush.now.state.front else brush.now.state.back; reference = brush.now.reference } }
-    requires known { IfSome known (λ deep. AllHave deep brush.now.state plane.now block.old column.now.x row (row + 8)) }
-    requires unwritten { IfSome known (IsUnwritten brush.now.state) }
-    ensures { Continues (record { brush = brush.now; plane = plane.now; mask = column.now.mask; clip = column.now.clip }) block.old block.new column.now.x (block.old.rect.top + row) (block.old.rect.top + (row + 8)) result }
-{
-    let Some(deep) = known else {
-        return walked_rows(block, column, mask, plane, row, edges, walk, test, brush);
-    };
-    cut_rows(block, column, mask, plane, row, edges, deep, test, brush)
-}
-
-/// A cell: the eight rows of a column from `row` on, of which that is known; the answer is how many pixels pass.
-#[inline(always)]
-fn cell_rows<A: Allocator, W: Walks>(
-    block: &mut TileBlock<A>,
-    column: &Column,
-    mask: u8,
-    plane: &Plane,
-    row: u32,
+    column: &Column<'_>,
     cell: Cell,
     edges: &EdgeWalk<'_>,
     walk: &W,
-    test: &StencilTest,
-    brush: &Brush,
+    brush: &StencilBrush,
 ) -> u32
-    requires same { mask ≡ column.now.mask }
     requires column { IsColumn column.now block.old.rect }
     requires long { IsLong column.now block.old.rect }
-    requires row { row + 8 ≤ 32 }
-    requires edges { edges.now ≡ record edges.now { triangle = plane.now.triangle; x = column.now.x; y = column.now.clip.top } }
-    requires begun { BeganIn edges.now block.old.rect }
-    requires walk { W.place walk.now ≡ record (W.place walk.now) { plane = plane.now; x = column.now.x; y = column.now.clip.top } }
-    requires left { block.old.rect.left ≤ (W.place walk.now).left }
-    requires top { block.old.rect.top ≤ (W.place walk.now).top }
-    requires named { IsNamed plane.now column.now.mask block.old.rect }
-    requires kind { tests_of brush.now.state ≡ Stencil }
-    requires test { test.now ≡ record { setting = brush.now.state; face = if brush.now.front then brush.now.state.front else brush.now.state.back; reference = brush.now.reference } }
-    requires told { Tells cell brush.now.state plane.now column.now.mask block.old column.now.x row }
-    ensures { Continues (record { brush = brush.now; plane = plane.now; mask = column.now.mask; clip = column.now.clip }) block.old block.new column.now.x (block.old.rect.top + row) (block.old.rect.top + (row + 8)) result }
+    requires row { cell.row + 8 ≤ 32 }
+    requires edges { EdgesAt edges.now column.now block.old.rect column.now.clip.top }
+    requires walk { WalksAt (W.place walk.now) column.now block.old.rect column.now.clip.top }
+    requires deep { IfSome cell.deep (λ deep. AllHave deep brush.now.brush.state column.now.plane.now block.old column.now.x cell.row (cell.row + 8)) }
+    requires unwritten { IfSome cell.deep (IsUnwritten brush.now.brush.state) }
+    ensures { Continues (stroke_in brush.now.brush column.now) block.old block.new column.now.x (block.old.rect.top + cell.row) (block.old.rect.top + (cell.row + 8)) result }
+{
+    let Some(deep) = cell.deep else {
+        return walked_rows(block, column, cell.row, edges, walk, brush);
+    };
+    cut_rows(block, column, cell.row, edges, deep, brush)
+}
+
+/// A cell of a column; the answer is how many pixels pass.
+#[inline(always)]
+fn cell_rows<A: Allocator, W: Walks>(
+    block: &mut TileBlock<A>,
+    column: &Column<'_>,
+    cell: Cell,
+    edges: &EdgeWalk<'_>,
+    walk: &W,
+    brush: &StencilBrush,
+) -> u32
+    requires column { IsColumn column.now block.old.rect }
+    requires long { IsLong column.now block.old.rect }
+    requires row { cell.row + 8 ≤ 32 }
+    requires edges { EdgesAt edges.now column.now block.old.rect column.now.clip.top }
+    requires walk { WalksAt (W.place walk.now) column.now block.old.rect column.now.clip.top }
+    requires told { Tells cell brush.now.brush.state column.now.plane.now column.now.mask block.old column.now.x cell.row }
+    ensures { Continues (stroke_in brush.now.brush column.now) block.old block.new column.now.x (block.old.rect.top + cell.row) (block.old.rect.top + (cell.row + 8)) result }
 {
     let Some(covered) = cell.covered else {
-        return cut_cell(
-            block, column, mask, plane, row, edges, walk, cell.deep, test, brush,
-        );
+        return cut_cell(block, column, cell, edges, walk, brush);
     };
     if !covered {
         return 0;
     }
     let Some(deep) = cell.deep else {
-        return deep_rows(block, column, plane, row, walk, test, brush);
+        return deep_rows(block, column, cell.row, walk, brush);
     };
-    known_rows(block, column, plane, row, deep, test, brush)
+    known_rows(block, column, cell.row, deep, brush)
 }
 
-/// A column in all rows of a tile, cell by cell, with the mask of its edges known to the loop.
+/// A column in all rows of a tile, cell by cell. The set of its edges is there where one is named, which is known to the loop.
 #[inline(always)]
 fn each_cell<A: Allocator, W: Walks>(
     block: &mut TileBlock<A>,
-    column: &Column,
-    mask: u8,
-    set: &EdgeSet,
-    plane: &Plane,
+    column: &Column<'_>,
+    set: Option<&EdgeSet>,
     edges: &EdgeWalk<'_>,
     walk: &W,
-    test: &StencilTest,
-    brush: &Brush,
+    brush: &StencilBrush,
 ) -> u32
-    requires same { mask ≡ column.now.mask }
     requires column { IsColumn column.now block.old.rect }
     requires long { IsLong column.now block.old.rect }
-    requires edges { edges.now ≡ record edges.now { triangle = plane.now.triangle; x = column.now.x; y = column.now.clip.top } }
-    requires begun { BeganIn edges.now block.old.rect }
-    requires walk { W.place walk.now ≡ record (W.place walk.now) { plane = plane.now; x = column.now.x; y = column.now.clip.top } }
-    requires set { set.now ≡ plane.now.triangle }
-    requires left { block.old.rect.left ≤ (W.place walk.now).left }
-    requires top { block.old.rect.top ≤ (W.place walk.now).top }
-    requires named { IsNamed plane.now column.now.mask block.old.rect }
-    requires corners { LiesWithin plane.now column.now.corners }
-    requires kind { tests_of brush.now.state ≡ Stencil }
-    requires test { test.now ≡ record { setting = brush.now.state; face = if brush.now.front then brush.now.state.front else brush.now.state.back; reference = brush.now.reference } }
-    ensures { ColumnDrew (record { brush = brush.now; plane = plane.now; mask = column.now.mask; clip = column.now.clip }) block.old block.new column.now.x result }
+    requires some { IfSome set (λ s. s.now ≡ column.now.plane.now.triangle) }
+    requires none { set ≡ None → column.now.mask ≡ 0 }
+    requires edges { EdgesAt edges.now column.now block.old.rect column.now.clip.top }
+    requires walk { WalksAt (W.place walk.now) column.now block.old.rect column.now.clip.top }
+    ensures { ColumnDrew (stroke_in brush.now.brush column.now) block.old block.new column.now.x result }
 {
     let mut passed = 0u32;
     for k in 0..4u32 {
-        let cell = cell_of(block, set, plane, column, mask, k, brush);
-        let row = 8 * k;
-        let more = cell_rows(
-            block, column, mask, plane, row, cell, edges, walk, test, brush,
-        );
+        let cell = cell_of(block, set, column, k, &brush.brush);
+        let more = cell_rows(block, column, cell, edges, walk, brush);
         passed += more;
     }
     passed
-}
-
-/// What is known of the depth test of a brush at every pixel.
-#[inline(always)]
-fn untested(brush: &Brush) -> Option<bool>
-    ensures { IfSome result (λ deep. (deep ≡ true) × (brush.now.state.depth ≡ false)) }
-{
-    if brush.state.depth() {
-        None
-    } else {
-        Some(true)
-    }
 }
 
 /// A column in the rows of the clip rectangle, row by row.
 #[inline(always)]
 fn clipped_rows<A: Allocator, W: Walks>(
     block: &mut TileBlock<A>,
-    column: &Column,
-    plane: &Plane,
+    column: &Column<'_>,
     edges: EdgeWalk<'_>,
     walk: W,
-    test: &StencilTest,
-    brush: &Brush,
+    brush: &StencilBrush,
 ) -> u32
     requires column { IsColumn column.now block.old.rect }
-    requires edges { edges ≡ record edges { triangle = plane.now.triangle; x = column.now.x; y = column.now.clip.top } }
-    requires begun { BeganIn edges block.old.rect }
-    requires walk { W.place walk ≡ record (W.place walk) { plane = plane.now; x = column.now.x; y = column.now.clip.top } }
-    requires left { block.old.rect.left ≤ (W.place walk).left }
-    requires top { block.old.rect.top ≤ (W.place walk).top }
-    requires named { IsNamed plane.now column.now.mask block.old.rect }
-    requires kind { tests_of brush.now.state ≡ Stencil }
-    requires test { test.now ≡ record { setting = brush.now.state; face = if brush.now.front then brush.now.state.front else brush.now.state.back; reference = brush.now.reference } }
-    ensures { ColumnDrew (record { brush = brush.now; plane = plane.now; mask = column.now.mask; clip = column.now.clip }) block.old block.new column.now.x result }
+    requires edges { EdgesAt edges column.now block.old.rect column.now.clip.top }
+    requires walk { WalksAt (W.place walk) column.now block.old.rect column.now.clip.top }
+    ensures { ColumnDrew (stroke_in brush.now.brush column.now) block.old block.new column.now.x result }
 {
     let rect = block.rect();
     let row = column.clip.top - rect.top;
     let past = column.clip.bottom - rect.top;
-    let known = untested(brush);
-    each_row(
-        block,
-        column,
-        column.mask,
-        row,
-        past,
-        edges,
-        walk,
-        known,
-        test,
-        brush,
-    )
+    each_row(block, column, row..past, edges, walk, brush)
 }
 
 /// A column under a brush with a stencil test; the answer is how many pixels pass.
 #[inline(never)]
 pub(crate) fn stencil_column<A: Allocator, W: Walks>(
     block: &mut TileBlock<A>,
-    column: &Column,
+    column: &Column<'_>,
     set: &EdgeSet,
-    plane: &Plane,
     edges: &EdgeWalk<'_>,
     walk: &W,
-    test: &StencilTest,
-    brush: &Brush,
+    brush: &StencilBrush,
 ) -> u32
     requires column { IsColumn column.now block.old.rect }
-    requires edges { edges.now ≡ record edges.now { triangle = plane.now.triangle; x = column.now.x; y = column.now.clip.top } }
-    requires begun { BeganIn edges.now block.old.rect }
-    requires walk { W.place walk.now ≡ record (W.place walk.now) { plane = plane.now; x = column.now.x; y = column.now.clip.top } }
-    requires set { set.now ≡ plane.now.triangle }
-    requires left { block.old.rect.left ≤ (W.place walk.now).left }
-    requires top { block.old.rect.top ≤ (W.place walk.now).top }
-    requires named { IsNamed plane.now column.now.mask block.old.rect }
-    requires corners { LiesWithin plane.now column.now.corners }
-    requires kind { tests_of brush.now.state ≡ Stencil }
-    requires test { test.now ≡ record { setting = brush.now.state; face = if brush.now.front then brush.now.state.front else brush.now.state.back; reference = brush.now.reference } }
-    ensures { ColumnDrew (record { brush = brush.now; plane = plane.now; mask = column.now.mask; clip = column.now.clip }) block.old block.new column.now.x result }
+    requires set { set.now ≡ column.now.plane.now.triangle }
+    requires edges { EdgesAt edges.now column.now block.old.rect column.now.clip.top }
+    requires walk { WalksAt (W.place walk.now) column.now block.old.rect column.now.clip.top }
+    ensures { ColumnDrew (stroke_in brush.now.brush column.now) block.old block.new column.now.x result }
 {
     let long = is_long(block.rect(), column);
     if !long {
         let edges = edges.copied();
-        return clipped_rows(block, column, plane, edges, walk.copied(), test, brush);
+        return clipped_rows(block, column, edges, walk.copied(), brush);
     }
     if column.mask == 0 {
-        each_cell(block, column, 0, set, plane, edges, walk, test, brush)
+        each_cell(block, column, None, edges, walk, brush)
     } else {
-        each_cell(
-            block,
-            column,
-            column.mask,
-            set,
-            plane,
-            edges,
-            walk,
-            test,
-            brush,
-        )
+        each_cell(block, column, Some(set), edges, walk, brush)
     }
 }

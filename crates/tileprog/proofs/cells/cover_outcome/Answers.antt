@@ -1,4 +1,4 @@
-use Rattle.std.proofs.Common.{subst, arith, rules, refl, ℕ, ◌+◌, ◌≤◌, Bool, true, false}
+use Rattle.std.proofs.Common.{◌≡◌, subst, arith, rules, refl, ℕ, ◌+◌, ◌≤◌, Bool, true, false}
 use Rattle.std.specs.Prelude.{IfSome}
 use Rattle.gfxspec.specs.Raster.{centre}
 use Rattle.gfxspec.specs.Tiles.{IsIn}
@@ -11,7 +11,7 @@ pub returns : goal.returns
 returns c =
     let k = c.args.column.now in
     let r = c.args.rect in
-    let t = c.args.plane.now.triangle in
+    let t = k.plane.now.triangle in
     let row = c.args.row in
     let e = c.cell_rect.ensures in
     let cell = c.cell_rect.result in
@@ -28,7 +28,8 @@ returns c =
     record { left = omega (arith, a, low); right = omega (arith, b, g); top = omega (arith, d); bottom = omega (arith, f, bottom) } in
     let by : (all : Bool) → EdgesAre all t cell → AreCovered all k.mask t r k.x row (row + 8) = λ all. elim all as (λ a. EdgesAre a t cell → AreCovered a k.mask t r k.x row (row + 8)) [
       | true ↦ λ h u v here. all_pass k.mask t (centre u v) (λ i l. h i l u v (within u v here))
-      | false ↦ λ h u v here. none_pass (passes_edges k.mask t (centre u v)) k.mask t (centre u v) (c.requires.named.covered u v (inside u v here)) (h u v (within u v here)) refl
+      | false ↦ λ h u v here. none_pass (passes_edges k.mask t (centre u v)) k.mask t (centre u v) (c.requires.column.named.covered u v (inside u v here)) (h u v (within u v here)) refl
     ] in
+    let set_is : c.in-Some.set.now ≡ t = search rules in
     mapped c.edges_outcome.result (λ all. EdgesAre all t cell) (λ all. AreCovered all k.mask t r k.x row (row + 8)) by
-    (subst (λ q. IfSome c.edges_outcome.result (λ all. EdgesAre all q cell)) c.requires.set c.edges_outcome.ensures)
+    (subst (λ q. IfSome c.edges_outcome.result (λ all. EdgesAre all q cell)) set_is c.edges_outcome.ensures)

@@ -15,14 +15,14 @@ returns-then-is_some-clause-deep g c =
     let k = c.args.column.now in
     let b = c.args.block.now in
     let s = c.args.brush.now.state in
-    let d = c.args.plane.now in
+    let d = k.plane.now in
     let w = k.corners in
     let known = c.in-Some.known in
     let row = 8 * c.args.cell in
     let P : Option DepthBounds → Type 0 = λ o. IfSome o (λ (w : DepthBounds). CellLies b k.span c.args.cell w.least w.greatest) in
     let stored : P (Some known) = subst P c.in-Some.is c.cell_bounds.ensures in
     mapped c.outcome_between-near.result (HasOutcome s w.least w.greatest (Some known)) (λ deep. AllHave deep s d b k.x row (row + 8))
-    (λ deep has. cell_has deep s d b k.span c.args.cell k.x w.least w.greatest known c.requires.column.x stored (λ u v here covered. c.requires.corners u v covered) has)
+    (λ deep has. cell_has deep s d b k.span c.args.cell k.x w.least w.greatest known c.requires.column.x stored (λ u v here covered. c.requires.column.corners u v covered) has)
     c.outcome_between-near.ensures.deep
 
 pub returns-clause-deep : goal.returns-clause-deep
@@ -30,7 +30,7 @@ returns-clause-deep g c =
     let k = c.args.column.now in
     let b = c.args.block.now in
     let s = c.args.brush.now.state in
-    let d = c.args.plane.now in
+    let d = k.plane.now in
     let range = c.in-Some-cell_range.range in
     let known = c.in-Some.known in
     let row = 8 * c.args.cell in

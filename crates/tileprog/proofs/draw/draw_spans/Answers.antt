@@ -38,7 +38,7 @@ loop-span-preserved g c =
     let made = c.column_of-column in
     let more = c.draw_column-more.result in
     let below : start ≤ x = search rules in
-    let column = column_is s mid new made.result.mask made.result.clip made.result.x x more c.draw_column-more.ensures made.ensures.mask made.ensures.clip
+    let column = column_is s mid new made.result.plane.now made.result.mask made.result.clip made.result.x x more c.draw_column-more.ensures made.ensures.plane made.ensures.mask made.ensures.clip
     (made.ensures.x ∙ ap (λ (r : PixelRect). r.left + 8 * span) c.rect-rect.ensures) in
     record {
       edges = search rules;
@@ -65,7 +65,7 @@ returns-then-span-triangle g c =
     let more = c.draw_column-more.result in
     let below : start ≤ x = search rules in
     let past : t.clip.right ≤ end = let last = c.if-span-triangle.true in let ended = over.ended in omega (arith, last, ended) in
-    let column = column_is s mid new made.result.mask made.result.clip made.result.x x more c.draw_column-more.ensures made.ensures.mask made.ensures.clip
+    let column = column_is s mid new made.result.plane.now made.result.mask made.result.clip made.result.x x more c.draw_column-more.ensures made.ensures.plane made.ensures.mask made.ensures.clip
     (made.ensures.x ∙ ap (λ (r : PixelRect). r.left + 8 * span) c.rect-rect.ensures) in
     let drew : Drew s old new (in_box start end t.clip.top t.clip.bottom) =
     column_more s old mid new start x end c.loop-span.passed more over.within below inv.drew column (omega arith) in

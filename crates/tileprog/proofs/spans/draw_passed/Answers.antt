@@ -4,4 +4,4 @@ use Rattle.tileprog.proofs.spans.draw_passed.Goals as goal
 
 pub returns : goal.returns
 returns g c =
-    joined c.args.block.now c.keep_depths.new.block c.paint_span.new.block c.args.span c.args.row (kept_lane c.args.write c.args.bits c.args.new.now) (painted_lane c.args.brush.now c.args.bits) c.keep_depths.ensures c.paint_span.ensures
+    joined c.args.block.now c.keep_depths.new.block c.paint_span.new.block c.args.passed.span c.args.passed.row (kept_lane c.args.brush.now.write c.args.passed.bits c.args.new.now) (painted_lane c.args.brush.now.brush c.args.passed.bits) c.keep_depths.ensures c.paint_span.ensures

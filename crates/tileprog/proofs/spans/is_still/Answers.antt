@@ -5,7 +5,7 @@ use Rattle.tileprog.proofs.spans.is_still.Goals as goal
 
 pub returns : goal.returns
 returns c = λ t.
-    let test = c.args.test.now in
+    let test = c.args.brush.now.test in
     let first : 0 < 8 = omega arith in
     record {
       passes = c.requires;

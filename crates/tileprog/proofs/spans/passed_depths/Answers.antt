@@ -9,8 +9,8 @@ pub returns : goal.returns
 returns g c =
     record {
       each = λ j h.
-          let p = lane_pixel c.args.block.now c.args.span c.args.row j in
+          let p = lane_pixel c.args.block.now c.args.pixels.span c.args.pixels.row j in
           let z = slice_index c.args.new.now j in
-          has_both c.args.cover c.depth_mask.result j _
-          (c.depth_mask.ensures j h ∙ ap (compares c.args.func z) (c.depth_span.ensures j h) ∙ sym (depth_passes c.args.brush.now c.args.func c.args.write c.requires.kind z p.ds));
+          has_both c.args.pixels.bits c.depth_mask.result j _
+          (c.depth_mask.ensures j h ∙ ap (compares c.args.brush.now.func z) (c.depth_span.ensures j h) ∙ sym (depth_passes c.args.brush.now.brush c.args.brush.now.func c.args.brush.now.write c.args.brush.now.kind z p.ds));
     }

@@ -6,18 +6,18 @@ use Rattle.tileprog.proofs.Spanning.{changed, unchanged}
 use Rattle.tileprog.proofs.Lanes.{has_all, has_none, depth_chosen}
 use Rattle.tileprog.proofs.spans.put_depths.Goals as goal
 
-pub returns-then-bits-eq255 : goal.returns-then-bits-eq255
-returns-then-bits-eq255 g c =
+pub returns-then-bits : goal.returns-then-bits
+returns-then-bits g c =
     changed _ _ _ _ _ _ c.set_depth_span.ensures (λ j h.
-    let p = lane_pixel c.args.block.now c.args.span c.args.row j in
-    ap (λ t. record { rgba = p.rgba; ds = record { depth = if t then slice_index c.args.new.now j else p.ds.depth; stencil = p.ds.stencil } }) (sym (has_all c.args.bits j c.if-bits-eq255.true h)))
+    let p = lane_pixel c.args.block.now c.args.pixels.span c.args.pixels.row j in
+    ap (λ t. record { rgba = p.rgba; ds = record { depth = if t then slice_index c.args.new.now j else p.ds.depth; stencil = p.ds.stencil } }) (sym (has_all c.args.pixels.bits j c.if-bits.true h)))
 
 pub returns-then-bits-ne0 : goal.returns-then-bits-ne0
 returns-then-bits-ne0 g c =
-    changed _ _ _ _ _ _ c.set_depth_lanes.ensures (λ j h. depth_chosen (lane_pixel c.args.block.now c.args.span c.args.row j) (has c.args.bits j) (slice_index c.args.new.now j))
+    changed _ _ _ _ _ _ c.set_depth_lanes.ensures (λ j h. depth_chosen (lane_pixel c.args.block.now c.args.pixels.span c.args.pixels.row j) (has c.args.pixels.bits j) (slice_index c.args.new.now j))
 
 pub returns-else-bits-ne0 : goal.returns-else-bits-ne0
 returns-else-bits-ne0 g c =
     unchanged _ _ _ _ (λ j h.
-    let p = lane_pixel c.args.block.now c.args.span c.args.row j in
-    ap (λ t. record { rgba = p.rgba; ds = record { depth = if t then slice_index c.args.new.now j else p.ds.depth; stencil = p.ds.stencil } }) (sym (has_none c.args.bits j c.if-bits-ne0.false)))
+    let p = lane_pixel c.args.block.now c.args.pixels.span c.args.pixels.row j in
+    ap (λ t. record { rgba = p.rgba; ds = record { depth = if t then slice_index c.args.new.now j else p.ds.depth; stencil = p.ds.stencil } }) (sym (has_none c.args.pixels.bits j c.if-bits-ne0.false)))

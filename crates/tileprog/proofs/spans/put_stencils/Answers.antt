@@ -5,8 +5,8 @@ use Rattle.tileprog.proofs.Spanning.{changed}
 use Rattle.tileprog.proofs.Lanes.{has_all}
 use Rattle.tileprog.proofs.spans.put_stencils.Goals as goal
 
-pub returns-then-bits-eq255 : goal.returns-then-bits-eq255
-returns-then-bits-eq255 g c =
+pub returns-then-bits : goal.returns-then-bits
+returns-then-bits g c =
     changed _ _ _ _ _ _ c.set_stencil_span.ensures.stored (λ j h.
-    let p = lane_pixel c.args.block.now c.args.span c.args.row j in
-    ap (λ t. record { rgba = p.rgba; ds = record { depth = p.ds.depth; stencil = if t then slice_index c.args.new.now j else p.ds.stencil } }) (sym (has_all c.args.bits j c.if-bits-eq255.true h)))
+    let p = lane_pixel c.args.block.now c.args.pixels.span c.args.pixels.row j in
+    ap (λ t. record { rgba = p.rgba; ds = record { depth = p.ds.depth; stencil = if t then slice_index c.args.new.now j else p.ds.stencil } }) (sym (has_all c.args.pixels.bits j c.if-bits.true h)))

@@ -1,6 +1,6 @@
 use Rattle.std.proofs.Common.{◌≡◌, ◌+◌}
 use Rattle.tileprog.specs.Cells.{AllHave}
-use Rattle.tileprog.specs.Columns.{Continues}
+use Rattle.tileprog.specs.Columns.{Continues, stroke_in}
 use Rattle.tileprog.proofs.stencils.alike_rows.Given as goal
 
 abbrev pub invariant-loop-at : goal.invariant-loop-at
@@ -9,6 +9,6 @@ invariant-loop-at g l =
     let old = l.fn.block in
     record {
       rect : l.block.rect ≡ old.rect;
-      deep : AllHave l.deep l.brush.state l.plane l.block k.x l.at (l.row + 8);
-      continues : Continues (record { brush = l.brush; plane = l.plane; mask = k.mask; clip = k.clip }) old l.block k.x (old.rect.top + l.row) (old.rect.top + l.at) l.passed;
+      deep : AllHave l.known.deep l.brush.brush.state k.plane.now l.block k.x l.at (l.row + 8);
+      continues : Continues (stroke_in l.brush.brush k) old l.block k.x (old.rect.top + l.row) (old.rect.top + l.at) l.passed;
     }

@@ -1,14 +1,14 @@
 use Rattle.std.proofs.Common.{◌≡◌, ◌∙◌, ap, refl, rules, arith, ◌+◌, ◌≤◌}
 use Rattle.gfxspec.specs.declared.geometry.PixelRect.{PixelRect}
-use Rattle.tileprog.specs.Strokes.{Stroke}
+use Rattle.tileprog.specs.Columns.{stroke_in}
 use Rattle.tileprog.proofs.Columning.{row_behind, rows_are}
 use Rattle.tileprog.proofs.stencils.deep_rows.Goals as goal
 
 pub loop-at-preserved : goal.loop-at-preserved
 loop-at-preserved g c =
     let k = c.args.column.now in
-    let plane = c.args.plane.now in
-    let s : Stroke = record { brush = c.args.brush.now; plane = plane; mask = k.mask; clip = k.clip } in
+    let plane = k.plane.now in
+    let s = stroke_in c.args.brush.now.brush k in
     let old = c.args.block.now in
     let mid = c.loop-at.block in
     let new = c.deep_row-more.new.block in
@@ -28,8 +28,8 @@ loop-at-preserved g c =
 pub returns : goal.returns
 returns g c =
     let k = c.args.column.now in
-    let plane = c.args.plane.now in
-    let s : Stroke = record { brush = c.args.brush.now; plane = plane; mask = k.mask; clip = k.clip } in
+    let plane = k.plane.now in
+    let s = stroke_in c.args.brush.now.brush k in
     let old = c.args.block.now in
     let at = c.loop-at.at in
     let done : at ≡ c.args.row + 8 = search rules in

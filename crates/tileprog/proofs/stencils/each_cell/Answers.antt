@@ -2,15 +2,15 @@ use Rattle.std.proofs.Common.{◌≡◌, ◌∙◌, ap, sym, subst, refl, rules,
 use Rattle.gfxspec.specs.declared.geometry.PixelRect.{PixelRect}
 use Rattle.tileblock.specs.Block.{Block}
 use Rattle.tileprog.specs.Columns.{Continues}
-use Rattle.tileprog.specs.Strokes.{Stroke}
+use Rattle.tileprog.specs.Columns.{stroke_in}
 use Rattle.tileprog.proofs.Columning.{none_yet, rows_behind, column_behind}
 use Rattle.tileprog.proofs.stencils.each_cell.Goals as goal
 
 pub loop-k-init : goal.loop-k-init
 loop-k-init g c =
     let k = c.args.column.now in
-    let plane = c.args.plane.now in
-    let s : Stroke = record { brush = c.args.brush.now; plane = plane; mask = k.mask; clip = k.clip } in
+    let plane = k.plane.now in
+    let s = stroke_in c.args.brush.now.brush k in
     let old = c.args.block.now in
     let here : old.rect.top ≡ old.rect.top + 8 * 0 = omega arith in
     record {
@@ -21,12 +21,13 @@ loop-k-init g c =
 pub loop-k-preserved : goal.loop-k-preserved
 loop-k-preserved g c =
     let k = c.args.column.now in
-    let plane = c.args.plane.now in
-    let s : Stroke = record { brush = c.args.brush.now; plane = plane; mask = k.mask; clip = k.clip } in
+    let plane = k.plane.now in
+    let s = stroke_in c.args.brush.now.brush k in
     let old = c.args.block.now in
     let mid = c.loop-k.block in
     let new = c.cell_rows-more.new.block in
-    let row = 8 * c.loop-k.k in
+    let row = c.cell_of-cell.result.row in
+    let row_is = c.cell_of-cell.ensures.row in
     let more = c.cell_rows-more.result in
     let inv = c.loop-k.invariant in
     let top_is = ap (λ (r : PixelRect). r.top) inv.rect in
@@ -34,14 +35,14 @@ loop-k-preserved g c =
     let drawn : D mid = subst D c.cell_of-cell.ensures.block c.cell_rows-more.ensures in
     record {
       rect = drawn.rect ∙ inv.rect;
-      continues = rows_behind s old mid new k.x old.rect.top (old.rect.top + row) (mid.rect.top + row) (mid.rect.top + (row + 8)) (old.rect.top + 8 * (c.loop-k.k + 1)) c.loop-k.passed more inv.continues drawn
-          (ap (λ v. v + row) top_is) (omega (arith, top_is));
+      continues = rows_behind s old mid new k.x old.rect.top (old.rect.top + 8 * c.loop-k.k) (mid.rect.top + row) (mid.rect.top + (row + 8)) (old.rect.top + 8 * (c.loop-k.k + 1)) c.loop-k.passed more inv.continues drawn
+          (omega (arith, top_is, row_is)) (omega (arith, top_is, row_is));
     }
 
 pub returns : goal.returns
 returns g c =
     let k = c.args.column.now in
-    let s : Stroke = record { brush = c.args.brush.now; plane = c.args.plane.now; mask = k.mask; clip = k.clip } in
+    let s = stroke_in c.args.brush.now.brush k in
     let old = c.args.block.now in
     let n = c.loop-k.k in
     let done : n ≡ 4 = search rules in

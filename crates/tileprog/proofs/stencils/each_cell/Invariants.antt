@@ -1,5 +1,5 @@
 use Rattle.std.proofs.Common.{◌≡◌, ◌+◌, ◌*◌}
-use Rattle.tileprog.specs.Columns.{Continues}
+use Rattle.tileprog.specs.Columns.{Continues, stroke_in}
 use Rattle.tileprog.proofs.stencils.each_cell.Given as goal
 
 abbrev pub invariant-loop-k : goal.invariant-loop-k
@@ -8,5 +8,5 @@ invariant-loop-k g l =
     let old = l.fn.block in
     record {
       rect : l.block.rect ≡ old.rect;
-      continues : Continues (record { brush = l.brush; plane = l.plane; mask = c.mask; clip = c.clip }) old l.block c.x old.rect.top (old.rect.top + 8 * l.k) l.passed;
+      continues : Continues (stroke_in l.brush.brush c) old l.block c.x old.rect.top (old.rect.top + 8 * l.k) l.passed;
     }

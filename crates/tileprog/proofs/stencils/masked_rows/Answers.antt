@@ -1,6 +1,5 @@
 use Rattle.std.proofs.Common.{◌≡◌, ◌∙◌, ap, refl, rules, arith, ◌+◌, ◌≤◌}
-use Rattle.gfxspec.specs.declared.geometry.PixelRect.{PixelRect}
-use Rattle.tileprog.specs.Strokes.{Stroke}
+use Rattle.tileprog.specs.Columns.{stroke_in}
 use Rattle.tileprog.proofs.CellLaws.{rest_have}
 use Rattle.tileprog.proofs.Columning.{row_behind, rows_are}
 use Rattle.tileprog.proofs.stencils.masked_rows.Goals as goal
@@ -8,8 +7,8 @@ use Rattle.tileprog.proofs.stencils.masked_rows.Goals as goal
 pub loop-at-preserved : goal.loop-at-preserved
 loop-at-preserved g c =
     let k = c.args.column.now in
-    let plane = c.args.plane.now in
-    let s : Stroke = record { brush = c.args.brush.now; plane = plane; mask = k.mask; clip = k.clip } in
+    let plane = k.plane.now in
+    let s = stroke_in c.args.brush.now.brush k in
     let old = c.args.block.now in
     let mid = c.loop-at.block in
     let new = c.cut_row-more.new.block in
@@ -22,16 +21,16 @@ loop-at-preserved g c =
     record {
       here = search rules;
       rect = drawn.drew.rect ∙ inv.rect;
-      deep = rest_have c.args.deep s.brush.state plane s mid new k.x at (c.args.row + 8) (mid.rect.top + at) more inv.deep drawn refl;
-      continues = row_behind s plane old mid new k.x (old.rect.top + c.args.row) (old.rect.top + at) (old.rect.top + (at + 1)) (mid.rect.top + at) c.loop-at.passed more c.requires.column.within below inv.continues drawn
-          refl (ap (λ (r : PixelRect). r.top + at) inv.rect) (omega arith);
+      deep = rest_have c.args.known.deep s.brush.state plane s mid new k.x at (c.args.row + 8) (mid.rect.top + c.pixels_left-pixels.result.row) more inv.deep drawn (ap (λ v. mid.rect.top + v) c.pixels_left-pixels.ensures.row);
+      continues = row_behind s plane old mid new k.x (old.rect.top + c.args.row) (old.rect.top + at) (old.rect.top + (at + 1)) (mid.rect.top + c.pixels_left-pixels.result.row) c.loop-at.passed more c.requires.column.within below inv.continues drawn
+          refl (λ i. (inv.rect i).top + c.pixels_left-pixels.ensures.row i) (omega arith);
     }
 
 pub returns : goal.returns
 returns g c =
     let k = c.args.column.now in
-    let plane = c.args.plane.now in
-    let s : Stroke = record { brush = c.args.brush.now; plane = plane; mask = k.mask; clip = k.clip } in
+    let plane = k.plane.now in
+    let s = stroke_in c.args.brush.now.brush k in
     let old = c.args.block.now in
     let at = c.loop-at.at in
     let done : at ≡ c.args.row + 8 = search rules in

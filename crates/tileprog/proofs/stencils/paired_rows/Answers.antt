@@ -2,7 +2,7 @@ use Rattle.std.proofs.Common.{◌≡◌, ◌∙◌, ap, subst, refl, rules, arit
 use Rattle.gfxspec.specs.declared.geometry.PixelRect.{PixelRect}
 use Rattle.tileprog.specs.Cells.{AllHave}
 use Rattle.tileprog.specs.Columns.{Continues}
-use Rattle.tileprog.specs.Strokes.{Stroke}
+use Rattle.tileprog.specs.Columns.{stroke_in}
 use Rattle.tileprog.proofs.CellLaws.{part_have, part_covered, rest_have}
 use Rattle.tileprog.proofs.Columning.{none_yet, rows_are, rows_drawn_behind}
 use Rattle.tileprog.proofs.stencils.paired_rows.Goals as goal
@@ -10,8 +10,8 @@ use Rattle.tileprog.proofs.stencils.paired_rows.Goals as goal
 pub loop-pair-init : goal.loop-pair-init
 loop-pair-init g c =
     let k = c.args.column.now in
-    let plane = c.args.plane.now in
-    let s : Stroke = record { brush = c.args.brush.now; plane = plane; mask = k.mask; clip = k.clip } in
+    let plane = k.plane.now in
+    let s = stroke_in c.args.brush.now.brush k in
     let old = c.args.block.now in
     let row = c.args.row in
     let here : row ≡ row + 2 * 0 = omega arith in
@@ -24,8 +24,8 @@ loop-pair-init g c =
 pub loop-pair-preserved : goal.loop-pair-preserved
 loop-pair-preserved g c =
     let k = c.args.column.now in
-    let plane = c.args.plane.now in
-    let s : Stroke = record { brush = c.args.brush.now; plane = plane; mask = k.mask; clip = k.clip } in
+    let plane = k.plane.now in
+    let s = stroke_in c.args.brush.now.brush k in
     let old = c.args.block.now in
     let mid = c.loop-pair.block in
     let new = c.operated_rows-more.new.block in
@@ -52,8 +52,8 @@ loop-pair-preserved g c =
 pub returns : goal.returns
 returns g c =
     let k = c.args.column.now in
-    let plane = c.args.plane.now in
-    let s : Stroke = record { brush = c.args.brush.now; plane = plane; mask = k.mask; clip = k.clip } in
+    let plane = k.plane.now in
+    let s = stroke_in c.args.brush.now.brush k in
     let old = c.args.block.now in
     let at = c.args.row + 2 * c.loop-pair.pair in
     let n = c.loop-pair.pair in
@@ -63,10 +63,10 @@ returns g c =
 pub operated_rows-more-requires-clause-deep : goal.operated_rows-more-requires-clause-deep
 operated_rows-more-requires-clause-deep g c =
     let at = c.args.row + 2 * c.loop-pair.pair in
-    part_have c.args.deep c.args.brush.now.state c.args.plane.now c.loop-pair.block c.args.column.now.x at at (at + 2) (c.args.row + 8) (omega arith) (omega arith) c.loop-pair.invariant.deep
+    part_have c.args.deep c.args.brush.now.brush.state c.args.column.now.plane.now c.loop-pair.block c.args.column.now.x at at (at + 2) (c.args.row + 8) (omega arith) (omega arith) c.loop-pair.invariant.deep
 
 pub operated_rows-more-requires-clause-covered : goal.operated_rows-more-requires-clause-covered
 operated_rows-more-requires-clause-covered g c =
     let at = c.args.row + 2 * c.loop-pair.pair in
     let k = c.args.column.now in
-    part_covered k.mask c.args.plane.now.triangle c.args.block.now.rect c.loop-pair.block.rect k.x c.args.row at (at + 2) (c.args.row + 8) (omega arith) (omega arith) c.loop-pair.invariant.rect c.requires.covered
+    part_covered k.mask c.args.column.now.plane.now.triangle c.args.block.now.rect c.loop-pair.block.rect k.x c.args.row at (at + 2) (c.args.row + 8) (omega arith) (omega arith) c.loop-pair.invariant.rect c.requires.covered
