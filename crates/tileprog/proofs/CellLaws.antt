@@ -17,10 +17,11 @@ use Rattle.tileblock.specs.Block.{Block, pixel_at}
 use Rattle.tileblock.specs.Cells.{CellLies}
 use Rattle.tileblock.specs.declared.blocks.DepthBounds.{DepthBounds}
 use Rattle.tileprog.specs.declared.brush.Brush.{Brush}
+use Rattle.tileprog.specs.declared.column.Column.{Column}
 use Rattle.tileprog.specs.declared.kind.Tests.TheVariants.{Stencil}
 use Rattle.tileprog.specs.Alike.{HasOutcome, operated}
 use Rattle.tileprog.specs.Brushes.{tested_by, drawn_by}
-use Rattle.tileprog.specs.Cells.{InRows, AllHave, AreCovered, IsStill, IsUnwritten}
+use Rattle.tileprog.specs.Cells.{InRows, AllHave, AreCovered, HaveOutcome, IsStill, IsUnwritten}
 use Rattle.tileprog.specs.Columns.{RowDrew}
 use Rattle.tileprog.specs.Kinds.{tests_of}
 use Rattle.tileprog.specs.Strokes.{Stroke, stroked}
@@ -56,6 +57,11 @@ pub mapped : (o : Option Bool) (P Q : Bool → Type 0) → ((b : Bool) → P b �
 mapped None P Q f h = h
 mapped (Some b) P Q f h = f b h
 
+-- what two say of the same
+pub joined : (o : Option Bool) (P Q R : Bool → Type 0) → ((b : Bool) → P b → Q b → R b) → IfSome o P → IfSome o Q → IfSome o R
+joined None P Q R f h k = h
+joined (Some b) P Q R f h k = f b h k
+
 pub first_have : (deep : Bool) (s : DepthStencilSetting) (d : DeepTriangle) (b : Block) (x row past : ℕ) → row < past → AllHave deep s d b x row past → AllHave deep s d b x row (row + 1)
 first_have deep s d b x row past more all = λ u v is here covered.
     let o = here.bottom in
@@ -74,11 +80,6 @@ part_covered mask t r q x from at past to more less same all =
     let l = here.top in
     let o = here.bottom in
     all u v (record { left = here.left; right = here.right; top = omega (arith, l, more); bottom = omega (arith, o, less) }))
-
--- the first of rows whose depth test has one outcome
-pub first_told : (known : Option Bool) (s : DepthStencilSetting) (d : DeepTriangle) (b : Block) (x row past : ℕ) → row < past → IfSome known (λ deep. AllHave deep s d b x row past) → IfSome known (λ deep. AllHave deep s d b x row (row + 1))
-first_told known s d b x row past more h =
-    mapped known (λ deep. AllHave deep s d b x row past) (λ deep. AllHave deep s d b x row (row + 1)) (λ deep all. first_have deep s d b x row past more all) h
 
 -- a row of rows that are covered
 pub row_covered : (mask : ℕ) (t : Triangle) (r : PixelRect) (x row at past : ℕ) → row ≤ at → at < past → AreCovered true mask t r x row past → AreCovered true mask t r x at (at + 1)
@@ -105,19 +106,22 @@ rest_have deep s d k old new x row past y n all drew y_is = λ u v is here cover
         plain : ((nat_le x u && nat_lt u (x + 8)) && (nat_le y v && nat_lt v (y + 1))) ≡ false
         plain = grind (arith, nat_tests, h)
 
-pub rest_told : (known : Option Bool) (s : DepthStencilSetting) (d : DeepTriangle) (k : Stroke) (old new : Block) (x row past y n : ℕ) → IfSome known (λ deep. AllHave deep s d old x row past) → RowDrew k old new x y n → y ≡ old.rect.top + row
-    → IfSome known (λ deep. AllHave deep s d new x (row + 1) past)
-rest_told known s d k old new x row past y n h drew y_is =
-    mapped known (λ deep. AllHave deep s d old x row past) (λ deep. AllHave deep s d new x (row + 1) past) (λ deep all. rest_have deep s d k old new x row past y n all drew y_is) h
+pub rest_outcome : (deep : Bool) (b : Brush) (k : Column) (s : Stroke) (old new : Block) (row past y n : ℕ) → HaveOutcome deep b k old row past → RowDrew s old new k.x y n → y ≡ old.rect.top + row → HaveOutcome deep b k new (row + 1) past
+rest_outcome deep b k s old new row past y n h drew y_is = record { all = rest_have deep b.state k.plane.now s old new k.x row past y n h.all drew y_is; unwritten = h.unwritten }
+
+pub rest_told : (known : Option Bool) (b : Brush) (k : Column) (s : Stroke) (old new : Block) (row past y n : ℕ) → IfSome known (λ deep. HaveOutcome deep b k old row past) → RowDrew s old new k.x y n → y ≡ old.rect.top + row
+    → IfSome known (λ deep. HaveOutcome deep b k new (row + 1) past)
+rest_told known b k s old new row past y n h drew y_is =
+    mapped known (λ deep. HaveOutcome deep b k old row past) (λ deep. HaveOutcome deep b k new (row + 1) past) (λ deep is. rest_outcome deep b k s old new row past y n is drew y_is) h
 
 -- where depth isn't tested
-pub untested_told : (known : Option Bool) (s : DepthStencilSetting) (d : DeepTriangle) (b : Block) (x row past : ℕ) → IfSome known (λ deep. (deep ≡ true) × (s.depth ≡ false)) → IfSome known (λ deep. AllHave deep s d b x row past)
-untested_told known s d b x row past h =
-    mapped known (λ deep. (deep ≡ true) × (s.depth ≡ false)) (λ deep. AllHave deep s d b x row past)
-    (λ deep is. subst (λ t. AllHave t s d b x row past) (sym is.0) (untested_cell s d b x row past is.1)) h
-
-pub untested_unwritten : (known : Option Bool) (s : DepthStencilSetting) → IfSome known (λ deep. (deep ≡ true) × (s.depth ≡ false)) → IfSome known (IsUnwritten s)
-untested_unwritten known s h = mapped known (λ deep. (deep ≡ true) × (s.depth ≡ false)) (IsUnwritten s) (λ deep is e. ap (λ t. t && s.write) is.1) h
+pub untested_told : (known : Option Bool) (b : Brush) (k : Column) (old : Block) (row past : ℕ) → IfSome known (λ deep. (deep ≡ true) × (b.state.depth ≡ false)) → IfSome known (λ deep. HaveOutcome deep b k old row past)
+untested_told known b k old row past h =
+    mapped known (λ deep. (deep ≡ true) × (b.state.depth ≡ false)) (λ deep. HaveOutcome deep b k old row past)
+    (λ deep is. record {
+      all = subst (λ t. AllHave t b.state k.plane.now old k.x row past) (sym is.0) (untested_cell b.state k.plane.now old k.x row past is.1);
+      unwritten = λ e. ap (λ t. t && b.state.write) is.1;
+    }) h
 
 -- ---- lanes
 

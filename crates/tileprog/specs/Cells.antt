@@ -34,6 +34,11 @@ LiesWithin d w = (u v : ℕ) → IsTrue (covers d.triangle (centre u v)) → (w.
 abbrev pub IsUnwritten : DepthStencilSetting → Bool → Type 0
 IsUnwritten s deep = deep ≡ true → (s.depth && s.write) ≡ false
 
+-- the depth test has one outcome in these rows of a column, and where it passes no depth is stored
+pub record HaveOutcome (deep : Bool) (b : Brush) (k : Column) (old : Block) (from past : ℕ) : Type 0 where
+  pub all : AllHave deep b.state k.plane.now old k.x from past
+  pub unwritten : IsUnwritten b.state deep
+
 -- the named edges hold at all pixels there, or not all of them at any
 abbrev pub AreCovered : Bool → ℕ → Triangle → PixelRect → ℕ → ℕ → ℕ → Type 0
 AreCovered all mask t r x from past = (u v : ℕ) → InRows r x from past u v → passes_edges mask t (centre u v) ≡ all
@@ -43,11 +48,14 @@ abbrev pub EdgesAre : Bool → Triangle → PixelRect → Type 0
 EdgesAre true t r = (i : ℕ) → i < 3 → HoldsEverywhere (edge t i) r
 EdgesAre false t r = (u v : ℕ) → IsIn r u v → covers t (centre u v) ≡ false
 
--- what a cell tells of the eight rows from one on
-pub record Tells (c : Cell) (s : DepthStencilSetting) (d : DeepTriangle) (mask : ℕ) (b : Block) (x row : ℕ) : Type 0 where
-  pub covered : IfSome c.covered (λ all. AreCovered all mask d.triangle b.rect x row (row + 8))
-  pub deep : IfSome c.deep (λ deep. AllHave deep s d b x row (row + 8))
-  pub unwritten : IfSome c.deep (IsUnwritten s)
+-- the named edges hold at all pixels in these rows of a column
+abbrev pub AllCovered : Column → PixelRect → ℕ → ℕ → Type 0
+AllCovered k r from past = AreCovered true k.mask k.plane.now.triangle r k.x from past
+
+-- what a cell of a column tells of its eight rows
+pub record Tells (c : Cell) (b : Brush) (k : Column) (old : Block) : Type 0 where
+  pub covered : IfSome c.covered (λ all. AreCovered all k.mask k.plane.now.triangle old.rect k.x c.row (c.row + 8))
+  pub deep : IfSome c.deep (λ deep. HaveOutcome deep b k old c.row (c.row + 8))
 
 -- a column that the clip rectangle leaves whole, in all rows of a tile
 pub record IsLong (c : Column) (r : PixelRect) : Type 0 where

@@ -11,7 +11,7 @@ use Rattle.tileblock.specs.Block.{Block}
 use Rattle.tileprog.specs.declared.brush.Brush.{Brush}
 use Rattle.tileprog.specs.declared.column.Column.{Column}
 use Rattle.tileprog.specs.declared.pixels.SpanPixels.{SpanPixels}
-use Rattle.tileprog.specs.Cells.{LiesWithin}
+use Rattle.tileprog.specs.Cells.{IsLong, LiesWithin}
 use Rattle.tileprog.specs.Counting.{eight, column_sum, stroke_count}
 use Rattle.tileprog.specs.Edges.{passes_edges, BeganIn}
 use Rattle.tileprog.specs.Strokes.{Stroke, Drew, IsNamed, IsWithin}
@@ -31,6 +31,12 @@ pub record IsColumn (c : Column) (r : PixelRect) : Type 0 where
   pub high : r.top + 32 ≤ side_bound
   pub named : IsNamed c.plane.now c.mask r
   pub corners : LiesWithin c.plane.now c.corners
+
+-- eight rows of a column that the clip rectangle leaves whole, from one on
+pub record IsCell (c : Column) (r : PixelRect) (row : ℕ) : Type 0 where
+  pub column : IsColumn c r
+  pub long : IsLong c r
+  pub last : row + 8 ≤ 32
 
 -- a walk along the triangle's edges stands at the column in the row y, and began in the tile
 pub record EdgesAt (p : EdgePlace) (c : Column) (r : PixelRect) (y : ℕ) : Type 0 where

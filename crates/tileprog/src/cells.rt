@@ -5,7 +5,7 @@ ghost use Rattle.classify.specs.Region.{IsReal};
 ghost use Rattle.gfxspec.specs.Raster.{centre, covers};
 ghost use Rattle.depthplane.specs.Place.{depth_of};
 ghost use Rattle.tileprog.specs.Alike.{HasOutcome};
-ghost use Rattle.tileprog.specs.Cells.{InRows, AllHave, AreCovered, EdgesAre, IsUnwritten, IsLong, Tells};
+ghost use Rattle.tileprog.specs.Cells.{InRows, AreCovered, EdgesAre, HaveOutcome, IsUnwritten, IsLong};
 ghost use Rattle.tileprog.specs.Columns.{IsColumn};
 
 use crate::alike::opposite;
@@ -74,7 +74,7 @@ pub(crate) fn is_long(rect: PixelRect, column: &Column<'_>) -> bool
 /// Whether the named edges hold at all pixels of the eight rows of a column from `row` on, or not all of them at any. Where none is named
 /// there is no set to ask.
 #[inline(always)]
-fn cover_outcome(
+pub(crate) fn cover_outcome(
     set: Option<&EdgeSet>,
     rect: PixelRect,
     column: &Column<'_>,
@@ -141,8 +141,7 @@ fn deep_from<A: Allocator>(
     requires column { IsColumn column.now block.now.rect }
     requires cell { cell < 4 }
     requires depth { brush.now.state.depth ≡ true }
-    ensures deep { IfSome result (λ deep. AllHave deep brush.now.state column.now.plane.now block.now column.now.x (8 * cell) (8 * cell + 8)) }
-    ensures unwritten { IfSome result (IsUnwritten brush.now.state) }
+    ensures { IfSome result (λ deep. HaveOutcome deep brush.now column.now block.now (8 * cell) (8 * cell + 8)) }
 {
     let Some(known) = block.cell_bounds(column.span, cell) else {
         return None;
@@ -160,7 +159,7 @@ fn deep_from<A: Allocator>(
 /// Whether the depth test of a brush passes at all covered pixels of a cell of a column, or at none, if that is asked: where depth is tested,
 /// only where the edges may hold.
 #[inline(always)]
-fn depth_outcome<A: Allocator>(
+pub(crate) fn depth_outcome<A: Allocator>(
     block: &TileBlock<A>,
     column: &Column<'_>,
     cell: u32,
@@ -169,8 +168,7 @@ fn depth_outcome<A: Allocator>(
 ) -> Option<bool>
     requires column { IsColumn column.now block.now.rect }
     requires cell { cell < 4 }
-    ensures deep { IfSome result (λ deep. AllHave deep brush.now.state column.now.plane.now block.now column.now.x (8 * cell) (8 * cell + 8)) }
-    ensures unwritten { IfSome result (IsUnwritten brush.now.state) }
+    ensures { IfSome result (λ deep. HaveOutcome deep brush.now column.now block.now (8 * cell) (8 * cell + 8)) }
 {
     if !brush.state.depth() {
         return Some(true);
@@ -184,7 +182,7 @@ fn depth_outcome<A: Allocator>(
 /// Looks at the stored depths of a cell that is asked about, where nothing is known of them. A brush that stores depths doesn't look: the
 /// block would forget at once.
 #[inline(always)]
-fn look_at<A: Allocator>(
+pub(crate) fn look_at<A: Allocator>(
     block: &mut TileBlock<A>,
     span: u32,
     cell: u32,
@@ -201,34 +199,5 @@ fn look_at<A: Allocator>(
     let known = block.cell_bounds(span, cell);
     if known.is_none() {
         block.measure_cell(span, cell);
-    }
-}
-
-/// A cell of a column, which is eight rows from row 8 * `cell` on, under a brush with a stencil test. Of the block no more than what it
-/// knows of its depths changes.
-#[inline(always)]
-pub(crate) fn cell_of<A: Allocator>(
-    block: &mut TileBlock<A>,
-    set: Option<&EdgeSet>,
-    column: &Column<'_>,
-    cell: u32,
-    brush: &Brush,
-) -> Cell
-    requires some { IfSome set (λ s. s.now ≡ column.now.plane.now.triangle) }
-    requires none { set ≡ None → column.now.mask ≡ 0 }
-    requires column { IsColumn column.now block.old.rect }
-    requires long { IsLong column.now block.old.rect }
-    requires cell { cell < 4 }
-    ensures block { block.new ≡ block.old }
-    ensures row { result.row ≡ 8 * cell }
-    ensures told { Tells result brush.now.state column.now.plane.now column.now.mask block.old column.now.x (8 * cell) }
-{
-    let covered = cover_outcome(set, block.rect(), column, 8 * cell);
-    look_at(block, column.span, cell, covered, brush);
-    let deep = depth_outcome(block, column, cell, covered, brush);
-    Cell {
-        row: 8 * cell,
-        covered,
-        deep,
     }
 }

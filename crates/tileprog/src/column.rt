@@ -10,6 +10,9 @@ use tileblock::DepthBounds;
 /// A column of spans of a tile, eight pixels wide, of which a clip rectangle leaves a part, with the triangle that is drawn there.
 #[derive(Clone, Copy)]
 pub(crate) struct Column<'a> {
+    pub(crate) plane: &'a Plane,
+    /// What the depths of the triangle lie between wherever it covers.
+    pub(crate) corners: DepthBounds,
     /// The first of the eight columns of pixels, on the target.
     pub(crate) x: u32,
     /// The number of the span in a row of the tile.
@@ -17,11 +20,8 @@ pub(crate) struct Column<'a> {
     pub(crate) clip: PixelRect,
     /// The lanes that lie in the clip's columns.
     pub(crate) within: u8,
-    pub(crate) plane: &'a Plane,
     /// The edges that are still to be tested, edge i as bit i.
     pub(crate) mask: u8,
-    /// What the depths of the triangle lie between wherever it covers.
-    pub(crate) corners: DepthBounds,
     pub(crate) ghost lanes: { (j : ℕ) → j < 8 → has within j ≡ (nat_le clip.left (x + j) && nat_lt (x + j) clip.right) },
 }
 

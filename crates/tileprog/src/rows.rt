@@ -4,7 +4,7 @@ ghost use Rattle.std.specs.Prelude.{◌≡◌, ◌<◌, ◌≤◌, ◌+◌, ◌&
 ghost use Rattle.gfxspec.specs.Raster.{centre};
 ghost use Rattle.lanes.specs.Stencil.{has, reference_passes};
 ghost use Rattle.tileprog.specs.declared.kind.Tests.TheVariants.{Open};
-ghost use Rattle.tileprog.specs.Cells.{AllHave, AreCovered, IsStill, IsUnwritten};
+ghost use Rattle.tileprog.specs.Cells.{AllCovered, HaveOutcome, IsStill};
 ghost use Rattle.tileprog.specs.Columns.{AreLeft, EdgesAt, IsColumn, IsRow, RowDrew, RowsDrew, WalksAt, stroke_in};
 ghost use Rattle.tileprog.specs.Edges.{passes_edges, Decides};
 ghost use Rattle.tileprog.specs.Kinds.{tests_of};
@@ -122,8 +122,7 @@ pub(crate) fn stencil_row<A: Allocator, W: Walks>(
     requires column { IsColumn column.now block.old.rect }
     requires left { AreLeft column.now block.old.rect pixels }
     requires walk { WalksAt (W.place walk.now) column.now block.old.rect (block.old.rect.top + pixels.row) }
-    requires known { IfSome known (λ deep. AllHave deep brush.now.brush.state column.now.plane.now block.old column.now.x pixels.row (pixels.row + 1)) }
-    requires unwritten { IfSome known (IsUnwritten brush.now.brush.state) }
+    requires known { IfSome known (λ deep. HaveOutcome deep brush.now.brush column.now block.old pixels.row (pixels.row + 1)) }
     ensures { RowDrew (stroke_in brush.now.brush column.now) block.old block.new column.now.x (block.old.rect.top + pixels.row) result }
 {
     let cover = pixels.bits;
@@ -155,8 +154,7 @@ pub(crate) fn cut_row<A: Allocator>(
 ) -> u32
     requires column { IsColumn column.now block.old.rect }
     requires left { AreLeft column.now block.old.rect pixels }
-    requires deep { AllHave known.deep brush.now.brush.state column.now.plane.now block.old column.now.x pixels.row (pixels.row + 1) }
-    requires unwritten { IsUnwritten brush.now.brush.state known.deep }
+    requires deep { HaveOutcome known.deep brush.now.brush column.now block.old pixels.row (pixels.row + 1) }
     requires always { IsTrue known.always → (v : ℕ) → reference_passes brush.now.test v ≡ true }
     ensures { RowDrew (stroke_in brush.now.brush column.now) block.old block.new column.now.x (block.old.rect.top + pixels.row) result }
 {
@@ -181,7 +179,7 @@ pub(crate) fn deep_row<A: Allocator, W: Walks>(
     requires within { column.now.within ≡ 255 }
     requires row { IsRow column.now block.old.rect row }
     requires walk { WalksAt (W.place walk.now) column.now block.old.rect (block.old.rect.top + row) }
-    requires covered { AreCovered true column.now.mask column.now.plane.now.triangle block.old.rect column.now.x row (row + 1) }
+    requires covered { AllCovered column.now block.old.rect row (row + 1) }
     ensures { RowDrew (stroke_in brush.now.brush column.now) block.old block.new column.now.x (block.old.rect.top + row) result }
 {
     let pixels = SpanPixels {
@@ -209,9 +207,8 @@ pub(crate) fn alike_row<A: Allocator>(
     requires column { IsColumn column.now block.old.rect }
     requires within { column.now.within ≡ 255 }
     requires row { IsRow column.now block.old.rect row }
-    requires covered { AreCovered true column.now.mask column.now.plane.now.triangle block.old.rect column.now.x row (row + 1) }
-    requires deep { AllHave known.deep brush.now.brush.state column.now.plane.now block.old column.now.x row (row + 1) }
-    requires unwritten { IsUnwritten brush.now.brush.state known.deep }
+    requires covered { AllCovered column.now block.old.rect row (row + 1) }
+    requires deep { HaveOutcome known.deep brush.now.brush column.now block.old row (row + 1) }
     requires always { IsTrue known.always → (v : ℕ) → reference_passes brush.now.test v ≡ true }
     requires still { IsTrue still → IsStill brush.now.brush brush.now.test known.deep }
     ensures { RowDrew (stroke_in brush.now.brush column.now) block.old block.new column.now.x (block.old.rect.top + row) result }
@@ -245,9 +242,8 @@ pub(crate) fn operated_rows<A: Allocator>(
     requires within { column.now.within ≡ 255 }
     requires row { IsRow column.now block.old.rect row }
     requires next { IsRow column.now block.old.rect (row + 1) }
-    requires covered { AreCovered true column.now.mask column.now.plane.now.triangle block.old.rect column.now.x row (row + 2) }
-    requires deep { AllHave deep brush.now.brush.state column.now.plane.now block.old column.now.x row (row + 2) }
-    requires unwritten { IsUnwritten brush.now.brush.state deep }
+    requires covered { AllCovered column.now block.old.rect row (row + 2) }
+    requires deep { HaveOutcome deep brush.now.brush column.now block.old row (row + 2) }
     requires always { (v : ℕ) → reference_passes brush.now.test v ≡ true }
     requires colors { deep ≡ true → (brush.now.brush.write.keep ≡ 4294967295) × (brush.now.brush.write.flip ≡ 0) }
     ensures { RowsDrew (stroke_in brush.now.brush column.now) block.old block.new column.now.x (block.old.rect.top + row) result }

@@ -3,12 +3,12 @@
 ghost use Rattle.std.specs.Prelude.{◌≡◌, ◌<◌, ◌≤◌, ◌+◌, ◌*◌, ℕ, true, false, IsTrue, IfSome, None};
 ghost use Rattle.gfxspec.specs.Limits.{side_bound};
 ghost use Rattle.lanes.specs.Stencil.{reference_passes};
-ghost use Rattle.tileprog.specs.Cells.{AllHave, AreCovered, IsLong, IsStill, IsUnwritten, Tells};
-ghost use Rattle.tileprog.specs.Columns.{EdgesAt, IsColumn, ColumnDrew, Continues, WalksAt, stroke_in};
+ghost use Rattle.tileprog.specs.Cells.{AllCovered, HaveOutcome, IsLong, IsStill, Tells};
+ghost use Rattle.tileprog.specs.Columns.{EdgesAt, IsCell, IsColumn, ColumnDrew, Continues, WalksAt, stroke_in};
 
 use crate::brush::Brush;
 use crate::brushes::StencilBrush;
-use crate::cells::{Cell, cell_of, is_long};
+use crate::cells::{Cell, cover_outcome, depth_outcome, is_long, look_at};
 use crate::column::Column;
 use crate::rows::{alike_row, cut_row, deep_row, operated_rows, pixels_left, stencil_row};
 use crate::spans::{KnownTests, is_still, keeps_colors};
@@ -50,11 +50,10 @@ fn each_row<A: Allocator, W: Walks>(
     ensures { Continues (stroke_in brush.now.brush column.now) block.old block.new column.now.x (block.old.rect.top + rows.start) (block.old.rect.top + rows.end) result }
 {
     let known = untested(&brush.brush);
-    let mask = column.mask;
     let mut edges = edges.copied();
     let mut passed = 0u32;
     for at in rows.start..rows.end {
-        let pixels = pixels_left(block, column, mask, at, &edges);
+        let pixels = pixels_left(block, column, column.mask, at, &edges);
         let more = stencil_row(block, column, pixels, &walk, known, brush);
         passed += more;
         edges.down();
@@ -74,12 +73,9 @@ fn alike_rows<A: Allocator>(
     still: bool,
     brush: &StencilBrush,
 ) -> u32
-    requires column { IsColumn column.now block.old.rect }
-    requires long { IsLong column.now block.old.rect }
-    requires row { row + 8 ≤ 32 }
-    requires covered { AreCovered true column.now.mask column.now.plane.now.triangle block.old.rect column.now.x row (row + 8) }
-    requires deep { AllHave known.deep brush.now.brush.state column.now.plane.now block.old column.now.x row (row + 8) }
-    requires unwritten { IsUnwritten brush.now.brush.state known.deep }
+    requires cell { IsCell column.now block.old.rect row }
+    requires covered { AllCovered column.now block.old.rect row (row + 8) }
+    requires deep { HaveOutcome known.deep brush.now.brush column.now block.old row (row + 8) }
     requires always { IsTrue known.always → (v : ℕ) → reference_passes brush.now.test v ≡ true }
     requires still { IsTrue still → IsStill brush.now.brush brush.now.test known.deep }
     ensures { Continues (stroke_in brush.now.brush column.now) block.old block.new column.now.x (block.old.rect.top + row) (block.old.rect.top + (row + 8)) result }
@@ -101,12 +97,9 @@ fn paired_rows<A: Allocator>(
     deep: bool,
     brush: &StencilBrush,
 ) -> u32
-    requires column { IsColumn column.now block.old.rect }
-    requires long { IsLong column.now block.old.rect }
-    requires row { row + 8 ≤ 32 }
-    requires covered { AreCovered true column.now.mask column.now.plane.now.triangle block.old.rect column.now.x row (row + 8) }
-    requires deep { AllHave deep brush.now.brush.state column.now.plane.now block.old column.now.x row (row + 8) }
-    requires unwritten { IsUnwritten brush.now.brush.state deep }
+    requires cell { IsCell column.now block.old.rect row }
+    requires covered { AllCovered column.now block.old.rect row (row + 8) }
+    requires deep { HaveOutcome deep brush.now.brush column.now block.old row (row + 8) }
     requires always { (v : ℕ) → reference_passes brush.now.test v ≡ true }
     requires colors { deep ≡ true → (brush.now.brush.write.keep ≡ 4294967295) × (brush.now.brush.write.flip ≡ 0) }
     ensures { Continues (stroke_in brush.now.brush column.now) block.old block.new column.now.x (block.old.rect.top + row) (block.old.rect.top + (row + 8)) result }
@@ -128,12 +121,9 @@ fn sure_rows<A: Allocator>(
     deep: bool,
     brush: &StencilBrush,
 ) -> u32
-    requires column { IsColumn column.now block.old.rect }
-    requires long { IsLong column.now block.old.rect }
-    requires row { row + 8 ≤ 32 }
-    requires covered { AreCovered true column.now.mask column.now.plane.now.triangle block.old.rect column.now.x row (row + 8) }
-    requires deep { AllHave deep brush.now.brush.state column.now.plane.now block.old column.now.x row (row + 8) }
-    requires unwritten { IsUnwritten brush.now.brush.state deep }
+    requires cell { IsCell column.now block.old.rect row }
+    requires covered { AllCovered column.now block.old.rect row (row + 8) }
+    requires deep { HaveOutcome deep brush.now.brush column.now block.old row (row + 8) }
     requires always { (v : ℕ) → reference_passes brush.now.test v ≡ true }
     ensures { Continues (stroke_in brush.now.brush column.now) block.old block.new column.now.x (block.old.rect.top + row) (block.old.rect.top + (row + 8)) result }
 {
@@ -158,12 +148,9 @@ fn known_rows<A: Allocator>(
     deep: bool,
     brush: &StencilBrush,
 ) -> u32
-    requires column { IsColumn column.now block.old.rect }
-    requires long { IsLong column.now block.old.rect }
-    requires row { row + 8 ≤ 32 }
-    requires covered { AreCovered true column.now.mask column.now.plane.now.triangle block.old.rect column.now.x row (row + 8) }
-    requires deep { AllHave deep brush.now.brush.state column.now.plane.now block.old column.now.x row (row + 8) }
-    requires unwritten { IsUnwritten brush.now.brush.state deep }
+    requires cell { IsCell column.now block.old.rect row }
+    requires covered { AllCovered column.now block.old.rect row (row + 8) }
+    requires deep { HaveOutcome deep brush.now.brush column.now block.old row (row + 8) }
     ensures { Continues (stroke_in brush.now.brush column.now) block.old block.new column.now.x (block.old.rect.top + row) (block.old.rect.top + (row + 8)) result }
 {
     let always = brush.test.always_passes();
@@ -214,9 +201,7 @@ fn walked_rows<A: Allocator, W: Walks>(
     walk: &W,
     brush: &StencilBrush,
 ) -> u32
-    requires column { IsColumn column.now block.old.rect }
-    requires long { IsLong column.now block.old.rect }
-    requires row { row + 8 ≤ 32 }
+    requires cell { IsCell column.now block.old.rect row }
     requires edges { EdgesAt edges.now column.now block.old.rect column.now.clip.top }
     requires walk { WalksAt (W.place walk.now) column.now block.old.rect column.now.clip.top }
     ensures { Continues (stroke_in brush.now.brush column.now) block.old block.new column.now.x (block.old.rect.top + row) (block.old.rect.top + (row + 8)) result }
@@ -238,11 +223,9 @@ fn deep_rows<A: Allocator, W: Walks>(
     walk: &W,
     brush: &StencilBrush,
 ) -> u32
-    requires column { IsColumn column.now block.old.rect }
-    requires long { IsLong column.now block.old.rect }
-    requires row { row + 8 ≤ 32 }
+    requires cell { IsCell column.now block.old.rect row }
     requires walk { WalksAt (W.place walk.now) column.now block.old.rect column.now.clip.top }
-    requires covered { AreCovered true column.now.mask column.now.plane.now.triangle block.old.rect column.now.x row (row + 8) }
+    requires covered { AllCovered column.now block.old.rect row (row + 8) }
     ensures { Continues (stroke_in brush.now.brush column.now) block.old block.new column.now.x (block.old.rect.top + row) (block.old.rect.top + (row + 8)) result }
 {
     let mut depths = walk.copied();
@@ -268,22 +251,18 @@ fn masked_rows<A: Allocator>(
     known: KnownTests,
     brush: &StencilBrush,
 ) -> u32
-    requires column { IsColumn column.now block.old.rect }
-    requires long { IsLong column.now block.old.rect }
-    requires row { row + 8 ≤ 32 }
+    requires cell { IsCell column.now block.old.rect row }
     requires edges { EdgesAt edges.now column.now block.old.rect column.now.clip.top }
-    requires deep { AllHave known.deep brush.now.brush.state column.now.plane.now block.old column.now.x row (row + 8) }
-    requires unwritten { IsUnwritten brush.now.brush.state known.deep }
+    requires deep { HaveOutcome known.deep brush.now.brush column.now block.old row (row + 8) }
     requires always { IsTrue known.always → (v : ℕ) → reference_passes brush.now.test v ≡ true }
     ensures { Continues (stroke_in brush.now.brush column.now) block.old block.new column.now.x (block.old.rect.top + row) (block.old.rect.top + (row + 8)) result }
 {
-    let mask = column.mask;
     let mut here = edges.copied();
     edges_below(&mut here, row);
     let past = row + 8;
     let mut passed = 0u32;
     for at in row..past {
-        let pixels = pixels_left(block, column, mask, at, &here);
+        let pixels = pixels_left(block, column, column.mask, at, &here);
         let more = cut_row(block, column, pixels, known, brush);
         passed += more;
         here.down();
@@ -301,12 +280,9 @@ fn cut_rows<A: Allocator>(
     deep: bool,
     brush: &StencilBrush,
 ) -> u32
-    requires column { IsColumn column.now block.old.rect }
-    requires long { IsLong column.now block.old.rect }
-    requires row { row + 8 ≤ 32 }
+    requires cell { IsCell column.now block.old.rect row }
     requires edges { EdgesAt edges.now column.now block.old.rect column.now.clip.top }
-    requires deep { AllHave deep brush.now.brush.state column.now.plane.now block.old column.now.x row (row + 8) }
-    requires unwritten { IsUnwritten brush.now.brush.state deep }
+    requires deep { HaveOutcome deep brush.now.brush column.now block.old row (row + 8) }
     ensures { Continues (stroke_in brush.now.brush column.now) block.old block.new column.now.x (block.old.rect.top + row) (block.old.rect.top + (row + 8)) result }
 {
     let always = brush.test.always_passes();
@@ -337,19 +313,16 @@ fn cut_rows<A: Allocator>(
 fn cut_cell<A: Allocator, W: Walks>(
     block: &mut TileBlock<A>,
     column: &Column<'_>,
-    cell: Cell,
+    cell: &Cell,
     edges: &EdgeWalk<'_>,
     walk: &W,
     brush: &StencilBrush,
 ) -> u32
-    requires column { IsColumn column.now block.old.rect }
-    requires long { IsLong column.now block.old.rect }
-    requires row { cell.row + 8 ≤ 32 }
+    requires cell { IsCell column.now block.old.rect cell.now.row }
     requires edges { EdgesAt edges.now column.now block.old.rect column.now.clip.top }
     requires walk { WalksAt (W.place walk.now) column.now block.old.rect column.now.clip.top }
-    requires deep { IfSome cell.deep (λ deep. AllHave deep brush.now.brush.state column.now.plane.now block.old column.now.x cell.row (cell.row + 8)) }
-    requires unwritten { IfSome cell.deep (IsUnwritten brush.now.brush.state) }
-    ensures { Continues (stroke_in brush.now.brush column.now) block.old block.new column.now.x (block.old.rect.top + cell.row) (block.old.rect.top + (cell.row + 8)) result }
+    requires deep { IfSome cell.now.deep (λ deep. HaveOutcome deep brush.now.brush column.now block.old cell.now.row (cell.now.row + 8)) }
+    ensures { Continues (stroke_in brush.now.brush column.now) block.old block.new column.now.x (block.old.rect.top + cell.now.row) (block.old.rect.top + (cell.now.row + 8)) result }
 {
     let Some(deep) = cell.deep else {
         return walked_rows(block, column, cell.row, edges, walk, brush);
@@ -362,18 +335,16 @@ fn cut_cell<A: Allocator, W: Walks>(
 fn cell_rows<A: Allocator, W: Walks>(
     block: &mut TileBlock<A>,
     column: &Column<'_>,
-    cell: Cell,
+    cell: &Cell,
     edges: &EdgeWalk<'_>,
     walk: &W,
     brush: &StencilBrush,
 ) -> u32
-    requires column { IsColumn column.now block.old.rect }
-    requires long { IsLong column.now block.old.rect }
-    requires row { cell.row + 8 ≤ 32 }
+    requires cell { IsCell column.now block.old.rect cell.now.row }
     requires edges { EdgesAt edges.now column.now block.old.rect column.now.clip.top }
     requires walk { WalksAt (W.place walk.now) column.now block.old.rect column.now.clip.top }
-    requires told { Tells cell brush.now.brush.state column.now.plane.now column.now.mask block.old column.now.x cell.row }
-    ensures { Continues (stroke_in brush.now.brush column.now) block.old block.new column.now.x (block.old.rect.top + cell.row) (block.old.rect.top + (cell.row + 8)) result }
+    requires told { Tells cell.now brush.now.brush column.now block.old }
+    ensures { Continues (stroke_in brush.now.brush column.now) block.old block.new column.now.x (block.old.rect.top + cell.now.row) (block.old.rect.top + (cell.now.row + 8)) result }
 {
     let Some(covered) = cell.covered else {
         return cut_cell(block, column, cell, edges, walk, brush);
@@ -407,8 +378,15 @@ fn each_cell<A: Allocator, W: Walks>(
 {
     let mut passed = 0u32;
     for k in 0..4u32 {
-        let cell = cell_of(block, set, column, k, &brush.brush);
-        let more = cell_rows(block, column, cell, edges, walk, brush);
+        let covered = cover_outcome(set, block.rect(), column, 8 * k);
+        look_at(block, column.span, k, covered, &brush.brush);
+        let deep = depth_outcome(block, column, k, covered, &brush.brush);
+        let cell = Cell {
+            row: 8 * k,
+            covered,
+            deep,
+        };
+        let more = cell_rows(block, column, &cell, edges, walk, brush);
         passed += more;
     }
     passed
@@ -419,19 +397,18 @@ fn each_cell<A: Allocator, W: Walks>(
 fn clipped_rows<A: Allocator, W: Walks>(
     block: &mut TileBlock<A>,
     column: &Column<'_>,
-    edges: EdgeWalk<'_>,
-    walk: W,
+    edges: &EdgeWalk<'_>,
+    walk: &W,
     brush: &StencilBrush,
 ) -> u32
     requires column { IsColumn column.now block.old.rect }
-    requires edges { EdgesAt edges column.now block.old.rect column.now.clip.top }
-    requires walk { WalksAt (W.place walk) column.now block.old.rect column.now.clip.top }
+    requires edges { EdgesAt edges.now column.now block.old.rect column.now.clip.top }
+    requires walk { WalksAt (W.place walk.now) column.now block.old.rect column.now.clip.top }
     ensures { ColumnDrew (stroke_in brush.now.brush column.now) block.old block.new column.now.x result }
 {
     let rect = block.rect();
-    let row = column.clip.top - rect.top;
-    let past = column.clip.bottom - rect.top;
-    each_row(block, column, row..past, edges, walk, brush)
+    let rows = column.clip.top - rect.top..column.clip.bottom - rect.top;
+    each_row(block, column, rows, edges.copied(), walk.copied(), brush)
 }
 
 /// A column under a brush with a stencil test; the answer is how many pixels pass.
@@ -452,8 +429,7 @@ pub(crate) fn stencil_column<A: Allocator, W: Walks>(
 {
     let long = is_long(block.rect(), column);
     if !long {
-        let edges = edges.copied();
-        return clipped_rows(block, column, edges, walk.copied(), brush);
+        return clipped_rows(block, column, edges, walk, brush);
     }
     if column.mask == 0 {
         each_cell(block, column, None, edges, walk, brush)

@@ -6,12 +6,12 @@ use Rattle.depthplane.specs.Place.{depth_of}
 use Rattle.tileblock.specs.Cells.{CellLies}
 use Rattle.tileblock.specs.declared.blocks.DepthBounds.{DepthBounds}
 use Rattle.tileprog.specs.Alike.{HasOutcome}
-use Rattle.tileprog.specs.Cells.{InRows, AllHave}
-use Rattle.tileprog.proofs.CellLaws.{mapped, cell_has}
+use Rattle.tileprog.specs.Cells.{InRows, HaveOutcome, IsUnwritten}
+use Rattle.tileprog.proofs.CellLaws.{joined, cell_has}
 use Rattle.tileprog.proofs.cells.deep_from.Goals as goal
 
-pub returns-then-is_some-clause-deep : goal.returns-then-is_some-clause-deep
-returns-then-is_some-clause-deep g c =
+pub returns-then-is_some : goal.returns-then-is_some
+returns-then-is_some g c =
     let k = c.args.column.now in
     let b = c.args.block.now in
     let s = c.args.brush.now.state in
@@ -21,12 +21,12 @@ returns-then-is_some-clause-deep g c =
     let row = 8 * c.args.cell in
     let P : Option DepthBounds → Type 0 = λ o. IfSome o (λ (w : DepthBounds). CellLies b k.span c.args.cell w.least w.greatest) in
     let stored : P (Some known) = subst P c.in-Some.is c.cell_bounds.ensures in
-    mapped c.outcome_between-near.result (HasOutcome s w.least w.greatest (Some known)) (λ deep. AllHave deep s d b k.x row (row + 8))
-    (λ deep has. cell_has deep s d b k.span c.args.cell k.x w.least w.greatest known c.requires.column.x stored (λ u v here covered. c.requires.column.corners u v covered) has)
-    c.outcome_between-near.ensures.deep
+    joined c.outcome_between-near.result (HasOutcome s w.least w.greatest (Some known)) (IsUnwritten s) (λ deep. HaveOutcome deep c.args.brush.now k b row (row + 8))
+    (λ deep has unwritten. record { all = cell_has deep s d b k.span c.args.cell k.x w.least w.greatest known c.requires.column.x stored (λ u v here covered. c.requires.column.corners u v covered) has; unwritten = unwritten })
+    c.outcome_between-near.ensures.deep c.outcome_between-near.ensures.unwritten
 
-pub returns-clause-deep : goal.returns-clause-deep
-returns-clause-deep g c =
+pub returns : goal.returns
+returns g c =
     let k = c.args.column.now in
     let b = c.args.block.now in
     let s = c.args.brush.now.state in
@@ -38,6 +38,6 @@ returns-clause-deep g c =
     let lie : L b.rect = subst L c.rect.ensures c.in-Some-cell_range.ensures in
     let P : Option DepthBounds → Type 0 = λ o. IfSome o (λ (w : DepthBounds). CellLies b k.span c.args.cell w.least w.greatest) in
     let stored : P (Some known) = subst P c.in-Some.is c.cell_bounds.ensures in
-    mapped c.outcome_between.result (HasOutcome s range.least range.greatest (Some known)) (λ deep. AllHave deep s d b k.x row (row + 8))
-    (λ deep has. cell_has deep s d b k.span c.args.cell k.x range.least range.greatest known c.requires.column.x stored lie has)
-    c.outcome_between.ensures.deep
+    joined c.outcome_between.result (HasOutcome s range.least range.greatest (Some known)) (IsUnwritten s) (λ deep. HaveOutcome deep c.args.brush.now k b row (row + 8))
+    (λ deep has unwritten. record { all = cell_has deep s d b k.span c.args.cell k.x range.least range.greatest known c.requires.column.x stored lie has; unwritten = unwritten })
+    c.outcome_between.ensures.deep c.outcome_between.ensures.unwritten

@@ -11,5 +11,5 @@ pub returns : goal.returns
 returns g c =
     let p = c.args.pixels in
     let left = c.requires.left in
-    alike_left c.args.brush.now.brush c.args.column.now c.args.block.now c.requires.column p.span p.row p.bits left.span left.row left.lanes c.args.known.deep c.requires.deep
+    alike_left c.args.brush.now.brush c.args.column.now c.args.block.now c.requires.column p.span p.row p.bits left.span left.row left.lanes c.args.known.deep c.requires.deep.all
     c.draw_alike-passed.new.block c.draw_alike-passed.result c.lanes_in.result c.draw_alike-passed.ensures.block c.draw_alike-passed.ensures.bits c.lanes_in.ensures.value c.lanes_in.ensures.few

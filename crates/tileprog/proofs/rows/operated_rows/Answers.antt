@@ -27,20 +27,20 @@ returns g c =
     let past : row + 1 + 1 ≡ row + 2 = omega arith in
     let first_covered : AreCovered true k.mask plane.triangle old.rect k.x row (row + 1) = row_covered k.mask plane.triangle old.rect k.x row row (row + 2) (omega arith) one c.requires.covered in
     let next_covered : AreCovered true k.mask plane.triangle old.rect k.x (row + 1) (row + 1 + 1) = row_covered k.mask plane.triangle old.rect k.x row (row + 1) (row + 2) (omega arith) (omega arith) c.requires.covered in
-    let drawn = row_operated b k c.args.brush.now.test deep c.requires.within c.args.brush.now.kind c.args.brush.now.rule c.requires.unwritten c.requires.always c.requires.colors
+    let drawn = row_operated b k c.args.brush.now.test deep c.requires.within c.args.brush.now.kind c.args.brush.now.rule c.requires.deep.unwritten c.requires.always c.requires.colors
     bits n c.all_lanes.ensures c.lanes_in.ensures.value c.lanes_in.ensures.few in
     let upper_fits : (j : ℕ) → slice_index c.color_span-upper.result j < 2 ^ 32 = search rules in
     let lower_fits : (j : ℕ) → slice_index c.color_span-lower.result j < 2 ^ 32 = search rules in
     let first : RowDrew s old mid k.x y n = drawn old mid row c.color_span-upper.result
     (record { column = c.requires.column; inside = c.requires.row; covered = first_covered })
-    (first_have deep b.state plane old k.x row (row + 2) one c.requires.deep)
+    (first_have deep b.state plane old k.x row (row + 2) one c.requires.deep.all)
     (record { fit = upper_fits; are = c.color_span-upper.ensures })
     rows.first in
     let rect_is : mid.rect ≡ old.rect = rows.first.rect in
     let next : IsCoveredRow k mid.rect (row + 1) = subst (λ (r : PixelRect). IsCoveredRow k r (row + 1)) (sym rect_is)
     (record { column = c.requires.column; inside = c.requires.next; covered = next_covered }) in
     let have : AllHave deep b.state plane mid k.x (row + 1) (row + 1 + 1) = subst (λ z. AllHave deep b.state plane mid k.x (row + 1) z) (sym past)
-    (rest_have deep b.state plane s old mid k.x row (row + 2) y n c.requires.deep first refl) in
+    (rest_have deep b.state plane s old mid k.x row (row + 2) y n c.requires.deep.all first refl) in
     let second : RowDrew s mid new k.x (mid.rect.top + (row + 1)) n = drawn mid new (row + 1) c.color_span-lower.result next have
     (record { fit = lower_fits; are = λ j h. c.color_span-lower.ensures j h ∙ ap (λ (p : Pixel). p.rgba) (sym (rows.waits j h)) })
     rows.second in

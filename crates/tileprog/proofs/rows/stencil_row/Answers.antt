@@ -1,6 +1,6 @@
 use Rattle.std.proofs.Common.{subst, ◌+◌, Bool, Option, Some}
 use Rattle.std.specs.Prelude.{IfSome}
-use Rattle.tileprog.specs.Cells.{AllHave, IsUnwritten}
+use Rattle.tileprog.specs.Cells.{HaveOutcome}
 use Rattle.tileprog.proofs.Leaving.{none_left, walked_left, alike_left}
 use Rattle.tileprog.proofs.rows.stencil_row.Goals as goal
 
@@ -20,9 +20,10 @@ returns g c =
 
 pub draw_alike-alike-requires-clause-unwritten : goal.draw_alike-alike-requires-clause-unwritten
 draw_alike-alike-requires-clause-unwritten g c =
-    let P : Option Bool → Type 0 = λ o. IfSome o (IsUnwritten c.args.brush.now.brush.state) in
-    let has : P (Some c.in-Some.deep) = subst P c.in-Some.is c.requires.unwritten in
-    has
+    let p = c.args.pixels in
+    let P : Option Bool → Type 0 = λ o. IfSome o (λ deep. HaveOutcome deep c.args.brush.now.brush c.args.column.now c.args.block.now p.row (p.row + 1)) in
+    let known : P (Some c.in-Some.deep) = subst P c.in-Some.is c.requires.known in
+    known.unwritten
 
 pub returns-in-Some : goal.returns-in-Some
 returns-in-Some g c =
@@ -31,7 +32,7 @@ returns-in-Some g c =
     let old = c.args.block.now in
     let p = c.args.pixels in
     let left = c.requires.left in
-    let P : Option Bool → Type 0 = λ o. IfSome o (λ deep. AllHave deep b.state k.plane.now old k.x p.row (p.row + 1)) in
-    let all : P (Some c.in-Some.deep) = subst P c.in-Some.is c.requires.known in
-    alike_left b k old c.requires.column p.span p.row p.bits left.span left.row left.lanes c.in-Some.deep all
+    let P : Option Bool → Type 0 = λ o. IfSome o (λ deep. HaveOutcome deep b k old p.row (p.row + 1)) in
+    let known : P (Some c.in-Some.deep) = subst P c.in-Some.is c.requires.known in
+    alike_left b k old c.requires.column p.span p.row p.bits left.span left.row left.lanes c.in-Some.deep known.all
     c.draw_alike-alike.new.block c.draw_alike-alike.result c.lanes_in.result c.draw_alike-alike.ensures.block c.draw_alike-alike.ensures.bits c.lanes_in.ensures.value c.lanes_in.ensures.few

@@ -1,7 +1,7 @@
 use Rattle.std.proofs.Common.{◌≡◌, ◌∙◌, ap, refl, rules, arith, ◌+◌, ◌≤◌}
 use Rattle.gfxspec.specs.declared.geometry.PixelRect.{PixelRect}
 use Rattle.tileprog.specs.Columns.{stroke_in}
-use Rattle.tileprog.proofs.CellLaws.{rest_have}
+use Rattle.tileprog.proofs.CellLaws.{rest_outcome}
 use Rattle.tileprog.proofs.Columning.{row_behind, rows_are}
 use Rattle.tileprog.proofs.stencils.alike_rows.Goals as goal
 
@@ -17,12 +17,12 @@ loop-at-preserved g c =
     let more = c.alike_row-more.result in
     let inv = c.loop-at.invariant in
     let drawn = c.alike_row-more.ensures in
-    let top = c.requires.long.top in
+    let top = c.requires.cell.long.top in
     let below : k.clip.top ≤ old.rect.top + at = omega (arith, top) in
     record {
       rect = drawn.drew.rect ∙ inv.rect;
-      deep = rest_have c.args.known.deep s.brush.state plane s mid new k.x at (c.args.row + 8) (mid.rect.top + at) more inv.deep drawn refl;
-      continues = row_behind s plane old mid new k.x (old.rect.top + c.args.row) (old.rect.top + at) (old.rect.top + (at + 1)) (mid.rect.top + at) c.loop-at.passed more c.requires.column.within below inv.continues drawn
+      deep = rest_outcome c.args.known.deep s.brush k s mid new at (c.args.row + 8) (mid.rect.top + at) more inv.deep drawn refl;
+      continues = row_behind s plane old mid new k.x (old.rect.top + c.args.row) (old.rect.top + at) (old.rect.top + (at + 1)) (mid.rect.top + at) c.loop-at.passed more c.requires.cell.column.within below inv.continues drawn
           refl (ap (λ (r : PixelRect). r.top + at) inv.rect) (omega arith);
     }
 

@@ -12,16 +12,16 @@ returns-then-not-covered g c =
     let plane = k.plane.now in
     let s = stroke_in c.args.brush.now.brush k in
     let old = c.args.block.now in
-    let row = c.args.cell.row in
+    let row = c.args.cell.now.row in
     let y = old.rect.top + row in
     let P : Option Bool → Type 0 = λ o. IfSome o (λ all. AreCovered all k.mask plane.triangle old.rect k.x row (row + 8)) in
     let told : P (Some c.in-Some.covered) = subst P c.in-Some.is c.requires.told.covered in
     let none : AreCovered false k.mask plane.triangle old.rect k.x row (row + 8) = subst (λ all. AreCovered all k.mask plane.triangle old.rect k.x row (row + 8)) c.if-not-covered.true told in
-    let top = c.requires.long.top in
-    let bottom = c.requires.long.bottom in
-    let few = c.requires.row in
+    let top = c.requires.cell.long.top in
+    let bottom = c.requires.cell.long.bottom in
+    let few = c.requires.cell.last in
     rows_are s plane old old k.x y (y + 8) y (old.rect.top + (row + 8)) 0
-    (rows_missed s old k.x y 8 c.requires.column.within (omega (arith, top)) (λ v l m.
-    row_uncovered s old k.span (v - old.rect.top) k.x v (sym c.requires.column.x) (omega (arith, l)) c.requires.column.named c.requires.column.within (omega (arith, top, l)) (omega (arith, bottom, m, few))
+    (rows_missed s old k.x y 8 c.requires.cell.column.within (omega (arith, top)) (λ v l m.
+    row_uncovered s old k.span (v - old.rect.top) k.x v (sym c.requires.cell.column.x) (omega (arith, l)) c.requires.cell.column.named c.requires.cell.column.within (omega (arith, top, l)) (omega (arith, bottom, m, few))
     (λ j h. none (k.x + j) v (record { left = omega arith; right = omega (arith, h); top = l; bottom = omega (arith, m) }))))
     refl refl (omega arith)

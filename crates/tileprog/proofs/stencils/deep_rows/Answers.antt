@@ -16,12 +16,12 @@ loop-at-preserved g c =
     let more = c.deep_row-more.result in
     let inv = c.loop-at.invariant in
     let drawn = c.deep_row-more.ensures in
-    let top = c.requires.long.top in
+    let top = c.requires.cell.long.top in
     let below : k.clip.top ≤ old.rect.top + at = omega (arith, top) in
     record {
       depths = search rules;
       rect = drawn.drew.rect ∙ inv.rect;
-      continues = row_behind s plane old mid new k.x (old.rect.top + c.args.row) (old.rect.top + at) (old.rect.top + (at + 1)) (mid.rect.top + at) c.loop-at.passed more c.requires.column.within below inv.continues drawn
+      continues = row_behind s plane old mid new k.x (old.rect.top + c.args.row) (old.rect.top + at) (old.rect.top + (at + 1)) (mid.rect.top + at) c.loop-at.passed more c.requires.cell.column.within below inv.continues drawn
           refl (ap (λ (r : PixelRect). r.top + at) inv.rect) (omega arith);
     }
 

@@ -26,17 +26,16 @@ loop-k-preserved g c =
     let old = c.args.block.now in
     let mid = c.loop-k.block in
     let new = c.cell_rows-more.new.block in
-    let row = c.cell_of-cell.result.row in
-    let row_is = c.cell_of-cell.ensures.row in
+    let row = 8 * c.loop-k.k in
     let more = c.cell_rows-more.result in
     let inv = c.loop-k.invariant in
     let top_is = ap (λ (r : PixelRect). r.top) inv.rect in
     let D : Block → Type 0 = λ b. Continues s b new k.x (b.rect.top + row) (b.rect.top + (row + 8)) more in
-    let drawn : D mid = subst D c.cell_of-cell.ensures.block c.cell_rows-more.ensures in
+    let drawn : D mid = subst D c.look_at.ensures c.cell_rows-more.ensures in
     record {
       rect = drawn.rect ∙ inv.rect;
-      continues = rows_behind s old mid new k.x old.rect.top (old.rect.top + 8 * c.loop-k.k) (mid.rect.top + row) (mid.rect.top + (row + 8)) (old.rect.top + 8 * (c.loop-k.k + 1)) c.loop-k.passed more inv.continues drawn
-          (omega (arith, top_is, row_is)) (omega (arith, top_is, row_is));
+      continues = rows_behind s old mid new k.x old.rect.top (old.rect.top + row) (mid.rect.top + row) (mid.rect.top + (row + 8)) (old.rect.top + 8 * (c.loop-k.k + 1)) c.loop-k.passed more inv.continues drawn
+          (ap (λ v. v + row) top_is) (omega (arith, top_is));
     }
 
 pub returns : goal.returns

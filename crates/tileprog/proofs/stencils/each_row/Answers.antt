@@ -1,6 +1,6 @@
 use Rattle.std.proofs.Common.{◌≡◌, ◌∙◌, ap, refl, rules, arith, ◌+◌, ◌≤◌}
 use Rattle.tileprog.specs.Columns.{stroke_in}
-use Rattle.tileprog.proofs.CellLaws.{rest_told, untested_told, untested_unwritten}
+use Rattle.tileprog.proofs.CellLaws.{rest_told, untested_told}
 use Rattle.tileprog.proofs.Columning.{none_yet, row_behind, rows_are}
 use Rattle.tileprog.proofs.stencils.each_row.Goals as goal
 
@@ -24,7 +24,7 @@ loop-at-preserved g c =
       edges = search rules;
       walk = search rules;
       rect = drawn.drew.rect ∙ inv.rect;
-      known = rest_told c.untested-known.result s.brush.state plane s mid new k.x at c.args.rows.end (mid.rect.top + pixels.result.row) more inv.known drawn (ap (λ v. mid.rect.top + v) pixels.ensures.row);
+      known = rest_told c.untested-known.result s.brush k s mid new at c.args.rows.end (mid.rect.top + pixels.result.row) more inv.known drawn (ap (λ v. mid.rect.top + v) pixels.ensures.row);
       continues = row_behind s plane old mid new k.x (old.rect.top + c.args.rows.start) (old.rect.top + at) (old.rect.top + (at + 1)) (mid.rect.top + pixels.result.row) c.loop-at.passed more c.requires.column.within below inv.continues drawn
           refl (λ i. (inv.rect i).top + pixels.ensures.row i) (omega arith);
     }
@@ -46,9 +46,6 @@ loop-at-init g c =
       edges = search rules;
       walk = search rules;
       rect = refl;
-      known = untested_told c.untested-known.result c.args.brush.now.brush.state k.plane.now old k.x c.args.rows.start c.args.rows.end c.untested-known.ensures;
+      known = untested_told c.untested-known.result c.args.brush.now.brush k old c.args.rows.start c.args.rows.end c.untested-known.ensures;
       continues = none_yet (stroke_in c.args.brush.now.brush k) old k.x (old.rect.top + c.args.rows.start);
     }
-
-pub stencil_row-more-requires-clause-unwritten : goal.stencil_row-more-requires-clause-unwritten
-stencil_row-more-requires-clause-unwritten g c = untested_unwritten c.untested-known.result c.args.brush.now.brush.state c.untested-known.ensures

@@ -1,6 +1,6 @@
 use Rattle.std.proofs.Common.{◌≡◌, ◌∙◌, ap, refl, rules, arith, ◌+◌, ◌≤◌}
 use Rattle.tileprog.specs.Columns.{stroke_in}
-use Rattle.tileprog.proofs.CellLaws.{rest_have}
+use Rattle.tileprog.proofs.CellLaws.{rest_outcome}
 use Rattle.tileprog.proofs.Columning.{row_behind, rows_are}
 use Rattle.tileprog.proofs.stencils.masked_rows.Goals as goal
 
@@ -16,13 +16,13 @@ loop-at-preserved g c =
     let more = c.cut_row-more.result in
     let inv = c.loop-at.invariant in
     let drawn = c.cut_row-more.ensures in
-    let top = c.requires.long.top in
+    let top = c.requires.cell.long.top in
     let below : k.clip.top ≤ old.rect.top + at = omega (arith, top) in
     record {
       here = search rules;
       rect = drawn.drew.rect ∙ inv.rect;
-      deep = rest_have c.args.known.deep s.brush.state plane s mid new k.x at (c.args.row + 8) (mid.rect.top + c.pixels_left-pixels.result.row) more inv.deep drawn (ap (λ v. mid.rect.top + v) c.pixels_left-pixels.ensures.row);
-      continues = row_behind s plane old mid new k.x (old.rect.top + c.args.row) (old.rect.top + at) (old.rect.top + (at + 1)) (mid.rect.top + c.pixels_left-pixels.result.row) c.loop-at.passed more c.requires.column.within below inv.continues drawn
+      deep = rest_outcome c.args.known.deep s.brush k s mid new at (c.args.row + 8) (mid.rect.top + c.pixels_left-pixels.result.row) more inv.deep drawn (ap (λ v. mid.rect.top + v) c.pixels_left-pixels.ensures.row);
+      continues = row_behind s plane old mid new k.x (old.rect.top + c.args.row) (old.rect.top + at) (old.rect.top + (at + 1)) (mid.rect.top + c.pixels_left-pixels.result.row) c.loop-at.passed more c.requires.cell.column.within below inv.continues drawn
           refl (λ i. (inv.rect i).top + c.pixels_left-pixels.ensures.row i) (omega arith);
     }
 

@@ -1,5 +1,5 @@
 use Rattle.std.proofs.Common.{◌≡◌, ◌+◌}
-use Rattle.tileprog.specs.Cells.{AllHave}
+use Rattle.tileprog.specs.Cells.{HaveOutcome}
 use Rattle.tileprog.specs.Columns.{Continues, stroke_in}
 use Rattle.tileprog.proofs.stencils.masked_rows.Given as goal
 
@@ -10,6 +10,6 @@ invariant-loop-at g l =
     record {
       here : l.here ≡ record l.edges { triangle = k.plane.now.triangle; x = k.x; y = old.rect.top + l.at };
       rect : l.block.rect ≡ old.rect;
-      deep : AllHave l.known.deep l.brush.brush.state k.plane.now l.block k.x l.at (l.row + 8);
+      deep : HaveOutcome l.known.deep l.brush.brush k l.block l.at (l.row + 8);
       continues : Continues (stroke_in l.brush.brush k) old l.block k.x (old.rect.top + l.row) (old.rect.top + l.at) l.passed;
     }

@@ -1,9 +1,9 @@
 use Rattle.std.proofs.Common.{◌≡◌, ◌∙◌, ap, subst, refl, rules, arith, ◌+◌, ◌*◌, ◌≤◌}
 use Rattle.gfxspec.specs.declared.geometry.PixelRect.{PixelRect}
-use Rattle.tileprog.specs.Cells.{AllHave}
+use Rattle.tileprog.specs.Cells.{HaveOutcome}
 use Rattle.tileprog.specs.Columns.{Continues}
 use Rattle.tileprog.specs.Columns.{stroke_in}
-use Rattle.tileprog.proofs.CellLaws.{part_have, part_covered, rest_have}
+use Rattle.tileprog.proofs.CellLaws.{part_have, part_covered, rest_outcome}
 use Rattle.tileprog.proofs.Columning.{none_yet, rows_are, rows_drawn_behind}
 use Rattle.tileprog.proofs.stencils.paired_rows.Goals as goal
 
@@ -17,7 +17,7 @@ loop-pair-init g c =
     let here : row ≡ row + 2 * 0 = omega arith in
     record {
       rect = refl;
-      deep = subst (λ at. AllHave c.args.deep s.brush.state plane old k.x at (row + 8)) here c.requires.deep;
+      deep = subst (λ at. HaveOutcome c.args.deep s.brush k old at (row + 8)) here c.requires.deep;
       continues = subst (λ at. Continues s old old k.x (old.rect.top + row) (old.rect.top + at) 0) here (none_yet s old k.x (old.rect.top + row));
     }
 
@@ -35,17 +35,17 @@ loop-pair-preserved g c =
     let more = c.operated_rows-more.result in
     let inv = c.loop-pair.invariant in
     let drawn = c.operated_rows-more.ensures in
-    let top = c.requires.long.top in
+    let top = c.requires.cell.long.top in
     let below : k.clip.top ≤ old.rect.top + at = omega (arith, top) in
     let top_is = ap (λ (r : PixelRect). r.top) inv.rect in
     let half_top = ap (λ (r : PixelRect). r.top) drawn.first.drew.rect in
-    let half = rest_have c.args.deep s.brush.state plane s mid drawn.mid k.x at (row + 8) (mid.rect.top + at) more inv.deep drawn.first refl in
-    let whole = rest_have c.args.deep s.brush.state plane s drawn.mid new k.x (at + 1) (row + 8) (mid.rect.top + at + 1) more half drawn.second (omega (arith, half_top)) in
+    let half = rest_outcome c.args.deep s.brush k s mid drawn.mid at (row + 8) (mid.rect.top + at) more inv.deep drawn.first refl in
+    let whole = rest_outcome c.args.deep s.brush k s drawn.mid new (at + 1) (row + 8) (mid.rect.top + at + 1) more half drawn.second (omega (arith, half_top)) in
     let next_is : at + 1 + 1 ≡ next = omega arith in
     record {
       rect = drawn.second.drew.rect ∙ drawn.first.drew.rect ∙ inv.rect;
-      deep = subst (λ z. AllHave c.args.deep s.brush.state plane new k.x z (row + 8)) next_is whole;
-      continues = rows_drawn_behind s old mid new k.x (old.rect.top + row) (old.rect.top + at) (old.rect.top + next) (mid.rect.top + at) c.loop-pair.passed more c.requires.column.within below inv.continues drawn
+      deep = subst (λ z. HaveOutcome c.args.deep s.brush k new z (row + 8)) next_is whole;
+      continues = rows_drawn_behind s old mid new k.x (old.rect.top + row) (old.rect.top + at) (old.rect.top + next) (mid.rect.top + at) c.loop-pair.passed more c.requires.cell.column.within below inv.continues drawn
           (ap (λ v. v + at) top_is) (omega arith);
     }
 
@@ -63,7 +63,11 @@ returns g c =
 pub operated_rows-more-requires-clause-deep : goal.operated_rows-more-requires-clause-deep
 operated_rows-more-requires-clause-deep g c =
     let at = c.args.row + 2 * c.loop-pair.pair in
-    part_have c.args.deep c.args.brush.now.brush.state c.args.column.now.plane.now c.loop-pair.block c.args.column.now.x at at (at + 2) (c.args.row + 8) (omega arith) (omega arith) c.loop-pair.invariant.deep
+    let deep = c.loop-pair.invariant.deep in
+    record {
+      all = part_have c.args.deep c.args.brush.now.brush.state c.args.column.now.plane.now c.loop-pair.block c.args.column.now.x at at (at + 2) (c.args.row + 8) (omega arith) (omega arith) deep.all;
+      unwritten = deep.unwritten;
+    }
 
 pub operated_rows-more-requires-clause-covered : goal.operated_rows-more-requires-clause-covered
 operated_rows-more-requires-clause-covered g c =

@@ -1,5 +1,5 @@
 use Rattle.std.proofs.Common.{◌≡◌, ◌+◌, ◌*◌}
-use Rattle.tileprog.specs.Cells.{AllHave}
+use Rattle.tileprog.specs.Cells.{HaveOutcome}
 use Rattle.tileprog.specs.Columns.{Continues, stroke_in}
 use Rattle.tileprog.proofs.stencils.paired_rows.Given as goal
 
@@ -10,6 +10,6 @@ invariant-loop-pair g l =
     let at = l.row + 2 * l.pair in
     record {
       rect : l.block.rect ≡ old.rect;
-      deep : AllHave l.deep l.brush.brush.state c.plane.now l.block c.x at (l.row + 8);
+      deep : HaveOutcome l.deep l.brush.brush c l.block at (l.row + 8);
       continues : Continues (stroke_in l.brush.brush c) old l.block c.x (old.rect.top + l.row) (old.rect.top + at) l.passed;
     }
