@@ -26,7 +26,7 @@ use Rattle.binner.specs.Program.{reaches_by, outcome, drawn, triangle_by}
 use Rattle.tileprog.specs.Alike.{opposite, HasOutcome, face_of, IsAlike, operated, painted}
 use Rattle.tileprog.specs.Counting.{one_if}
 use Rattle.tileprog.specs.Hidden.{none_passes, DepthsLie}
-use Rattle.tileprog.specs.declared.kind.Tests.TheVariants.{Open, Depth, Stencil}
+use Rattle.tileprog.specs.declared.kind.Tests.TheVariants.{Open}
 use Rattle.tileprog.specs.Kinds.{tests_of}
 use Rattle.tileprog.specs.Painting.{flipped, stands_for}
 use Rattle.tileprog.specs.Passing.{triangle_count}
@@ -127,9 +127,6 @@ module _ (t : TriSetup) (e : StateEntry) (deep : Bool) (a : IsAlike t e deep) (b
       ∙ ap (λ o. drawn t e o (stands_for flip b u v)) (sym outcome_is)
 
 -- ---- where nothing is tested
-
-pub open_of : (s : DepthStencilSetting) → s.stencil ≡ false → s.depth ≡ false → tests_of s ≡ Open
-open_of s stencil depth = (λ i. if stencil i then Stencil else (if depth i then Depth s.func s.write else Open))
 
 module _ (t : TriSetup) (e : StateEntry) (kind : tests_of e.depth_stencil ≡ Open) (b : Block) (u v : ℕ) where
   open_outcome : outcome t e u v (pixel_at b u v) ≡ record { after = (pixel_at b u v).ds; passed = true }

@@ -156,10 +156,6 @@ depth_lane b func write kind z false old = refl
 pub depth_passes : (b : Brush) (func : Compare) (write : Bool) → tests_of b.state ≡ Depth func write → (z : ℕ) (old : DepthStencil) → (tested_by b z old).passed ≡ compares func z old.depth
 depth_passes b func write kind z old = ap (λ (o : TestOutcome). o.passed) (tested_depth b.state (face_of b) b.reference z old func write (depth_only b.state func write kind))
 
-pub open_lane : (b : Brush) → tests_of b.state ≡ Open → (z : ℕ) (t : Bool) (old : DepthStencil) → old ≡ (if t then (tested_by b z old).after else old)
-open_lane b kind z true old = sym (ap (λ (o : TestOutcome). o.after) (tested_open b.state (face_of b) b.reference z old (all_open b.state kind)))
-open_lane b kind z false old = refl
-
 pub open_passes : (b : Brush) → tests_of b.state ≡ Open → (z : ℕ) (t : Bool) (old : DepthStencil) → t ≡ (t && (tested_by b z old).passed)
 open_passes b kind z true old = sym (ap (λ (o : TestOutcome). o.passed) (tested_open b.state (face_of b) b.reference z old (all_open b.state kind)))
 open_passes b kind z false old = refl

@@ -77,10 +77,3 @@ pub row_counted : (x top n y passed more : ℕ) (f : ℕ → ℕ → ℕ) → to
 row_counted x top n y passed more f at was is m e =
     sum_of_two _ _ _ _ was (is ∙ ap (λ v. eight (λ j. f (x + j) v)) (sym at))
     ∙ sym (sum_more n (λ i. eight (λ j. f (x + j) (top + i)))) ∙ ap (λ k. column_sum x top k f) (sym e)
-
-pub row_uncounted : (x top n y passed : ℕ) (f : ℕ → ℕ → ℕ) → top + n ≡ y → passed ≡ column_sum x top n f → ((j : ℕ) → j < 8 → f (x + j) y ≡ 0) → (m : ℕ) → m ≡ n + 1 → passed ≡ column_sum x top m f
-row_uncounted x top n y passed f at was none m e =
-    no_more passed ∙ row_counted x top n y passed 0 f at was (sym (eight_none (λ j. f (x + j) y) none)) m e
-  where
-    no_more : (p : ℕ) → p ≡ p + 0
-    no_more p = omega arith

@@ -52,9 +52,6 @@ have_tile size t r cs same less rect =
     All-weaker (λ (c : Compilation). c.size ≡ size) (HasTile t r)
     (λ (c : Compilation) (e : c.size ≡ size). (subst (λ (s : Size). t < tile_count s) (sym e) less, rect ∙ ap (λ (s : Size). tile_rect s t) (sym e))) cs same
 
-pub same_sizes : (size : Size) (cs : List Compilation) → All (CanRunBehind size) cs → All (λ c. c.size ≡ size) cs
-same_sizes size cs can = All-weaker (CanRunBehind size) (λ (c : Compilation). c.size ≡ size) (λ (c : Compilation) h. h.0) cs can
-
 -- where the list at a place runs, those from that place on are left
 pub next_runs : (cs : List Compilation) (i : ℕ) (c : Compilation) (t x y : ℕ) (old : Pixel) → i < length cs → c ≡ get_or cs i c → pixel_by_all (drop (i + 1) cs) t x y (pixel_by c t x y old) ≡ pixel_by_all (drop i cs) t x y old
 next_runs cs i c t x y old less is =

@@ -7,7 +7,7 @@ use Rattle.gfxspec.specs.declared.geometry.PixelRect.{PixelRect}
 use Rattle.gfxspec.specs.Items.{is_in_rect}
 use Rattle.gfxspec.specs.Tiles.{IsIn}
 use Rattle.tileblock.specs.Block.{Block, pixel_at}
-use Rattle.tileblock.specs.SpanStored.{SpanStored, lane_pixel}
+use Rattle.tileblock.specs.SpanStored.{SpanStored}
 use Rattle.depthplane.specs.Height.{DeepTriangle}
 use Rattle.tileprog.specs.Strokes.{Stroke, Drew, Stroked, stroked}
 use Rattle.tileprog.specs.Within.{in_box}
@@ -239,9 +239,6 @@ rows_from s old x top y e = none_drawn s old _ (λ u v is. ap (λ b. in_box x (x
 pub rows_to : (s : Stroke) (old new : Block) (x top y bottom : ℕ) → y ≡ bottom → Drew s old new (in_box x (x + 8) top y) → Drew s old new (in_box x (x + 8) top bottom)
 rows_to s old new x top y bottom e h = same_done s old new _ _ (λ u v is. ap (λ b. in_box x (x + 8) top b u v) e) h
 
-pub rows_next : (s : Stroke) (old new : Block) (x top y z : ℕ) → y ≡ z → Drew s old new (in_box x (x + 8) top y) → Drew s old new (in_box x (x + 8) top z)
-rows_next s old new x top y z e h = rows_to s old new x top y z e h
-
 -- columns before the first
 pub columns_from : (s : Stroke) (old : Block) (left top bottom : ℕ) → Drew s old old (in_box left left top bottom)
 columns_from s old left top bottom = none_drawn s old _ (λ u v is. no_columns left top bottom u v)
@@ -254,11 +251,3 @@ pub column_of : (s : Stroke) (mid new : Block) (a x : ℕ) (plane : DeepTriangle
 column_of s mid new a x plane e p h =
     let P : DeepTriangle → ℕ → Type 0 = λ d n. Drew (record s { plane = d }) mid new (in_box n (n + 8) s.clip.top s.clip.bottom) in
     subst (λ n. P s.plane n) e (subst (λ d. P d a) p h)
-
--- a lane whose span has not been drawn holds what it held
-pub lane_waits : (s : Stroke) (old mid : Block) (span row x y top : ℕ) → old.rect.left + 8 * span ≡ x → old.rect.top + row ≡ y → Drew s old mid (in_box x (x + 8) top y) → (j : ℕ) → j < 8 → IsIn old.rect (x + j) y → lane_pixel mid span row j ≡ pixel_at old (x + j) y
-lane_waits s old mid span row x y top x_is y_is was j h is =
-    let at_x = ap (λ (r : PixelRect). r.left + 8 * span) was.rect ∙ x_is in
-    let at_y = ap (λ (r : PixelRect). r.top + row) was.rect ∙ y_is in
-    let at : InSpan x y (x + j) y = record { low = omega arith; high = omega arith; row = refl } in
-    (λ i. pixel_at mid (at_x i + j) (at_y i)) ∙ was.pixels (x + j) y is ∙ ap (λ b. step s b (x + j) y (pixel_at old (x + j) y)) (waits x top y (x + j) y at)

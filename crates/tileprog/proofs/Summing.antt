@@ -11,7 +11,6 @@ use Rattle.meaning.specs.Over.{sum_over}
 use Rattle.tileprog.specs.Sums.{box_sum}
 use Rattle.tileprog.specs.Strokes.{Stroke, Drew, IsWithin, stroked, stroke_passes}
 use Rattle.tileprog.specs.Within.{in_box}
-use Rattle.depthplane.specs.Height.{DeepTriangle}
 use Rattle.tileprog.proofs.Ones.{same_sums, sum_more, eight_same}
 
 plus_same : (a b c d : ℕ) → a ≡ c → b ≡ d → a + b ≡ c + d
@@ -159,11 +158,6 @@ row_waits s old mid x top y w was = eight_same _ _ (λ j h. by j (is_in_rect s.c
 pub column_waits : (s : Stroke) (old mid : Block) (left x top bottom n : ℕ) → IsWithin s.clip old.rect → Drew s old mid (in_box left x top bottom) → column_sum x top n (stroke_count s mid) ≡ column_sum x top n (stroke_count s old)
 column_waits s old mid left x top bottom n w was =
     same_sums n _ _ (λ i l. eight_same _ _ (λ j h. count_waits s old mid left x top bottom w was (x + j) (top + i) (omega arith)))
-
--- a column's count, in the words of the whole
-pub column_count : (s : Stroke) (old mid : Block) (plane : DeepTriangle) (left a x top bottom n result : ℕ) → plane ≡ s.plane → a ≡ x → IsWithin s.clip old.rect → Drew s old mid (in_box left x top bottom) → result ≡ column_sum a top n (stroke_count (record s { plane = plane }) mid) → result ≡ column_sum x top n (stroke_count s old)
-column_count s old mid plane left a x top bottom n result p e w was is =
-    is ∙ (λ i. column_sum (e i) top n (stroke_count (record s { plane = p i }) mid)) ∙ column_waits s old mid left x top bottom n w was
 
 -- one column more
 pub column_counted : (n m start x passed more : ℕ) (g : ℕ → ℕ) → passed ≡ sum_below n (λ k. g (start + 8 * k)) → more ≡ g x → start + 8 * n ≡ x → m ≡ n + 1 → passed + more ≡ sum_below m (λ k. g (start + 8 * k))

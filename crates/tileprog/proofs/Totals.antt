@@ -137,9 +137,6 @@ pub room_next : (t : Tables) (e : Option StateEntry) (w : Word) (r : PixelRect) 
 room_next t e w r now old new n m is counted room le =
     record { each = λ k h. let grew = counted.each k h in let had = room.each k h in let few = total_few t e k w r now is in omega arith }
 
-pub room_more : (counts : List ℕ) (n m : ℕ) → n ≤ m → AtMost counts n → AtMost counts m
-room_more counts n m le room = record { each = λ k h. let had = room.each k h in omega arith }
-
 -- the numbers that are left of a tile's program, with what its pixels and the counts are so far
 pub record ProgramLeft (t : Tables) (numbers rest : List ℕ) (e : Option StateEntry) (r : PixelRect) (opening now : ℕ → ℕ → Pixel) (counts : List ℕ) : Type 0 where
   pub decode : Decode rest

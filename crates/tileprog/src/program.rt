@@ -8,17 +8,18 @@ use crate::gathering::gather_touched;
 use crate::tile::count_of;
 use crate::words::{prefetch, run_words};
 use binner::Compiled;
+use gfxspec::TILE_SIDE;
 use std::alloc::{AllocError, Allocator};
 use tileblock::{OpenTile, TileBlock};
 use tilecore::TileJob;
 use tilerun::BlockJob;
 
-/// Beside the first worker.
+/// So many workers beside the first there are at most.
 const MOST_HELPERS: usize = 15;
 
 /// How many pixels are worth waking one more worker for. They take some ten microseconds; a thread is awake after as many, and what it
 /// draws on has to come into its processor's cache.
-const PIXELS_EACH: usize = 24 * 32 * 32;
+const PIXELS_EACH: usize = 24 * (TILE_SIDE * TILE_SIDE) as usize;
 
 /// A compiled list, or several that run one behind the other, as a job whose tiles are those that have words in one of them.
 /// On a board each has the number of its place among these, so a list that draws on ten tiles of a large target pays for ten.
