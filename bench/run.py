@@ -41,8 +41,8 @@ HERE = pathlib.Path(__file__).resolve().parent
 # how many frames more, so that the difference is some tenths of a second on a fast machine
 MORE = {
     "large-triangles": 8, "small-triangles": 16, "executed-lists": 8, "clears": 10, "large-xor": 8, "shadow-volumes": 8, "ten-tiles": 20,
-    "clear": 100, "one-triangle": 40, "indexed-strip": 8, "idle-pixels": 1, "long-script": 1, "largest-target": 10, "largest-clear": 25,
-    "many-executions": 1, "many-finishes": 4, "many-flushes": 4, "smallest": 1_000, "asked-small": 1, "asked-large": 1,
+    "clear": 100, "one-triangle": 40, "indexed-strip": 8, "idle-pixels": 6, "long-script": 1, "largest-target": 10, "largest-clear": 25,
+    "many-executions": 1, "many-finishes": 15, "many-flushes": 15, "smallest": 1_000, "asked-small": 5, "asked-large": 5,
 }
 
 
