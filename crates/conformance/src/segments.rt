@@ -186,34 +186,23 @@ fn no_thread_compiles(rt: HostRuntime) -> Result<(), Fail> {
     Ok(())
 }
 
-/// What is shown once executions ran as one: large, small, and large ones again, with so many workers.
+/// What is shown once executions that waited ran as one: small, large, and a small one again, by a crew or alone.
 fn gathered<A: Allocator + Copy + Send + Sync, R: Threads + Wait + Sync, G: Gate>(
     alloc: A,
     crew: &RunCrew<'_, '_, A, R, G>,
     alone: bool,
 ) -> Result<u64, GfxError> {
     let (large, small) = (large_list(alloc)?, small_list(alloc)?);
-    let workers = if alone { 0 } else { crew.workers() };
     let mut context = ImmediateContext::new(alloc, SIZE.width, SIZE.height)?;
-    let Some(first) = context.begin_executions(&small, workers) else {
-        return Err(GfxError::OutOfMemory);
-    };
-    if !first.takes(&large) {
-        return Err(GfxError::ListTooLong);
+    for list in [&small, &large, &small] {
+        if alone {
+            context.enqueue_execution_alone(list, true)?;
+        } else {
+            context.enqueue_execution_by_crew(list, true, crew)?;
+        }
     }
-    let Some(second) = first.with(&large, workers) else {
-        return Err(GfxError::OutOfMemory);
-    };
-    if !second.takes(&small) {
-        return Err(GfxError::ListTooLong);
-    }
-    let Some(third) = second.with(&small, workers) else {
-        return Err(GfxError::OutOfMemory);
-    };
-    if alone {
-        context.run_executions_alone(third)?;
-    } else {
-        context.run_executions_by_crew(third, crew)?;
+    if !alone {
+        context.flush_by_crew(crew)?;
     }
     shown(&mut context)
 }

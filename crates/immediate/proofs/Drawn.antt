@@ -22,10 +22,10 @@ use Rattle.binner.specs.Segments.{cut_items, AreCompiled}
 use Rattle.tileprog.specs.Programs.{ProgramsRan, AllRan}
 use Rattle.tileprog.proofs.Several.{several_drawn}
 use Rattle.immediate.specs.Outputs as outputs
-use Rattle.immediate.specs.Outputs.{Outputs, performed_over}
-use Rattle.immediate.specs.Held.{Held, outputs_of, context_of}
+use Rattle.immediate.specs.Outputs.{Outputs, performed_over, cut_over}
+use Rattle.immediate.specs.Held.{Held, outputs_of, context_of, stored}
 use Rattle.binner.specs.Compiling.{told}
-use Rattle.immediate.specs.Batched.{HasDrawn, cut_over}
+use Rattle.immediate.specs.Batched.{HasDrawn}
 use Rattle.immediate.proofs.Runs.{IsKept}
 
 -- where no command begins a query there is no issue
@@ -42,7 +42,7 @@ no_issues (c ∷ cs) h =
 -- ---- segments
 
 -- the same commands are performed under results that are the same
-performed_told_alike : (f g : ℕ → Bool) → ((q : ℕ) → f q ≡ g q) → (earlier cs : List Command) → performed_behind f earlier cs ≡ performed_behind g earlier cs
+pub performed_told_alike : (f g : ℕ → Bool) → ((q : ℕ) → f q ≡ g q) → (earlier cs : List Command) → performed_behind f earlier cs ≡ performed_behind g earlier cs
 performed_told_alike f g same earlier [] = refl
 performed_told_alike f g same earlier (c ∷ cs) =
     let predicate = (settings_after earlier).predicate in
@@ -123,7 +123,7 @@ none_open (c ∷ list) h = none_open list h
 pub answers_stay : (size : Size) (h : Held) → issues h.pending ≡ [] → (q : ℕ) → answered size (context_of h) q ≡ result_at h.results q
 answers_stay size h none q =
     let told : ℕ → Bool = λ p. result_of (result_at h.results p) in
-    ap (λ (o : Option ℕ). counted_or (result_at h.results q) o (items (performed told h.pending)) size (pixel_of h.surface)) (none_begun q told h.pending none)
+    ap (λ (o : Option ℕ). counted_or (result_at h.results q) o (items (performed told h.pending)) size (stored h)) (none_begun q told h.pending none)
 
 -- A context whose pending commands leave these items on what is held, and begin no query; then a list ran that begins none.
 module _ (size : Size) (h : Held) (c : Context) (js : List Item) (shows : (x y : ℕ) → shown c x y ≡ after_items js x y (pixel_of h.surface x y)) (answers : (q : ℕ) → answered size c q ≡ result_at h.results q) where

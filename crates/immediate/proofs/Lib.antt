@@ -1,8 +1,9 @@
 mod Telling
-mod Settled
+pub mod Settled
 mod Issued
 mod Storing
 mod Ran
 mod Idle
 mod Runs
-pub mod Drawn
+mod Drawn
+pub mod Waiting

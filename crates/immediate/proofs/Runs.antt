@@ -23,7 +23,8 @@ use Rattle.tileprog.specs.Programs.{ProgramsRan}
 use Rattle.tileprog.proofs.Ordering.{list_ran}
 use Rattle.immediate.specs.Outputs as outputs
 use Rattle.immediate.specs.Outputs.{Outputs, IsOutput, performed_over, IsCompiled, IsRunBy}
-use Rattle.immediate.specs.Held.{Held, Ran, Runs, shown, answered, context_of, held_of, outputs_of}
+use Rattle.immediate.specs.Held.{Held, Ran, Runs, shown, answered, context_of, held_of, held_behind, outputs_of}
+use Rattle.immediate.proofs.Settled.{stored_settled}
 use Rattle.immediate.specs.Next.{Lists, IsTaken, ExecutesNext}
 
 same_counts : (f h : ℕ → ℕ) (k : ℕ) (queries : List ℕ) (results : List (Option ℕ)) → ((i : ℕ) → i < k + length queries → f i ≡ h i) → with_counts k f queries results ≡ with_counts k h queries results
@@ -68,27 +69,33 @@ pub pending_ran : (old new : Outputs) (before after : List Command) → outputs.
 pending_ran old new before after ran begun = record {
   size = ran.size;
   run = record { pixels = ran.pixels; results = ran.results; pending = begun };
+  settled = refl;
 }
 
 -- and then a list
-pub list_ran_behind : (list : List Command) (restore : Bool) (a m n : Held) → AreAccepted list → Ran [] true a m → outputs.HasRun list (outputs_of m) (outputs_of n) → n.pending ≡ after_finish restore a.pending → Ran list restore a n
-list_ran_behind list restore a m n accepted first ran begun =
+pub list_ran_behind : (list : List Command) (restore : Bool) (a m : Held) (o : Outputs) (w : List (List Command)) (p : List Command) → AreAccepted list → Ran [] true a m → outputs.HasRun list (outputs_of m) o → w ≡ m.waiting → p ≡ after_finish restore a.pending → Ran list restore a (held_behind o w p)
+list_ran_behind list restore a m o w p accepted first ran kept begun =
     let left : List Command = performed_over (outputs_of m) list in
+    let settled : w ≡ [] = kept ∙ first.settled in
+    let before : (x y : ℕ) → x < a.surface.size.width → y < a.surface.size.height → pixel_of m.surface x y ≡ shown a x y =
+    λ x y w h. sym (stored_settled m first.settled x y) ∙ first.run.pixels x y w h in
     let same : left ≡ performed_next a.surface.size (context_of a) list =
     performed_same (λ q. result_of (result_at m.results q)) (λ q. result_of (answered a q)) list accepted (λ q l. ap result_of (first.run.results q l)) in
     record {
       size = ran.size ∙ first.size;
       run = record {
-        pixels = λ x y w h.
-            ran.pixels x y (subst (λ (s : Size). x < s.width) (sym first.size) w) (subst (λ (s : Size). y < s.height) (sym first.size) h)
-            ∙ ap (after_items (items left) x y) (first.run.pixels x y w h)
+        pixels = λ x y k h.
+            stored_settled (held_behind o w p) settled x y
+            ∙ ran.pixels x y (subst (λ (s : Size). x < s.width) (sym first.size) k) (subst (λ (s : Size). y < s.height) (sym first.size) h)
+            ∙ ap (after_items (items left) x y) (before x y k h)
             ∙ ap (λ (cs : List Command). after_items (items cs) x y (shown a x y)) same;
         results = λ q l.
-            subst (λ (s : Size). result_at n.results q ≡ result_after s left (pixel_of m.surface) q (result_at m.results q)) first.size (ran.results q l)
-            ∙ result_same a.surface.size left (pixel_of m.surface) (shown a) q (result_at m.results q) (answered a q) first.run.pixels (first.run.results q l)
+            subst (λ (s : Size). result_at o.results q ≡ result_after s left (pixel_of m.surface) q (result_at m.results q)) first.size (ran.results q l)
+            ∙ result_same a.surface.size left (pixel_of m.surface) (shown a) q (result_at m.results q) (answered a q) before (first.run.results q l)
             ∙ ap (λ (cs : List Command). result_after a.surface.size cs (shown a) q (answered a q)) same;
         pending = begun;
       };
+      settled = settled;
     }
 
 -- ---- the steps of a run, over what stands in the code

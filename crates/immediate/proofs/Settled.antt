@@ -6,7 +6,8 @@ use Rattle.gfxspec.specs.declared.pixel.Pixel.{Pixel}
 use Rattle.gfxspec.specs.Items.{Item, after_items}
 use Rattle.gfxspec.specs.State.{Settings}
 use Rattle.tileblock.specs.Surface.{Surface, pixel_of}
-use Rattle.immediate.specs.Held.{Held, shown}
+use Rattle.immediate.specs.Held.{Held, outputs_of, stored, shown}
+use Rattle.immediate.specs.Outputs.{cut_over}
 use Rattle.gfxspec.specs.Commands.{Command, SetVertices, SetIndices, SetTopology, SetRaster, SetScissor, SetDepthStencil, SetBlend, SetPredication, Draw, DrawIndexed, ClearColor, ClearDepthStencil, Begin, End, Kept}
 use Rattle.gfxspec.specs.Predication.{withholds, performed_behind, performed, result_of}
 use Rattle.meaning.specs.Contexts.{result_at}
@@ -61,8 +62,12 @@ none_withheld_behind results earlier (c ∷ cs) h =
 pub none_withheld : (results : ℕ → Bool) (list : List Command) → list_any is_drawing list ≡ false → performed results list ≡ list
 none_withheld results list h = none_withheld_behind results [] list h
 
--- where nothing is drawn, the stored pixels are shown
-pub settled : (h : Held) (s : Surface) → h.surface ≡ s → (x y : ℕ) → list_any is_drawing h.pending ≡ false → pixel_of s x y ≡ shown h x y
-settled h s e x y none =
-    ap (λ (t : Surface). pixel_of t x y) (sym e) ∙ nothing_drawn h.pending none x y (pixel_of h.surface x y)
-    ∙ ap (λ (l : List Command). after_items (items l) x y (pixel_of h.surface x y)) (sym (none_withheld (λ q. result_of (result_at h.results q)) h.pending none))
+-- where nothing waits, the target's pixels are the stored ones
+pub stored_settled : (h : Held) → h.waiting ≡ [] → (x y : ℕ) → stored h x y ≡ pixel_of h.surface x y
+stored_settled h none x y = ap (λ (ss : List (List Command)). after_items (cut_over (outputs_of h) ss) x y (pixel_of h.surface x y)) none
+
+-- where nothing is drawn besides, they are shown
+pub settled : (h : Held) (s : Surface) → h.surface ≡ s → (x y : ℕ) → h.waiting ≡ [] → list_any is_drawing h.pending ≡ false → pixel_of s x y ≡ shown h x y
+settled h s e x y still none =
+    ap (λ (t : Surface). pixel_of t x y) (sym e) ∙ sym (stored_settled h still x y) ∙ nothing_drawn h.pending none x y (stored h x y)
+    ∙ ap (λ (l : List Command). after_items (items l) x y (stored h x y)) (sym (none_withheld (λ q. result_of (result_at h.results q)) h.pending none))

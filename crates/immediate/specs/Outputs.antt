@@ -2,12 +2,14 @@
 use Rattle.std.specs.Prelude.{ℕ, ◌≡◌, ◌<◌, List, length, Option, Some, None}
 use Rattle.gfxspec.specs.declared.TheConstants.{QUERY_LIMIT}
 use Rattle.gfxspec.specs.Commands.{Command}
+use Rattle.gfxspec.specs.Items.{Item}
 use Rattle.gfxspec.specs.Recorded.{issues}
 use Rattle.gfxspec.specs.Predication.{performed, result_of}
 use Rattle.gfxspec.specs.Tiles.{tile_count}
 use Rattle.tileblock.specs.Surface.{Surface, IsWhole, pixel_of}
 use Rattle.binmem.specs.Lists.{no_words}
 use Rattle.binner.specs.Compiled.{Compilation, MeansList}
+use Rattle.binner.specs.Segments.{cut_items}
 use Rattle.meaning.specs.Contexts.{pixels_after, result_after, result_at}
 
 -- for each query the count of its last issue that ran
@@ -24,6 +26,10 @@ pub record IsOutput (surface : Surface) (results : List (Option ℕ)) (waiting :
 -- the commands of a list that are performed under these results
 abbrev pub performed_over : Outputs → List Command → List Command
 performed_over o list = performed (λ q. result_of (result_at o.results q)) list
+
+-- the items of segments of lists, one behind the other; none of these begins a query, so the stored results tell what is performed
+abbrev pub cut_over : Outputs → List (List Command) → List Item
+cut_over o segments = cut_items (λ q. result_of (result_at o.results q)) segments
 
 -- a list ran
 pub record HasRun (list : List Command) (old new : Outputs) : Type 0 where

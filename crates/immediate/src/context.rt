@@ -12,15 +12,14 @@ ghost use Rattle.meaning.specs.Contexts.{result_at};
 ghost use Rattle.immediate.specs.Issues.{begins};
 ghost use Rattle.immediate.specs.Next.{ExecutesNext};
 ghost use Rattle.immediate.specs.Outputs.{Outputs};
-ghost use Rattle.immediate.specs.Batched.{HasExecuted, executed_items, cut_over};
-ghost use Rattle.immediate.specs.Held.{Ran, held_of, outputs_of, context_of, shown, answered, Runs, IsExamined};
+ghost use Rattle.immediate.specs.Held.{context_of, shown, answered, Stays, Runs, Enqueues, IsExamined};
 
 use crate::counts::some_begins;
 use crate::crew::RunCrew;
-use crate::executions::{Executions, begin_behind};
+use crate::executions::{Executions, wait_list};
 use crate::output::Output;
 use crate::pending::{
-    run_behind_alone, run_behind_by_crew, run_pending, run_pending_alone, run_pending_by_crew,
+    run_all, run_all_alone, run_all_by_crew, run_waiting_alone, run_waiting_by_crew,
 };
 use cmdlist::{Call, CommandList, DeferredContext, DeviceContext};
 use gfxspec::{GfxError, Pixel, QUERY_LIMIT, WORKER_LIMIT};
@@ -60,6 +59,7 @@ fn executed<A: Allocator>(
 pub struct ImmediateContext<A: Allocator> {
     alloc: A,
     output: Output<A>,
+    waiting: Executions<A>,
     pending: DeferredContext<A>,
 }
 
@@ -68,15 +68,15 @@ impl<A: Allocator> Model for ImmediateContext<A> {
 
     ghost Value = { Held };
 
-    ghost view = { λ c. record { surface = c.output.surface; results = c.output.results; pending = c.pending } };
+    ghost view = { λ c. record { surface = c.output.surface; results = c.output.results; waiting = c.waiting; pending = c.pending } };
 }
 
 impl<A: Allocator + Copy> ImmediateContext<A> {
-    /// The stored pixels: what the pixels hold, where no draw or clear is pending.
+    /// The stored pixels: what the pixels hold, where nothing waits and no draw or clear is pending.
     pub fn target(&self) -> &Target<A>
         ensures target { result.now ≡ self.now.surface }
         ensures whole { IsWhole result.now }
-        ensures settled { (x y : ℕ) → list_any is_drawing self.now.pending ≡ false → pixel_of result.now x y ≡ shown self.now x y }
+        ensures settled { (x y : ℕ) → self.now.waiting ≡ [] → list_any is_drawing self.now.pending ≡ false → pixel_of result.now x y ≡ shown self.now x y }
     {
         self.output.target()
     }
@@ -135,16 +135,6 @@ impl<A: Allocator + Copy> ImmediateContext<A> {
         Ok(())
     }
 
-    /// Executions that are to run as one behind the pending commands, with so many workers beside the caller, of which a list's is the
-    /// first: it restores the state. There are none where the pending commands or the list begin a query, where both have no room in
-    /// one run, and without memory.
-    pub fn begin_executions(&self, list: &CommandList<A>, workers: u32) -> Option<Executions<A>>
-        ensures unissued { IfSome result (λ e. (issues self.now.pending ≡ []) × (issues list.now ≡ [])) }
-        ensures means { IfSome result (λ e. cut_over (outputs_of self.now) e ≡ executed_items self.now list.now) }
-    {
-        begin_behind(self.alloc, &self.pending, list, workers)
-    }
-
     /// Whether a query has an issue, with no query open: one that ran, or a pending one.
     fn is_issued(&self, query: u32) -> bool
         ensures { result ≡ not (is_none (answered self.now query)) }
@@ -164,6 +154,7 @@ impl<A: Allocator + Copy + Send> ImmediateContext<A> {
         Ok(ImmediateContext {
             alloc,
             output,
+            waiting: Executions::none(alloc),
             pending: DeferredContext::new(alloc),
         })
     }
@@ -174,7 +165,12 @@ impl<A: Allocator + Copy + Send> ImmediateContext<A> {
         ensures { Runs (flush_rows (queries_open self.old.pending)) [] true self.old self.new result }
     {
         self.examine_run(0)?;
-        run_pending_alone(&mut self.output, &mut self.pending)
+        run_all_alone(
+            self.alloc,
+            &mut self.output,
+            &mut self.waiting,
+            &mut self.pending,
+        )
     }
 
     /// Runs the pending commands, and then those of a list, which begins from the default state. With `restore` the
@@ -195,7 +191,12 @@ impl<A: Allocator + Copy + Send> ImmediateContext<A> {
         ensures value { IfOk result (λ p. p ≡ shown self.old x y) }
     {
         self.examine_pixel(x, y, 0)?;
-        run_pending_alone(&mut self.output, &mut self.pending)?;
+        run_all_alone(
+            self.alloc,
+            &mut self.output,
+            &mut self.waiting,
+            &mut self.pending,
+        )?;
         Ok(self.output.target().pixel(x, y))
     }
 
@@ -206,7 +207,12 @@ impl<A: Allocator + Copy + Send> ImmediateContext<A> {
         ensures value { IfOk result (λ count. Some count ≡ answered self.old query) }
     {
         self.examine_query(query, 0)?;
-        run_pending_alone(&mut self.output, &mut self.pending)?;
+        run_all_alone(
+            self.alloc,
+            &mut self.output,
+            &mut self.waiting,
+            &mut self.pending,
+        )?;
         Ok(self.counted(query))
     }
 
@@ -233,12 +239,41 @@ impl<A: Allocator + Copy + Send> ImmediateContext<A> {
         executed(next, ran)
     }
 
-    /// Runs executions as one behind the pending commands, on the caller's thread. Refused with OutOfMemory alone, and then nothing ran.
-    pub fn run_executions_alone(&mut self, executions: Executions<A>) -> Result<(), GfxError>
-        ensures ok { OnOk result (HasExecuted (cut_over (outputs_of self.old) executions) self.old self.new) }
+    /// Runs what waits, where something does, and not the pending commands. It changes no meaning. Refused with OutOfMemory alone, and
+    /// then nothing ran.
+    pub fn settle_alone(&mut self) -> Result<(), GfxError>
+        ensures ok { OnOk result (Stays self.old self.new × (self.new.waiting ≡ [])) }
+        ensures memory { IfErr result (λ e. e ≡ OutOfMemory) }
         ensures err { OnErr result (self.new ≡ self.old) }
     {
-        run_behind_alone(&mut self.output, &mut self.pending, executions)
+        if self.waiting.are_none() {
+            return Ok(());
+        }
+        run_waiting_alone(&mut self.output, &mut self.waiting)
+    }
+
+    /// Executes a list, as `execute_alone` does, and may leave it and the pending commands waiting: what waits runs when a call next
+    /// runs the pending commands, as one with these. A list that begins a query, or finds no room, runs at once, behind all. Refused
+    /// with QueryOpen, OutOfMemory.
+    pub fn enqueue_execution_alone(
+        &mut self,
+        list: &CommandList<A>,
+        restore: bool,
+    ) -> Result<(), GfxError>
+        ensures { Enqueues (flush_rows (queries_open self.old.pending)) list.now restore self.old self.new result }
+    {
+        self.examine_run(0)?;
+        if wait_list(
+            self.alloc,
+            &mut self.waiting,
+            &mut self.pending,
+            list,
+            restore,
+            0,
+        ) {
+            return Ok(());
+        }
+        self.execute_alone(list, restore)
     }
 }
 
@@ -253,7 +288,15 @@ impl<A: Allocator + Copy + Send + Sync> ImmediateContext<A> {
         ensures { Runs (flush_rows_by (worker_rows workers) (queries_open self.old.pending)) [] true self.old self.new result }
     {
         self.examine_run(workers)?;
-        run_pending(&mut self.output, &mut self.pending, rt, workers, gate)
+        run_all(
+            self.alloc,
+            &mut self.output,
+            &mut self.waiting,
+            &mut self.pending,
+            rt,
+            workers,
+            gate,
+        )
     }
 
     /// `execute_alone` with as many threads beside the caller. Refused with QueryOpen, WorkerCount, OutOfMemory.
@@ -287,7 +330,15 @@ impl<A: Allocator + Copy + Send + Sync> ImmediateContext<A> {
         ensures value { IfOk result (λ p. p ≡ shown self.old x y) }
     {
         self.examine_pixel(x, y, workers)?;
-        run_pending(&mut self.output, &mut self.pending, rt, workers, gate)?;
+        run_all(
+            self.alloc,
+            &mut self.output,
+            &mut self.waiting,
+            &mut self.pending,
+            rt,
+            workers,
+            gate,
+        )?;
         let target = self.output.target();
         Ok(target.pixel(x, y))
     }
@@ -305,7 +356,15 @@ impl<A: Allocator + Copy + Send + Sync> ImmediateContext<A> {
         ensures value { IfOk result (λ count. Some count ≡ answered self.old query) }
     {
         self.examine_query(query, workers)?;
-        run_pending(&mut self.output, &mut self.pending, rt, workers, gate)?;
+        run_all(
+            self.alloc,
+            &mut self.output,
+            &mut self.waiting,
+            &mut self.pending,
+            rt,
+            workers,
+            gate,
+        )?;
         let count = self.counted(query);
         Ok(count)
     }
@@ -346,7 +405,13 @@ impl<A: Allocator + Copy + Send + Sync> ImmediateContext<A> {
         ensures { Runs (flush_rows (queries_open self.old.pending)) [] true self.old self.new result }
     {
         self.examine_run(0)?;
-        run_pending_by_crew(&mut self.output, &mut self.pending, crew)
+        run_all_by_crew(
+            self.alloc,
+            &mut self.output,
+            &mut self.waiting,
+            &mut self.pending,
+            crew,
+        )
     }
 
     /// `execute_alone` by a crew beside the caller. Refused with QueryOpen, OutOfMemory.
@@ -364,16 +429,42 @@ impl<A: Allocator + Copy + Send + Sync> ImmediateContext<A> {
         Ok(())
     }
 
-    /// `run_executions_alone` by a crew beside the caller.
-    pub fn run_executions_by_crew<R: Wait, G: Gate>(
+    /// `settle_alone` by a crew beside the caller.
+    pub fn settle_by_crew<R: Wait, G: Gate>(
         &mut self,
-        executions: Executions<A>,
         crew: &RunCrew<'_, '_, A, R, G>,
     ) -> Result<(), GfxError>
-        ensures ok { OnOk result (HasExecuted (cut_over (outputs_of self.old) executions) self.old self.new) }
+        ensures ok { OnOk result (Stays self.old self.new × (self.new.waiting ≡ [])) }
+        ensures memory { IfErr result (λ e. e ≡ OutOfMemory) }
         ensures err { OnErr result (self.new ≡ self.old) }
     {
-        run_behind_by_crew(&mut self.output, &mut self.pending, executions, crew)
+        if self.waiting.are_none() {
+            return Ok(());
+        }
+        run_waiting_by_crew(&mut self.output, &mut self.waiting, crew)
+    }
+
+    /// `enqueue_execution_alone` by a crew beside the caller.
+    pub fn enqueue_execution_by_crew<R: Wait, G: Gate>(
+        &mut self,
+        list: &CommandList<A>,
+        restore: bool,
+        crew: &RunCrew<'_, '_, A, R, G>,
+    ) -> Result<(), GfxError>
+        ensures { Enqueues (flush_rows (queries_open self.old.pending)) list.now restore self.old self.new result }
+    {
+        self.examine_run(0)?;
+        if wait_list(
+            self.alloc,
+            &mut self.waiting,
+            &mut self.pending,
+            list,
+            restore,
+            crew.workers(),
+        ) {
+            return Ok(());
+        }
+        self.execute_by_crew(list, restore, crew)
     }
 }
 

@@ -23,4 +23,3 @@ mod room;
 
 pub use context::ImmediateContext;
 pub use crew::RunCrew;
-pub use executions::Executions;

@@ -1,6 +1,6 @@
 //! The target and the query results, as the last run left them, and what a run makes of them.
 
-ghost use Rattle.std.specs.Prelude.{true, false, ◌≡◌, ℕ, ◌<◌, ◌≤◌, [], ◌∷◌, Some, None, Ok, Err, map, replicate, slice_index, OnOk, IfOk, IfErr, OnErr, IfSome, MatchOption, MatchResult};
+ghost use Rattle.std.specs.Prelude.{true, false, ◌≡◌, ℕ, ◌<◌, ◌≤◌, [], ◌∷◌, Some, None, Ok, Err, map, replicate, slice_index, IsTrue, OnOk, IfOk, IfErr, OnErr, IfSome, MatchOption, MatchResult};
 ghost use Rattle.std.specs.List.{list_any};
 ghost use Rattle.gfxspec.specs.declared.error.GfxError.TheVariants.{OutOfMemory};
 ghost use Rattle.gfxspec.specs.Items.{opening};
@@ -14,10 +14,11 @@ ghost use Rattle.binmem.specs.Lists.{no_words};
 ghost use Rattle.meaning.specs.Contexts.{result_at, with_counts};
 ghost use Rattle.cmdlist.specs.Seen.{command_value};
 ghost use Rattle.immediate.specs.Issues.{acts};
-ghost use Rattle.binner.specs.Segments.{AreCompiled};
+ghost use Rattle.binner.specs.Segments.{AreCompiled, cut_items};
+ghost use Rattle.gfxspec.specs.Limits.{is_size};
 ghost use Rattle.tileprog.specs.Programs.{lists_of};
-ghost use Rattle.immediate.specs.Outputs.{HasRun, IsRunBy};
-ghost use Rattle.immediate.specs.Batched.{HasDrawn, cut_over};
+ghost use Rattle.immediate.specs.Outputs.{HasRun, IsRunBy, cut_over};
+ghost use Rattle.immediate.specs.Batched.{HasDrawn};
 
 use crate::counts::store_counts;
 use crate::crew::RunCrew;
@@ -27,10 +28,11 @@ use crate::room::Room;
 use binmem::Bins;
 use binner::{Compiled, Segment, compile, compile_parallel};
 use cmdlist::Command;
-use gfxspec::GfxError;
+use gfxspec::{GfxError, Size};
 use segmentrun::{compile_alone, compile_by_crew};
 use std::alloc::Allocator;
 use std::marker::Model;
+use std::mem::replace;
 use std::sync::Wait;
 use std::thread::Threads;
 use tileblock::Target;
@@ -102,6 +104,25 @@ fn keep<A: Allocator + Copy>(
     *bins = Some(compiled.into_bins());
     store_counts(results, commands, counts?.as_slice());
     Ok(())
+}
+
+/// Segments compiled by a crew: the first list, and those behind it. They are kept.
+fn lists_by_crew<A: Allocator + Copy + Send + Sync, R: Wait, G: Gate>(
+    segments: &mut Vec<Segment<A>, A>,
+    size: Size,
+    results: &[bool; 64],
+    crew: &RunCrew<'_, '_, A, R, G>,
+) -> Result<(Compiled<A>, Vec<Compiled<A>, A>), GfxError>
+    requires size { IsTrue (is_size size) }
+    ensures kept { segments.new.items ≡ segments.old.items }
+    ensures compiled { IfOk result (λ lists. AreCompiled size (cut_items (told results.now) segments.old.items) (lists.0 ∷ lists.1.items)) }
+    ensures memory { IfErr result (λ e. e ≡ OutOfMemory) }
+{
+    let nothing = Vec::new(*segments.allocator());
+    let all = replace(segments, nothing);
+    let (lists, back) = compile_by_crew(crew.rt, &crew.compiling, all, size, results, crew.gate);
+    *segments = back;
+    lists
 }
 
 /// A target, the count of each query's last issue, and empty bins that wait for the next list.
@@ -238,15 +259,12 @@ impl<A: Allocator + Copy + Send> Output<A> {
     }
 
     /// Runs segments of lists on the caller's thread. Refused with OutOfMemory alone, before any tile is taken.
-    pub(crate) fn run_segments_alone(
-        &mut self,
-        segments: Vec<Segment<A>, A>,
-    ) -> Result<(), GfxError>
-        ensures ok { OnOk result (HasDrawn (cut_over self.old segments.items) self.old self.new) }
+    pub(crate) fn run_segments_alone(&mut self, segments: &[Segment<A>]) -> Result<(), GfxError>
+        ensures ok { OnOk result (HasDrawn (cut_over self.old segments.now) self.old self.new) }
         ensures memory { IfErr result (λ e. e ≡ OutOfMemory) }
         ensures err { OnErr result (self.new ≡ self.old) }
     {
-        let compiled = self.compiled_segments(segments.as_slice())?;
+        let compiled = self.compiled_segments(segments)?;
         let drawn = draw_alone(&self.alloc, compiled, &mut self.target);
         let nothing: [Command<A>; 0] = [];
         keep(drawn, &nothing, &mut self.results, &mut self.bins)
@@ -314,6 +332,25 @@ impl<A: Allocator + Copy + Send + Sync> Output<A> {
         keep(drawn, commands, &mut self.results, &mut self.bins)
     }
 
+    /// The same as `run_segments_alone` with as many threads beside the caller, each of which passes the gate.
+    pub(crate) fn run_segments_with_workers<R: Threads + Sync, G: Gate + Sync>(
+        &mut self,
+        rt: &R,
+        segments: &[Segment<A>],
+        workers: u32,
+        gate: &G,
+    ) -> Result<(), GfxError>
+        requires workers { workers ≤ 15 }
+        ensures ok { OnOk result (HasDrawn (cut_over self.old segments.now) self.old self.new) }
+        ensures memory { IfErr result (λ e. e ≡ OutOfMemory) }
+        ensures err { OnErr result (self.new ≡ self.old) }
+    {
+        let compiled = self.compiled_segments(segments)?;
+        let drawn = draw_with_workers(rt, &self.alloc, compiled, &mut self.target, workers, gate);
+        let nothing: [Command<A>; 0] = [];
+        keep(drawn, &nothing, &mut self.results, &mut self.bins)
+    }
+
     /// The same as `run_alone` by a crew beside the caller, which passes the gate too. Where the crew can't compile the commands the
     /// caller does.
     pub(crate) fn run_by_crew<R: Wait, G: Gate>(
@@ -349,8 +386,12 @@ impl<A: Allocator + Copy + Send + Sync> Output<A> {
         let Some(cut) = Executions::behind(self.alloc, commands, crew.workers()) else {
             return false;
         };
-        let Executions { segments, taken } = cut;
-        self.run_segments_by_crew(segments, taken, crew).is_ok()
+        let Executions {
+            mut segments,
+            taken,
+        } = cut;
+        self.run_segments_by_crew(&mut segments, taken, crew)
+            .is_ok()
     }
 
     /// Commands that the caller compiles, run by a crew.
@@ -375,12 +416,13 @@ impl<A: Allocator + Copy + Send + Sync> Output<A> {
     /// The lists of segments as a job: compiled by a crew, or on the caller's thread where they draw little.
     fn program_by_crew<R: Wait, G: Gate>(
         &mut self,
-        segments: Vec<Segment<A>, A>,
+        segments: &mut Vec<Segment<A>, A>,
         room: Room,
         crew: &RunCrew<'_, '_, A, R, G>,
     ) -> Result<TileProgram<A>, GfxError>
         ensures same { self.new ≡ self.old }
-        ensures compiled { IfOk result (λ job. AreCompiled self.old.surface.size (cut_over self.old segments.items) (lists_of job)) }
+        ensures kept { segments.new.items ≡ segments.old.items }
+        ensures compiled { IfOk result (λ job. AreCompiled self.old.surface.size (cut_over self.old segments.old.items) (lists_of job)) }
         ensures memory { IfErr result (λ e. e ≡ OutOfMemory) }
     {
         if !room.is_large() {
@@ -389,19 +431,19 @@ impl<A: Allocator + Copy + Send + Sync> Output<A> {
         }
         let told = told_by(&self.results);
         let size = self.target.size();
-        let (rt, gate) = (crew.rt, crew.gate);
-        let (first, behind) = compile_by_crew(rt, &crew.compiling, segments, size, &told, gate)?;
+        let (first, behind) = lists_by_crew(segments, size, &told, crew)?;
         Ok(TileProgram::of_lists(self.alloc, first, behind)?)
     }
 
     /// The same as `run_segments_alone` by a crew beside the caller, which passes the gate too.
     pub(crate) fn run_segments_by_crew<R: Wait, G: Gate>(
         &mut self,
-        segments: Vec<Segment<A>, A>,
+        segments: &mut Vec<Segment<A>, A>,
         room: Room,
         crew: &RunCrew<'_, '_, A, R, G>,
     ) -> Result<(), GfxError>
-        ensures ok { OnOk result (HasDrawn (cut_over self.old segments.items) self.old self.new) }
+        ensures kept { segments.new.items ≡ segments.old.items }
+        ensures ok { OnOk result (HasDrawn (cut_over self.old segments.old.items) self.old self.new) }
         ensures memory { IfErr result (λ e. e ≡ OutOfMemory) }
         ensures err { OnErr result (self.new ≡ self.old) }
     {

@@ -70,6 +70,14 @@ pub(crate) struct Room {
 }
 
 impl Room {
+    /// What nothing takes.
+    pub(crate) fn none() -> Self {
+        Room {
+            commands: 0,
+            triangles: 0,
+        }
+    }
+
     /// What the commands of a list take, or the pending ones.
     pub(crate) fn of<A: Allocator>(commands: &[Command<A>]) -> Self {
         let mut topology = None;

@@ -100,7 +100,7 @@ fn take_lists<'a, A: Allocator + Copy + Send>(
     Ok((first, behind))
 }
 
-/// Runs a job by a crew, over a new board and its seat.
+/// Runs a job by a crew, over a new board and its seat. The segments come back.
 fn run_windows<'a, A: Allocator + Copy + Send + Sync, G: Gate, R: Wait>(
     rt: &R,
     crew: &SegmentCrew<'a, A>,
@@ -108,20 +108,37 @@ fn run_windows<'a, A: Allocator + Copy + Send + Sync, G: Gate, R: Wait>(
     seat: Seat<SegmentJob<A>>,
     job: SegmentJob<A>,
     gate: &G,
-) -> Result<Lists<A>, GfxError>
+) -> (Result<Lists<A>, GfxError>, Vec<Segment<A>, A>)
     requires new { AreNew (λ (j : SegmentJob A). j.windows) (λ (j : SegmentJob A). 0) job false board seat }
     requires some { 1 ≤ job.windows }
-    ensures compiled { IfOk result (λ lists. AreCompiled job.size (cut_items (told job.results) job.segments.items) (lists.0 ∷ lists.1.items)) }
-    ensures memory { IfErr result (λ e. e ≡ OutOfMemory) }
+    ensures compiled { IfOk result.0 (λ lists. AreCompiled job.size (cut_items (told job.results) job.segments.items) (lists.0 ∷ lists.1.items)) }
+    ensures memory { IfErr result.0 (λ e. e ≡ OutOfMemory) }
+    ensures back { result.1.items ≡ job.segments.items }
 {
     let mut seat = seat;
     let windows = job.tiles();
     place_all(&board, &mut seat, windows);
-    let (board, seat, _job) = run_by_crew(rt, crew, board, seat, job, gate);
+    let (board, seat, done) = run_by_crew(rt, crew, board, seat, job, gate);
     let Ok(mut finished) = board.close(seat) else {
         unreachable!()
     };
-    take_lists(*crew.allocator(), &mut finished, windows)
+    let lists = take_lists(*crew.allocator(), &mut finished, windows);
+    (lists, done.into_segments())
+}
+
+/// Segments that the caller compiles, as one list.
+fn compile_here<A: Allocator + Copy>(
+    alloc: A,
+    segments: &[Segment<A>],
+    size: Size,
+    results: &[bool; 64],
+) -> Result<Lists<A>, GfxError>
+    requires size { IsTrue (is_size size) }
+    ensures compiled { IfOk result (λ lists. AreCompiled size (cut_items (told results.now) segments.now) (lists.0 ∷ lists.1.items)) }
+    ensures memory { IfErr result (λ e. e ≡ OutOfMemory) }
+{
+    let compiled = compile_anew(alloc, segments, size, results)?;
+    Ok((compiled, Vec::new(alloc)))
 }
 
 /// Whether the caller alone compiles segments: there is nobody beside it, or no second segment.
@@ -132,7 +149,7 @@ fn is_for_caller(segments: usize, workers: u32) -> bool {
 /// Compiles segments for a target of this size, under the results that the queries have before them, by the threads of a
 /// crew beside the caller: the first list and those behind it, one for each window. Where there are no segments, that is
 /// one list of nothing. It may wait for a thread that has a window in its hands. Refused with OutOfMemory alone: without
-/// memory, and where a window would name more than 65,536 states, triangles or clears.
+/// memory, and where a window would name more than 65,536 states, triangles or clears. The segments come back.
 pub fn compile_by_crew<'a, A: Allocator + Copy + Send + Sync, G: Gate, R: Wait>(
     rt: &R,
     crew: &SegmentCrew<'a, A>,
@@ -140,19 +157,23 @@ pub fn compile_by_crew<'a, A: Allocator + Copy + Send + Sync, G: Gate, R: Wait>(
     size: Size,
     results: &[bool; 64],
     gate: &G,
-) -> Result<(Compiled<A>, Vec<Compiled<A>, A>), GfxError>
+) -> (
+    Result<(Compiled<A>, Vec<Compiled<A>, A>), GfxError>,
+    Vec<Segment<A>, A>,
+)
     requires size { IsTrue (is_size size) }
-    ensures compiled { IfOk result (λ lists. AreCompiled size (cut_items (told results.now) segments.items) (lists.0 ∷ lists.1.items)) }
-    ensures memory { IfErr result (λ e. e ≡ OutOfMemory) }
+    ensures compiled { IfOk result.0 (λ lists. AreCompiled size (cut_items (told results.now) segments.items) (lists.0 ∷ lists.1.items)) }
+    ensures memory { IfErr result.0 (λ e. e ≡ OutOfMemory) }
+    ensures back { result.1.items ≡ segments.items }
 {
     let alloc = *crew.allocator();
     if is_for_caller(segments.len(), crew.workers()) {
-        let compiled = compile_anew(alloc, segments.as_slice(), size, results)?;
-        return Ok((compiled, Vec::new(alloc)));
+        let lists = compile_here(alloc, segments.as_slice(), size, results);
+        return (lists, segments);
     }
     let job = SegmentJob::new(alloc, segments, size, results, crew.workers());
     match Board::new(crew.allocator(), &job) {
         Ok((board, seat)) => run_windows(rt, crew, board, seat, job, gate),
-        Err(refusal) => Err(refusal),
+        Err(refusal) => (Err(refusal), job.into_segments()),
     }
 }

@@ -72,6 +72,13 @@ impl<A: Allocator + Copy> SegmentJob<A> {
     ghost use Rattle.std.specs.Prelude.{◌≡◌, ◌≤◌, IsTrue};
     ghost use Rattle.gfxspec.specs.Limits.{is_size};
 
+    /// The segments of its windows.
+    pub(crate) fn into_segments(self) -> Vec<Segment<A>, A>
+        ensures { result.items ≡ self.segments.items }
+    {
+        self.segments
+    }
+
     /// The windows of segments, for as many workers beside the caller.
     pub(crate) fn new(
         alloc: A,

@@ -1,5 +1,4 @@
 pub mod Played
 pub mod Steps
 pub mod Endings
-pub mod Gathering
 pub mod Ran

@@ -244,3 +244,6 @@ last_interrupted size ls c text why e h cause is = record {
       subst (Interrupts (refusal size (take (length ls) ls) (line_at ls (length ls))) (line_at ls (length ls)).verb) (sym is)
       (subst (λ o. Cause o e) (rows_are size (take (length ls) ls) c h.played Flush ∙ ap (refusal size (take (length ls) ls)) (sym (get_or_past ls (length ls) a_line (omega arith)))) cause);
 }
+
+pub more_inside : (i n : ℕ) → i < n → i + 1 ≤ n
+more_inside i n p = omega (arith, p)

@@ -4,4 +4,3 @@ pub mod Taking
 pub mod Playing
 pub mod Writing
 pub mod Performing
-pub mod Gathering

@@ -8,7 +8,6 @@
 
 mod bytes;
 mod ending;
-mod executions;
 mod outcome;
 mod perform;
 mod play;

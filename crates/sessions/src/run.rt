@@ -1,4 +1,4 @@
-//! What runs the pending commands, and what the immediate context is asked that runs nothing.
+//! What runs the pending commands or executes, and what the immediate context is asked that runs nothing.
 
 ghost use Rattle.std.specs.Prelude.{◌≡◌, ◌<◌, []};
 ghost use Rattle.gfxspec.specs.Recorded.{queries_open};
@@ -12,9 +12,11 @@ use recorders::{ListSource, take_call};
 use scenetext::Verb;
 use std::alloc::Allocator;
 
-/// What runs: the pending commands alone, or those and then a list.
+/// What is executed: the pending commands alone, which then run, or those and then a list, which may wait.
 #[derive(Clone, Copy, Debug)]
 pub(crate) enum Running {
+    /// What waits alone.
+    Settle,
     Flush,
     /// Of a context, its list of a number, and whether the state stays.
     Execute(u32, u32, bool),
@@ -32,7 +34,7 @@ pub(crate) trait RecordsCalls {
     ghost use Rattle.scenetext.specs.Seen.{verb_value};
     ghost use Rattle.recorders.specs.Calls.{TakesCall};
     ghost use Rattle.immediate.specs.Held.{Held, IsExamined, held_more};
-    ghost use Rattle.std.specs.Prelude.{◌≡◌, OnOk, IfErr};
+    ghost use Rattle.std.specs.Prelude.{◌≡◌, [], OnOk, IfErr};
     ghost use Rattle.gfxspec.specs.Refusals.{first_row};
     ghost use Rattle.recorders.specs.Apart.{Cause};
     ghost use Rattle.sessions.specs.Taking.{held_rows, verb_asked, IsInside, stored_answer};
@@ -49,9 +51,10 @@ pub(crate) trait RecordsCalls {
         ensures rows { IsExamined (held_rows (held self.now) (verb_asked question)) result }
         ensures inside { OnOk result (IsInside (held self.now).surface.size question) };
 
-    /// The answer of what is stored.
+    /// The answer of what is stored, where nothing waits.
     fn answer(&self, question: Question) -> Answer
-        requires { IsInside (held self.now).surface.size question }
+        requires inside { IsInside (held self.now).surface.size question }
+        requires settled { (held self.now).waiting ≡ [] }
         ensures { result ≡ stored_answer (held self.now) question };
 }
 

@@ -22,6 +22,6 @@ returns-clause-compiled g c =
     let same : run.result.0.job ≡ job = ap (λ b. b.job) run.ensures.same.0 ∙ c.requires.new.0 in
     let zip = subst (λ j. AllZip (Gives {A = g.row.A.Denot} j.size (its_windows j)) placed c.in-Ok.finished.results) same c.in-Ok.ensures.ok.2 in
     let are = are_of_windows job.size (its_windows job) placed c.in-Ok.finished.results (subst AreNumbered (sym run.ensures.same.2) c.place_all.ensures.placed) zip in
-    IfOk-weaker c.take_lists.result _ _
+    IfOk-weaker c.take_lists-lists.result _ _
     (λ lists h. subst (λ (is : List Item). AreCompiled job.size is (lists.0 ∷ lists.1.items)) (ap (joined (its_windows job)) c.tiles-windows.ensures ∙ all_windows (told job.results) job.width job.segments.items job.windows job.whole) h)
-    (c.take_lists.ensures.lists job.size (its_windows job) are)
+    (c.take_lists-lists.ensures.lists job.size (its_windows job) are)

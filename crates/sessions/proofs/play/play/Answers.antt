@@ -2,8 +2,7 @@ use Rattle.std.proofs.Common.{rules, ◌≤◌, ◌<◌, ◌∙◌, ap, sym, sub
 use Rattle.sessions.specs.Playing.{own_count, HasReached, IsInterrupted}
 use Rattle.std.proofs.lemmas.List.{get_or_past}
 use Rattle.recorders.specs.Dealing.{places_of}
-use Rattle.sessions.proofs.Steps.{next_line, reached_next, interrupted, last_interrupted, none_reached}
-use Rattle.sessions.proofs.Gathering.{more_inside}
+use Rattle.sessions.proofs.Steps.{more_inside, next_line, reached_next, interrupted, last_interrupted, none_reached}
 use Rattle.sessions.proofs.play.play.Goals as goal
 
 pub loop-next-init : goal.loop-next-init
@@ -28,25 +27,6 @@ returns-in-Err-clause-played g c ok =
     let reached = c.loop-next.invariant.reached (c.take_verb.ensures.agrees ok) in
     subst (λ p. IsInterrupted size c.args.lines.now p c.in-Err.why c.take_verb.new.answers.items) (sym c.line-place.ensures.place)
     (interrupted size _ _ _ (g.C.RecordsCalls.held c.loop-next.context) _ next reached c.in-Err.why _ c.in-Err.ensures.untold c.in-Err.ensures.why)
-
-pub loop-next-preserved-then-is_some : goal.loop-next-preserved-then-is_some
-loop-next-preserved-then-is_some g c =
-    let size = (g.C.RecordsCalls.held c.args.immediate).surface.size in
-    let few : c.loop-next.next < own_count c.args.lines.now = search rules in
-    let next = next_line _ _ _ c.requires.may.sound few c.line-place.ensures.line in
-    let held = c.loop-next.invariant in
-    let taken = c.take_verb in
-    let right = taken.ensures.right ∙ held.right in
-    let gone = c.requires.goes_on _ _ _ _ _ c.go_on-next.ensures in
-    record {
-      below = gone.end (more_inside c.loop-next.next (own_count c.args.lines.now) few);
-      frame = taken.ensures.frame ∙ held.frame;
-      right = right;
-      agrees = λ ok. held.agrees (taken.ensures.agrees ok);
-      reached = λ ok.
-          gone.reached ok size taken.new.answers.items
-          (reached_next size _ _ _ (g.C.RecordsCalls.held c.loop-next.context) _ next (held.reached (taken.ensures.agrees ok)) (g.S.ListSource.right taken.new.lists) (g.C.RecordsCalls.held taken.new.context) _ (λ k n. ap (λ f. f k n) right ∙ c.requires.may.lists k n) c.in_default.ensures.accepted (c.in_default.ensures.taken ok) c.in_default.ensures.told);
-    }
 
 pub loop-next-preserved : goal.loop-next-preserved
 loop-next-preserved g c =

@@ -4,7 +4,3 @@ use Rattle.sessions.proofs.play.play_by_crew.Goals as goal
 -- behind its own requires a closure asks what is known of the type parameters
 pub play-requires-clause-may_run : goal.play-requires-clause-may_run
 play-requires-clause-may_run g c _ _ _ here = let b = c.type_bounds in (here, (b.send-A, b.sync-A, search (rules, b.sync-R), b.frees-A-Allocator))
-
-pub play-requires-clause-may_go_on : goal.play-requires-clause-may_go_on
-play-requires-clause-may_go_on g c _ _ _ sound right =
-    let b = c.type_bounds in (sound, (right, (b.send-A, b.sync-A, search (rules, b.sync-R), b.frees-A-Allocator)))

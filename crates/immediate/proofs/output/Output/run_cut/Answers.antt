@@ -1,6 +1,7 @@
 use Rattle.std.proofs.Common.{◌∙◌, ap, sym, subst, map}
 use Rattle.cmdlist.specs.Seen.{command_value}
-use Rattle.immediate.specs.Batched.{HasDrawn, cut_over}
+use Rattle.immediate.specs.Outputs.{cut_over}
+use Rattle.immediate.specs.Batched.{HasDrawn}
 use Rattle.immediate.proofs.Drawn.{drawn_is_run, ok_given}
 use Rattle.immediate.proofs.output.Output.run_cut.Goals as goal
 

@@ -1,9 +1,7 @@
-use Rattle.std.proofs.Common.{rules, subst, ◌≡◌, ◌∙◌, List, [], ◌∷◌}
-use Rattle.gfxspec.specs.Commands.{Command}
-use Rattle.binner.specs.Segments.{AreCompiled}
+use Rattle.std.proofs.Common.{◌∙◌, [], ◌∷◌}
 use Rattle.tileprog.specs.Programs.{ProgramsRan, AllRan}
 use Rattle.tileprog.proofs.Several.{can_run_behind}
-use Rattle.immediate.specs.Batched.{cut_over}
+use Rattle.immediate.specs.Outputs.{cut_over}
 use Rattle.immediate.proofs.Runs.{output_kept, kept_same, kept_memory, bins_behind}
 use Rattle.immediate.proofs.Drawn.{segments_kept, one_ran, ok_weaker}
 use Rattle.immediate.proofs.output.Output.run_segments_alone.Goals as goal
@@ -13,9 +11,8 @@ invariant_of-self g c =
     let i = c.self.inside in
     let list = c.in_ok-compiled.compiled in
     let o = c.args.self.now in
-    let segments : c.as_slice.result.now ≡ c.args.segments.items = search rules in
-    let means = subst (λ (ss : List (List Command)). AreCompiled o.surface.size (cut_over o ss) (list ∷ [])) segments c.in_ok-compiled.ensures.compiled in
-    let size = (can_run_behind o.surface.size (cut_over o c.args.segments.items) list [] means).0 in
+    let means = c.in_ok-compiled.ensures.compiled in
+    let size = (can_run_behind o.surface.size (cut_over o c.args.segments.now) list [] means).0 in
     output_kept (λ counts. counts.items) [] o list i.target c.draw_alone-drawn.new.target i.results c.keep.new.results (c.self.view_is ∙ c.compiled_segments.ensures.same) size
     (λ counts. ProgramsRan list i.target c.draw_alone-drawn.new.target counts.items) (λ x ran. (ran.whole, ran.size))
     c.draw_alone-drawn.result.0 c.keep.result c.keep.new.bins c.keep.ensures.kept c.draw_alone-drawn.ensures.ok c.draw_alone-drawn.ensures.err c.self.invariant.whole c.self.invariant.many
@@ -26,10 +23,9 @@ returns-clause-ok g c =
     let i = c.self.inside in
     let list = c.in_ok-compiled.compiled in
     let o = c.args.self.now in
-    let segments : c.as_slice.result.now ≡ c.args.segments.items = search rules in
-    let means = subst (λ (ss : List (List Command)). AreCompiled o.surface.size (cut_over o ss) (list ∷ [])) segments c.in_ok-compiled.ensures.compiled in
+    let means = c.in_ok-compiled.ensures.compiled in
     segments_kept o i.target c.draw_alone-drawn.new.target i.results (c.self.view_is ∙ c.compiled_segments.ensures.same)
-    (λ counts. counts.items) (cut_over o c.args.segments.items) (list ∷ []) c.draw_alone-drawn.result.0 c.keep.result c.keep.new.results means c.keep.ensures.kept
+    (λ counts. counts.items) (cut_over o c.args.segments.now) (list ∷ []) c.draw_alone-drawn.result.0 c.keep.result c.keep.new.results means c.keep.ensures.kept
     (ok_weaker (λ counts. ProgramsRan list i.target c.draw_alone-drawn.new.target counts.items) (λ _. AllRan (list ∷ []) i.target c.draw_alone-drawn.new.target) c.draw_alone-drawn.result.0
     (λ counts. one_ran list i.target c.draw_alone-drawn.new.target counts.items) c.draw_alone-drawn.ensures.ok)
 
@@ -38,9 +34,8 @@ returns-clause-memory g c =
     let i = c.self.inside in
     let list = c.in_ok-compiled.compiled in
     let o = c.args.self.now in
-    let segments : c.as_slice.result.now ≡ c.args.segments.items = search rules in
-    let means = subst (λ (ss : List (List Command)). AreCompiled o.surface.size (cut_over o ss) (list ∷ [])) segments c.in_ok-compiled.ensures.compiled in
-    let size = (can_run_behind o.surface.size (cut_over o c.args.segments.items) list [] means).0 in
+    let means = c.in_ok-compiled.ensures.compiled in
+    let size = (can_run_behind o.surface.size (cut_over o c.args.segments.now) list [] means).0 in
     kept_memory (λ counts. counts.items) [] o list i.target c.draw_alone-drawn.new.target i.results c.keep.new.results (c.self.view_is ∙ c.compiled_segments.ensures.same) size
     c.draw_alone-drawn.result.0 c.keep.result c.keep.ensures.kept c.draw_alone-drawn.ensures.memory
 
@@ -49,8 +44,7 @@ returns-clause-err g c =
     let i = c.self.inside in
     let list = c.in_ok-compiled.compiled in
     let o = c.args.self.now in
-    let segments : c.as_slice.result.now ≡ c.args.segments.items = search rules in
-    let means = subst (λ (ss : List (List Command)). AreCompiled o.surface.size (cut_over o ss) (list ∷ [])) segments c.in_ok-compiled.ensures.compiled in
-    let size = (can_run_behind o.surface.size (cut_over o c.args.segments.items) list [] means).0 in
+    let means = c.in_ok-compiled.ensures.compiled in
+    let size = (can_run_behind o.surface.size (cut_over o c.args.segments.now) list [] means).0 in
     kept_same (λ counts. counts.items) [] o list i.target c.draw_alone-drawn.new.target i.results c.keep.new.results (c.self.view_is ∙ c.compiled_segments.ensures.same) size
     c.draw_alone-drawn.result.0 c.keep.result c.keep.ensures.kept c.draw_alone-drawn.ensures.err

@@ -2,7 +2,7 @@ use Rattle.std.proofs.Common.{◌∙◌, []}
 use Rattle.tileprog.specs.Programs.{AllRan, lists_of}
 use Rattle.tileprog.specs.Several.{behind_it}
 use Rattle.tileprog.proofs.Several.{can_run_behind}
-use Rattle.immediate.specs.Batched.{cut_over}
+use Rattle.immediate.specs.Outputs.{cut_over}
 use Rattle.immediate.proofs.Runs.{output_kept, kept_same, kept_memory, bins_behind}
 use Rattle.immediate.proofs.Drawn.{segments_kept}
 use Rattle.immediate.proofs.output.Output.run_segments_by_crew.Goals as goal
@@ -12,7 +12,7 @@ invariant_of-self g c =
     let i = c.self.inside in
     let job = c.in_ok-job.job in
     let o = c.args.self.now in
-    let size = (can_run_behind o.surface.size (cut_over o c.args.segments.items) job.first (behind_it job.behind) c.in_ok-job.ensures.compiled).0 in
+    let size = (can_run_behind o.surface.size (cut_over o c.args.segments.now.items) job.first (behind_it job.behind) c.in_ok-job.ensures.compiled).0 in
     output_kept (λ counts. counts.items) [] o job.first i.target c.draw_by_crew-drawn.new.target i.results c.keep.new.results (c.self.view_is ∙ c.program_by_crew.ensures.same) size
     (λ _. AllRan (lists_of job) i.target c.draw_by_crew-drawn.new.target) (λ x ran. (ran.whole, ran.size))
     c.draw_by_crew-drawn.result.0 c.keep.result c.keep.new.bins c.keep.ensures.kept c.draw_by_crew-drawn.ensures.ran c.draw_by_crew-drawn.ensures.err c.self.invariant.whole c.self.invariant.many
@@ -24,14 +24,14 @@ returns-clause-ok g c =
     let job = c.in_ok-job.job in
     let o = c.args.self.now in
     segments_kept o i.target c.draw_by_crew-drawn.new.target i.results (c.self.view_is ∙ c.program_by_crew.ensures.same)
-    (λ counts. counts.items) (cut_over o c.args.segments.items) (lists_of job) c.draw_by_crew-drawn.result.0 c.keep.result c.keep.new.results c.in_ok-job.ensures.compiled c.keep.ensures.kept c.draw_by_crew-drawn.ensures.ran
+    (λ counts. counts.items) (cut_over o c.args.segments.now.items) (lists_of job) c.draw_by_crew-drawn.result.0 c.keep.result c.keep.new.results c.in_ok-job.ensures.compiled c.keep.ensures.kept c.draw_by_crew-drawn.ensures.ran
 
 pub returns-clause-memory : goal.returns-clause-memory
 returns-clause-memory g c =
     let i = c.self.inside in
     let job = c.in_ok-job.job in
     let o = c.args.self.now in
-    let size = (can_run_behind o.surface.size (cut_over o c.args.segments.items) job.first (behind_it job.behind) c.in_ok-job.ensures.compiled).0 in
+    let size = (can_run_behind o.surface.size (cut_over o c.args.segments.now.items) job.first (behind_it job.behind) c.in_ok-job.ensures.compiled).0 in
     kept_memory (λ counts. counts.items) [] o job.first i.target c.draw_by_crew-drawn.new.target i.results c.keep.new.results (c.self.view_is ∙ c.program_by_crew.ensures.same) size
     c.draw_by_crew-drawn.result.0 c.keep.result c.keep.ensures.kept c.draw_by_crew-drawn.ensures.memory
 
@@ -40,6 +40,6 @@ returns-clause-err g c =
     let i = c.self.inside in
     let job = c.in_ok-job.job in
     let o = c.args.self.now in
-    let size = (can_run_behind o.surface.size (cut_over o c.args.segments.items) job.first (behind_it job.behind) c.in_ok-job.ensures.compiled).0 in
+    let size = (can_run_behind o.surface.size (cut_over o c.args.segments.now.items) job.first (behind_it job.behind) c.in_ok-job.ensures.compiled).0 in
     kept_same (λ counts. counts.items) [] o job.first i.target c.draw_by_crew-drawn.new.target i.results c.keep.new.results (c.self.view_is ∙ c.program_by_crew.ensures.same) size
     c.draw_by_crew-drawn.result.0 c.keep.result c.keep.ensures.kept c.draw_by_crew-drawn.ensures.err
