@@ -35,7 +35,7 @@ make_from_index() {
     python3 -m venv "$environment" || return 1
     # (by the environment, so that it holds for what pip starts too)
     PIP_TIMEOUT=10 PIP_RETRIES=0 PIP_DISABLE_PIP_VERSION_CHECK=1 \
-        "$environment/bin/python" -m pip install --quiet "$here[tests]" >"$log" 2>&1
+        "$environment/bin/python" -m pip install --quiet "${here}[tests]" >"$log" 2>&1
 }
 
 as_root() {

@@ -13,6 +13,8 @@ const vm = require("vm");
 const { createHash } = require("crypto");
 
 const [module_, web, task, folder, ...names] = process.argv.slice(2);
+const numbers = path.join(web, "..", "python", "src", "yuzuratchet", "device.json");
+vm.runInThisContext(`const DEVICE = ${fs.readFileSync(numbers, "utf8")};`, { filename: numbers });
 for (const name of ["script", "targa", "planes", "device"]) {
     const file = path.join(web, `${name}.js`);
     vm.runInThisContext(fs.readFileSync(file, "utf8"), { filename: file });
@@ -80,7 +82,7 @@ function changes(device, name, bytes) {
 function areas(device, name, bytes) {
     const drawn = JSON.stringify(device.draw(bytes));
     const { status, lines, image } = device.drawInto(bytes, { lines: 1, image: 1 });
-    const [wanted, header] = [JSON.parse(drawn), vm.runInThisContext("HEADER_SIZE")];
+    const [wanted, header] = [JSON.parse(drawn), vm.runInThisContext("DEVICE.image.header_size")];
     if (status !== 2 || lines !== wanted.answers.length || image < header) throw new Error(`${name}: ${status} ${lines} ${image}`);
     const guess = vm.runInThisContext("imageSize");
     globalThis.imageSize = () => 1;

@@ -22,7 +22,8 @@ async function unpacked(id) {
 
 class Page {
     constructor(module, gallery, opening) {
-        const code = ["code-script", "code-targa", "code-planes", "code-device", "code-worker"].map((id) => part(id).textContent).join("\n");
+        const sources = ["code-script", "code-targa", "code-planes", "code-device", "code-worker"].map((id) => part(id).textContent);
+        const code = ['"use strict";', `const DEVICE = ${part("device").textContent};`, ...sources].join("\n");
         this.jobs = new Jobs(code, module, (state) => this.showWork(state));
         this.editor = new Editor(part("editor"), {
             onEdit: () => this.edited(), onLine: (line) => this.playTo(line), onCaret: () => this.showWord(),

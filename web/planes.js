@@ -3,7 +3,7 @@
 "use strict";
 
 const AT_ONCE = 1 << 17;
-const FARTHEST = 16777215;
+const FARTHEST = DEVICE.limits.deepest;
 
 /** {depth: Uint32Array, stencil: Uint8Array} behind a line, row by row. `progress(done, all)` is called on the way. */
 function planesBehind(draw, script, last, { width, height }, progress) {

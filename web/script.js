@@ -76,7 +76,7 @@ class Script {
         const found = [];
         for (let line = 2; line <= last; line++) {
             const [actor, word] = this.words(line);
-            if (actor === "i" && (word === "query" || word === "pixel")) found.push(line);
+            if (actor === "i" && ASKING.has(word)) found.push(line);
         }
         return found;
     }
@@ -131,10 +131,16 @@ function pixelsBehind(draw, script, last, { left, top, width, height }) {
     return answers.slice(answers.length - asked.length).map(pixelOf);
 }
 
-const DRAWING = new Set(["draw", "drawi", "clearc", "cleards", "exec"]);
-const STATES = new Set(["vb", "ib", "topology", "raster", "scissor", "ds", "blend", "predicate"]);
-const DEFAULT_STATE = "raster 3 0 0|scissor 0 0 0 0|ds 1 1 2 0 255 255 1 1 1 8 1 1 1 8 0|blend 0 4 15|predicate|vb|ib"
-    .split("|").map((line) => `i ${line}\n`).join("");
+/** The words that do one of these, as device.json says of each. */
+function wordsThat(...does) {
+    return new Set(Object.keys(DEVICE.words).filter((word) => does.includes(DEVICE.words[word].does)));
+}
+
+const DRAWING = wordsThat("draws", "executes");
+const STATES = wordsThat("sets");
+const ASKING = wordsThat("asks");
+const COUNTING = wordsThat("counts");
+const DEFAULT_STATE = DEVICE.default_state.map((line) => `i ${line}\n`).join("");
 
 /**
  * The lines that changed a pixel, up to a line, in order: [{line, by, text, before, after}].
@@ -179,7 +185,7 @@ function differs(a, b) {
 /** A line as it is played on the way to a question: one of the script's own asks nothing, but what is pending runs as it does there. */
 function played(script, line) {
     const [actor, word] = script.words(line);
-    const asks = actor === "i" && (word === "query" || word === "pixel");
+    const asks = actor === "i" && ASKING.has(word);
     return asks ? Script.bytesOf("i flush\n") : script.slice(line, line);
 }
 
@@ -202,7 +208,7 @@ function probed(script, last) {
         const [actor, word] = words;
         group.first = group.first || line;
         if (word === "finish") counts[actor] = [...(counts[actor] || []), line];
-        if (actor === "i" && !isPredicated && isQuery(word)) continue;
+        if (actor === "i" && !isPredicated && COUNTING.has(word)) continue;
         group.pieces.push(played(script, line));
         if (actor !== "i") continue;
         if (word === "begin") open.add(words[2]);
@@ -214,10 +220,6 @@ function probed(script, last) {
     group.pieces.push(endings([...open]));
     close();
     return groups;
-}
-
-function isQuery(word) {
-    return word === "begin" || word === "end";
 }
 
 function usesPredicate(script, last) {
@@ -245,7 +247,7 @@ function groupLines(script, group) {
     const last = group.lines[group.lines.length - 1];
     for (let line = group.first; line <= last; line++) {
         const words = script.words(line);
-        if (words[0] === "i" && isQuery(words[1])) continue;
+        if (words[0] === "i" && COUNTING.has(words[1])) continue;
         lines.push({ line, piece: played(script, line), draws: words[0] === "i" && DRAWING.has(words[1]) });
     }
     return { setup: [], lines };
@@ -269,7 +271,7 @@ function listLines(script, group) {
         if (word === "finish") {
             kept = argument === "1" ? [...kept, ...lines.filter((it) => it.sets)] : [];
             lines = [];
-        } else if (!isQuery(word)) {
+        } else if (!COUNTING.has(word)) {
             const piece = Script.bytesOf(`i${script.text(line).slice(context.length)}\n`);
             lines.push({ line, piece, draws: DRAWING.has(word), sets: STATES.has(word) });
         }

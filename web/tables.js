@@ -1,8 +1,9 @@
 // What the page shows of a script's words and of the device's numbers, and small makers of elements. The tables come from the Python
-// package, as build_page writes them into the page.
+// package, as build_page writes them into the page: DEVICE is its device.json, TABLES has its texts.
 
 "use strict";
 
+const DEVICE = JSON.parse(document.getElementById("device").textContent);
 const TABLES = JSON.parse(document.getElementById("tables").textContent);
 
 /** An element with properties and children. */
@@ -16,7 +17,7 @@ function element(tag, properties = {}, ...children) {
 /** What a number of a refused line means: {kind, when, advice}. */
 function meaningOf(number) {
     const unknown = { when: `the number ${number} has no meaning here`, advice: "" };
-    return { kind: number > 100 ? "fault" : "refusal", ...(TABLES.messages[number] || unknown) };
+    return { kind: number in DEVICE.faults ? "fault" : "refusal", ...(TABLES.messages[number] || unknown) };
 }
 
 /** Text in which `these signs` are shown as code. */
@@ -41,13 +42,11 @@ function wordHelp({ text, column, line }) {
 
 /** What an argument may be, and what the one that stands there is. */
 function valueHelp(word, named, text) {
-    const { name, range, values } = word.arguments[named];
+    const { name, range, values, unit: [parts, of] = [] } = word.arguments[named];
     const shown = Object.entries(values).map(([value, meaning]) => element(value === text ? "b" : "span", {}, `${value} ${meaning}`));
     if (shown.length) return [`${name}: `, ...shown.flatMap((it, at) => (at ? [", ", it] : [it]))];
-    // (the arguments of `pixel` are whole pixels)
-    const [unit, of] = (word.name !== "pixel" && TABLES.units[name]) || [];
-    if (!unit || !/^-?[0-9]+$/.test(text || "")) return [`${name} is ${range}`];
-    return [`${name}: ${text} is ${(Number(text) / unit).toFixed(4).replace(/\.?0+$/, "")} ${of}`];
+    if (!parts || !/^-?[0-9]+$/.test(text || "")) return [`${name} is ${range}`];
+    return [`${name}: ${text} is ${(Number(text) / parts).toFixed(4).replace(/\.?0+$/, "")} ${of}`];
 }
 
 /** All words, with what stands behind each. */
@@ -72,7 +71,7 @@ function colourShown([red, green, blue, alpha]) {
 
 /** What a pixel holds. */
 function pixelShown({ x, y, colour, depth, stencil }) {
-    const facts = [["colour", colourShown(colour)], ["depth", [`${depth} (${(depth / 16777215).toFixed(4)})`]], ["stencil", [String(stencil)]]];
+    const facts = [["colour", colourShown(colour)], ["depth", [`${depth} (${(depth / DEVICE.limits.deepest).toFixed(4)})`]], ["stencil", [String(stencil)]]];
     const list = element("dl", { className: "facts mono" });
     list.append(element("div", {}, element("dt", {}, `(${x}, ${y})`)));
     for (const [name, value] of facts) list.append(element("div", {}, element("dt", {}, `${name} `), element("dd", {}, ...value)));

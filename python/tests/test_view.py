@@ -14,6 +14,7 @@ from conftest import DATA, TOP
 
 from yuzuratchet import page
 from yuzuratchet.cli import main
+from yuzuratchet.device import DEVICE
 from yuzuratchet.errors import PageMissing
 from yuzuratchet.messages import FAULTS, REFUSALS
 from yuzuratchet.words import WORDS
@@ -70,6 +71,7 @@ def test_numbers_and_words_are_those_of_the_package(built: str) -> None:
         assert tables["messages"][str(number)] == {"when": message.when, "advice": message.advice}
     assert set(tables["words"]) == {"target", *WORDS}
     assert tables["words"]["vb"]["repeats"] and not tables["words"]["draw"]["repeats"]
+    assert json.loads(element(built, "device")) == DEVICE
     alpha = {"name": "alpha", "range": "0 to 255", "values": {}}
     assert tables["words"]["clearc"]["arguments"][3] == alpha
     named = {
@@ -87,7 +89,8 @@ def test_numbers_and_words_are_those_of_the_package(built: str) -> None:
     )
     assert named["topology", "topology"] == {"4": "TRIANGLELIST", "5": "TRIANGLESTRIP"}
     assert len(named) == 9
-    assert tables["units"]["x"] == [65_536, "pixels"]
+    assert tables["words"]["vb"]["arguments"][0]["unit"] == [65_536, "pixels"]
+    assert "unit" not in tables["words"]["pixel"]["arguments"][0]
     actors = {name: word["actors"] for name, word in tables["words"].items()}
     assert (actors["target"], actors["vb"]) == ("line 1", "i, d0 to d7")
     assert (actors["finish"], actors["exec"]) == ("d0 to d7", "i")

@@ -9,7 +9,7 @@ import pytest
 from conftest import TOP
 
 from yuzuratchet.errors import ArgumentError
-from yuzuratchet.limits import DEFERRED_CONTEXTS
+from yuzuratchet.limits import DEFERRED_CONTEXTS, LIMITS
 from yuzuratchet.messages import FAULTS, REFUSALS, message_of
 from yuzuratchet.words import ACTORS, DEFERRED, TARGET, WORDS
 
@@ -47,6 +47,33 @@ def test_the_page_has_the_ranges(name: str) -> None:
 def test_the_page_has_the_messages(section: str, messages: dict) -> None:
     page = {int(number): {"when": when, "advice": advice} for number, when, advice in rows(section)}
     assert page == {number: asdict(message) for number, message in messages.items()}
+
+
+@pytest.mark.parametrize(
+    ("of", "names"),
+    [
+        ("a side of the target", ["target_side"]),
+        ("x and y of a vertex", ["farthest", "farthest", "farthest_pixel"]),
+        ("a depth", ["deepest"]),
+        ("a scissor rectangle", ["target_side"]),
+        ("a buffer", ["buffer_length", "buffer_length"]),
+        ("a list, and the pending commands", ["list_commands", "list_triangles", "list_issues"]),
+        ("queries", ["queries"]),
+        ("deferred contexts", ["deferred_contexts"]),
+    ],
+)
+def test_the_page_has_the_limits(of: str, names: list[str]) -> None:
+    limit = dict(rows("Limits"))[of]
+    assert [int(it) for it in re.findall(r"\d+", limit) if int(it) > 1][: len(names)] == [
+        LIMITS[name] for name in names
+    ]
+
+
+def test_the_advice_counts_the_arguments() -> None:
+    counts = {"seven": 7, "three": 3, "fifteen": 15}
+    for word, count in re.findall(r"`(\w+)` (?:takes )?(\w+)", FAULTS[105].advice):
+        if count in counts:
+            assert len(WORDS[word].arguments) - (word == "raster") == counts[count]
 
 
 def test_a_number_without_a_meaning() -> None:

@@ -11,6 +11,7 @@ from functools import lru_cache
 from pathlib import Path
 from typing import Final
 
+from .device import DEVICE
 from .errors import LibraryMissing, ProgramFailed
 from .limits import TARGET_SIDE
 from .program import Ran, named_file
@@ -22,18 +23,20 @@ FOLDERS: Final = (Path.home() / ".local" / "lib", Path("/usr/local/lib"))
 
 OLDEST: Final = 300
 
-DONE, REFUSED, LINES_TOO_SMALL, IMAGE_TOO_SMALL, NO_MEMORY = range(5)
+STATUS: Final[dict[str, int]] = DEVICE["library"]["statuses"]
+DONE, REFUSED = STATUS["done"], STATUS["refused"]
+TOO_SMALL: Final = (STATUS["lines_too_small"], STATUS["image_too_small"])
 STATUSES: Final = {
-    NO_MEMORY: "memory for the answer lines or the image was refused",
-    5: "a pointer is null",
-    6: "an area is empty",
-    7: "an area is too large",
-    8: "two areas overlap",
+    STATUS["no_memory"]: "memory for the answer lines or the image was refused",
+    STATUS["null_pointer"]: "a pointer is null",
+    STATUS["empty_area"]: "an area is empty",
+    STATUS["size_too_large"]: "an area is too large",
+    STATUS["overlap"]: "two areas overlap",
 }
 
-HEADER_SIZE: Final = 18
-# the longest answer line, `pixel` with its numbers, has 46 bytes
-LINE_SIZE: Final = 64
+HEADER_SIZE: Final[int] = DEVICE["image"]["header_size"]
+PIXEL_SIZE: Final[int] = DEVICE["image"]["pixel_size"]
+LINE_SIZE: Final[int] = DEVICE["answers"]["longest_line"]
 
 HOW_TO_BUILD: Final = f"""\
 The library is built in a clone of the repository, where the toolchain is, and installed into a folder:
@@ -122,7 +125,7 @@ def run_library(script: bytes, *, library: str | Path | None = None) -> Ran:
         if status in (DONE, REFUSED):
             answers = ctypes.string_at(lines, report.lines_size).decode("ascii")
             return Ran(status, answers, ctypes.string_at(image, report.image_size))
-        if status not in (LINES_TOO_SMALL, IMAGE_TOO_SMALL):
+        if status not in TOO_SMALL:
             raise ProgramFailed(
                 f"the library draws nothing: {STATUSES.get(status, f'status {status}')}"
             )
@@ -136,4 +139,4 @@ def _image_size(script: bytes) -> int:
     sides = [int(it) if it.isdigit() and len(it) <= 4 else 0 for it in words[1:]]
     if words[0] != b"target" or len(sides) != 2 or max(sides) > TARGET_SIDE:
         return HEADER_SIZE
-    return HEADER_SIZE + 4 * sides[0] * sides[1]
+    return HEADER_SIZE + PIXEL_SIZE * sides[0] * sides[1]

@@ -12,22 +12,14 @@ import html
 import json
 import re
 from dataclasses import asdict, dataclass
-from enum import IntEnum, IntFlag
 from pathlib import Path
 from typing import Final
 
+from .device import DEVICE
 from .errors import PageMissing
-from .limits import DEEPEST, SUBPIXELS
+from .limits import LIMITS
 from .messages import FAULTS, REFUSALS
 from .program import named_file, repository
-from .states import (
-    ColorWriteEnable,
-    ComparisonFunc,
-    CullMode,
-    LogicOp,
-    PrimitiveTopology,
-    StencilOp,
-)
 from .words import TARGET, WORDS, Argument, Word
 
 VARIABLE: Final = "YUZURATCHET_PAGE"
@@ -38,12 +30,6 @@ FOR_THE_WORKER: Final = ("script", "targa", "planes", "device", "worker")
 
 FOR_THE_PAGE: Final = ("tables", "jobs", "editor", "view", "page")
 """Sources that run in the page, in this order."""
-
-UNITS: Final = {
-    **{name: [SUBPIXELS, "pixels"] for name in ("x", "y")},
-    **{name: [DEEPEST, "of the depth"] for name in ("z", "depth")},
-}
-"""Of some arguments, what they count in parts."""
 
 HOW_TO_BUILD: Final = f"""\
 The page is built in a clone of the repository, of its sources and the WebAssembly module:
@@ -83,7 +69,8 @@ def build_page(sources: Path, module: bytes, gallery: list[Entry], opening: str)
     style = f"<style>\n{(sources / 'style.css').read_text(encoding='utf-8')}</style>"
     menu = json.dumps([asdict(entry) for entry in gallery]).encode("ascii")
     data = [
-        _json("tables", {"messages": message_table(), "words": word_table(), "units": UNITS}),
+        _json("device", DEVICE),
+        _json("tables", {"messages": message_table(), "words": word_table()}),
         _json("opening", {"name": opening, "text": ""}),
         _packed("gallery", menu),
         _packed("module", module),
@@ -124,23 +111,13 @@ def word_table() -> dict[str, dict[str, object]]:
     return {word.name: _word(word) for word in (TARGET, *WORDS.values())}
 
 
-def _kind(name: str) -> type[IntEnum] | type[IntFlag] | None:
-    """The enumeration of an argument's values."""
-    kinds = {"topology": PrimitiveTopology, "cull_mode": CullMode, "logic_op": LogicOp}
-    if name in kinds:
-        return kinds[name]
-    if name == "write_mask":
-        return ColorWriteEnable
-    return next((kind for end, kind in _ENDS.items() if name.endswith(end)), None)
-
-
-_ENDS: Final[dict[str, type[IntEnum]]] = {"_func": ComparisonFunc, "_op": StencilOp}
-
-
 def _argument(argument: Argument) -> dict[str, object]:
-    kind = _kind(argument.name)
-    values = {str(int(it)): it.name for it in kind.__members__.values()} if kind else {}
-    return {"name": argument.name, "range": argument.range, "values": values}
+    values = {str(value): name for name, value in argument.names.items()}
+    told: dict[str, object] = {"name": argument.name, "range": argument.range, "values": values}
+    if argument.unit:
+        parts, of = argument.unit
+        return {**told, "unit": [LIMITS[parts], of]}
+    return told
 
 
 def _word(word: Word) -> dict[str, object]:

@@ -1,4 +1,4 @@
-"""The table of the words of a script: who may use each, and which numbers stand behind it.
+"""The table of the words of a script, from device.json: who uses each, which numbers it takes.
 
 A number outside the range that stands here is a fault of the script. What a call takes is often
 less (:mod:`yuzuratchet.limits`): a number beyond that is a refusal of the line.
@@ -6,16 +6,16 @@ less (:mod:`yuzuratchet.limits`): a number beyond that is a refusal of the line.
 
 from __future__ import annotations
 
-from dataclasses import dataclass
-from typing import Final
+from dataclasses import dataclass, field
+from typing import Any, Final
 
+from .device import DEVICE
 from .errors import ArgumentError
-from .limits import DEFERRED_CONTEXTS
 
-IMMEDIATE: Final = "i"
+IMMEDIATE: Final[str] = DEVICE["actors"]["immediate"]
 """The actor that is the immediate context."""
 
-DEFERRED: Final = tuple(f"d{number}" for number in range(DEFERRED_CONTEXTS))
+DEFERRED: Final[tuple[str, ...]] = tuple(DEVICE["actors"]["deferred"])
 """The actors that are deferred contexts, in the order of their numbers."""
 
 ACTORS: Final = (IMMEDIATE, *DEFERRED)
@@ -26,7 +26,9 @@ class Argument:
     """A number of a line: its name and its range, both ends included.
 
     A context (``is_context``) is a number too, and is spelled as the actor that it names. Where
-    ``but_zero`` is True the range leaves 0 out.
+    ``but_zero`` is True the range leaves 0 out. ``names`` are Direct3D's names of some numbers.
+    ``unit`` has the limit that makes one of what it counts, and what that is: of a coordinate
+    ``("subpixels", "pixels")``.
     """
 
     name: str
@@ -34,6 +36,8 @@ class Argument:
     most: int
     is_context: bool = False
     but_zero: bool = False
+    names: dict[str, int] = field(default_factory=dict, hash=False)
+    unit: tuple[str, str] | None = None
 
     def takes(self, value: int) -> bool:
         """Whether a script can have this value here."""
@@ -106,98 +110,24 @@ class Word:
             raise ArgumentError(argument.name, f"{values[place]} is not in {argument.range}")
 
 
-_SIGNED: Final = (-2_147_483_648, 2_147_483_647)
+def _argument(name: str, kind: str) -> Argument:
+    found: dict[str, Any] = dict(DEVICE["kinds"][kind])
+    if "unit" in found:
+        found["unit"] = tuple(found["unit"])
+    return Argument(name, **found)
 
 
-def _unsigned(*names: str) -> tuple[Argument, ...]:
-    return tuple(Argument(name, 0, 4_294_967_295) for name in names)
+def _word(name: str, row: dict[str, Any]) -> Word:
+    arguments = tuple(_argument(it, kind) for it, kind in row["arguments"].items())
+    counts = None if row.get("repeats") else tuple(row.get("counts", [len(arguments)]))
+    of = row["of"] or ["immediate", "deferred"]
+    return Word(name, arguments, "immediate" in of, "deferred" in of, counts)
 
 
-def _signed(*names: str) -> tuple[Argument, ...]:
-    return tuple(Argument(name, *_SIGNED) for name in names)
-
-
-def _byte(*names: str) -> tuple[Argument, ...]:
-    return tuple(Argument(name, 0, 255) for name in names)
-
-
-def _flag(*names: str) -> tuple[Argument, ...]:
-    return tuple(Argument(name, 0, 1) for name in names)
-
-
-def _from_1_to_8(*names: str) -> tuple[Argument, ...]:
-    return tuple(Argument(name, 1, 8) for name in names)
-
-
-def _face(side: str) -> tuple[Argument, ...]:
-    names = ("stencil_fail_op", "stencil_depth_fail_op", "stencil_pass_op", "stencil_func")
-    return _from_1_to_8(*(f"{side}.{name}" for name in names))
-
-
-def _word(name: str, *arguments: Argument, counts: tuple[int, ...] | None = None) -> Word:
-    return Word(name, arguments, counts=counts or (len(arguments),))
-
-
-def _of_deferred(name: str, *arguments: Argument) -> Word:
-    return Word(name, arguments, immediate=False, counts=(len(arguments),))
-
-
-def _of_immediate(name: str, *arguments: Argument) -> Word:
-    return Word(name, arguments, deferred=False, counts=(len(arguments),))
-
-
-_COLOUR = _byte("red", "green", "blue", "alpha")
-
-TARGET: Final = _word("target", *_unsigned("width", "height"))
+TARGET: Final = _word("target", DEVICE["words"]["target"])
 """The word of the first line, which has no actor."""
 
 WORDS: Final = {
-    word.name: word
-    for word in (
-        Word("vb", (*_signed("x", "y"), *_unsigned("z"), *_COLOUR)),
-        Word("ib", (Argument("index", 0, 65_535),)),
-        _word("topology", Argument("topology", 4, 5)),
-        _word(
-            "raster",
-            Argument("cull_mode", 1, 3),
-            *_flag("front_counter_clockwise", "scissor_enable"),
-            Argument("depth_bias", *_SIGNED, but_zero=True),
-            counts=(3, 4),
-        ),
-        _word("scissor", *_unsigned("left", "top", "right", "bottom")),
-        _word(
-            "ds",
-            *_flag("depth_enable", "depth_write"),
-            *_from_1_to_8("depth_func"),
-            *_flag("stencil_enable"),
-            *_byte("stencil_read_mask", "stencil_write_mask"),
-            *_face("front_face"),
-            *_face("back_face"),
-            *_byte("stencil_ref"),
-        ),
-        _word(
-            "blend",
-            *_flag("logic_op_enable"),
-            Argument("logic_op", 0, 15),
-            Argument("write_mask", 0, 15),
-        ),
-        _word("predicate", *_unsigned("query"), *_flag("value"), counts=(0, 2)),
-        _word("draw", *_unsigned("count", "start")),
-        _word("drawi", *_unsigned("count", "start"), *_signed("base")),
-        _word("clearc", *_COLOUR),
-        _word("cleards", *_unsigned("depth"), *_byte("stencil")),
-        _word("begin", *_unsigned("query")),
-        _word("end", *_unsigned("query")),
-        _of_deferred("finish", *_flag("restore")),
-        _of_immediate(
-            "exec",
-            Argument("context", 0, DEFERRED_CONTEXTS - 1, is_context=True),
-            *_unsigned("list"),
-            *_flag("restore"),
-        ),
-        _of_immediate("flush"),
-        _of_immediate("query", *_unsigned("query")),
-        _of_immediate("pixel", *_unsigned("x", "y")),
-    )
+    name: _word(name, row) for name, row in DEVICE["words"].items() if name != TARGET.name
 }
 """The words of all later lines by their names, in the order of docs/SCRIPT.md."""
