@@ -10,6 +10,7 @@ import re
 from enum import IntEnum, IntFlag
 from pathlib import Path
 
+import plain_device
 import pytest
 from conftest import TOP
 
@@ -336,3 +337,41 @@ def test_no_other_file_of_the_page_has_these_numbers() -> None:
 
 def uncommented(path: Path) -> str:
     return re.sub(r"/\*.*?\*/|//[^\n]*", "", path.read_text(encoding="utf-8"), flags=re.S)
+
+
+def test_what_words_do() -> None:
+    said = {
+        "target": "begins",
+        "finish": "finishes",
+        "exec": "executes",
+        "flush": "runs",
+        "query": "asks",
+        "pixel": "asks",
+    }
+    said |= dict.fromkeys(("begin", "end"), "counts")
+    said |= dict.fromkeys(("draw", "drawi", "clearc", "cleards"), "draws")
+    said |= dict.fromkeys((line.split()[0] for line in DEVICE["default_state"]), "sets") | {
+        "topology": "sets"
+    }
+    assert {word: row["does"] for word, row in WORDS.items()} == said
+
+
+def test_kinds_of_numbers() -> None:
+    """What of the kinds no range of scenetext says."""
+    assert KINDS["coordinate"]["unit"] == ["subpixels", "pixels"]
+    assert KINDS["depth"]["unit"] == ["deepest", "of the depth"]
+    contexts = range(KINDS["context"]["least"], KINDS["context"]["most"] + 1)
+    assert [f"d{at}" for at in contexts] == DEVICE["actors"]["deferred"] and KINDS["context"][
+        "is_context"
+    ]
+    assert KINDS["bias"] == {**KINDS["signed"], "but_zero": True}
+
+
+def test_the_sizes_of_an_image() -> None:
+    page = (TOP / "docs" / "SCRIPT.md").read_text(encoding="utf-8")
+    image = DEVICE["image"]
+    assert f"{image['header_size']} + {image['pixel_size']} * width * height bytes" in page
+    assert (
+        len(plain_device.evaluate(b"target 3 2\n")[1])
+        == image["header_size"] + 6 * image["pixel_size"]
+    )
