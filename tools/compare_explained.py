@@ -1,50 +1,62 @@
 #!/usr/bin/env python3
-"""Asks `yuzuratchet explain` about random pixels of random scenes, and tools/plain_device.py too, and tells the first difference.
+"""Asks `yuzuratchet explain` about random pixels of random scenes, and tools/plain_device.py too, and tells the first
+difference.
 
     tools/compare_explained.py [PIXELS [SEED]] [--program FILE]
 
-What is compared is each step: the line, the line that executed it, the triangle, what became of the pixel and by which test, its
-depth there, and colour, depth and stencil behind it. tools/random_scenes.py says what the scenes are; those that are refused
-are left out. A scene that differs is left in differs.txt.
+What is compared is each step: the line, the line that executed it, the triangle, what became of the pixel and by
+which test, its depth there, and colour, depth and stencil behind it. tools/random_scenes.py says what the scenes are;
+those that are refused are left out. A scene that differs is left in differs.txt.
 """
+
+from __future__ import annotations
 
 import argparse
 import pathlib
 import random
 import sys
+from collections.abc import Iterable
+from typing import Optional
 
 import package_path  # noqa: F401
 import plain_device
 import random_scenes
-from yuzuratchet import YuzuratchetError
+from plain_device import Triangle
+from yuzuratchet import Scene, YuzuratchetError
 from yuzuratchet.arguments import whole_number
 from yuzuratchet.errors import CallRefused
 from yuzuratchet.explain import explain
-from yuzuratchet.explanation import Outcome
+from yuzuratchet.explanation import Explanation, Outcome
+from yuzuratchet.recording import CommandItems, Item, State
 
 PIXELS_OF_A_SCENE = 5
+
+Place = tuple[int, int]
+Held = tuple[tuple[int, ...], int, int]
+# line, the line that executed it, triangle, depth, outcome, and what the pixel holds behind it
+Noted = tuple[int, Optional[int], Optional[int], Optional[int], Outcome, Held]
 
 
 class Traced(plain_device.PlainSession):
     """A plain session that notes each step of some pixels, while it draws the whole target."""
 
-    def __init__(self, scene, pixels):
+    def __init__(self, scene: Scene, pixels: Iterable[Place]) -> None:
         super().__init__(scene.width, scene.height)
-        self.steps = {pixel: [] for pixel in pixels}
+        self.steps: dict[Place, list[Noted]] = {pixel: [] for pixel in pixels}
         self.take_all(scene.lines)
 
-    def perform(self, number, commands, is_list):
+    def perform(self, number: int, commands: CommandItems, is_list: bool) -> None:
         self.executed_by = number if is_list else None
         super().perform(number, commands, is_list)
 
-    def is_withheld(self, item, counts):
+    def is_withheld(self, item: Item, counts: dict[int, int]) -> bool:
         withheld = super().is_withheld(item, counts)
         if withheld:
             for pixel in self.steps:
                 self.note_withheld(item, pixel)
         return withheld
 
-    def note_withheld(self, item, pixel):
+    def note_withheld(self, item: Item, pixel: Place) -> None:
         if item.line.word.startswith("clear"):
             self.note(item, pixel, None, None, Outcome.LEFT_OUT)
             return
@@ -53,10 +65,10 @@ class Traced(plain_device.PlainSession):
             if weights:
                 self.note(item, pixel, number, triangle.depth(weights), Outcome.LEFT_OUT)
 
-    def weights(self, triangle, pixel):
+    def weights(self, triangle: Triangle, pixel: Place) -> list[int] | None:
         return triangle.weights(*pixel) if triangle.area else None
 
-    def perform_item(self, item):
+    def perform_item(self, item: Item) -> int:
         if item.line.word.startswith("clear"):
             super().perform_item(item)
             for pixel in self.steps:
@@ -71,7 +83,7 @@ class Traced(plain_device.PlainSession):
                 self.note(item, pixel, number, triangle.depth(weights), outcome)
         return passed
 
-    def outcome(self, state, triangle, pixel, weights):
+    def outcome(self, state: State, triangle: Triangle, pixel: Place, weights: list[int]) -> Outcome:
         """What becomes of a covered pixel: the first test that refuses it."""
         if triangle.is_culled(state.rasterizer):
             return Outcome.CULLED
@@ -84,13 +96,13 @@ class Traced(plain_device.PlainSession):
             return Outcome.STENCIL_FAILED
         return Outcome.DRAWN if depth_passes else Outcome.DEPTH_FAILED
 
-    def note(self, item, pixel, triangle, depth, outcome):
+    def note(self, item: Item, pixel: Place, triangle: int | None, depth: int | None, outcome: Outcome) -> None:
         self.steps[pixel].append((item.number, self.executed_by, triangle, depth, outcome, self.target.pixel(*pixel)))
 
 
-def told(explanation):
+def told(explanation: Explanation) -> list[Noted]:
     """The steps of an explanation, in the form in which a plain session notes them."""
-    steps = []
+    steps: list[Noted] = []
     for it in explanation.steps:
         after = (it.after.colour, it.after.depth, it.after.stencil)
         triangle, depth = (it.covering.triangle, it.covering.depth) if it.covering else (None, None)
@@ -98,7 +110,7 @@ def told(explanation):
     return steps
 
 
-def compare_scene(chance, scene, program):
+def compare_scene(chance: random.Random, scene: Scene, program: str | pathlib.Path | None) -> tuple[int, int] | None:
     """Compares some pixels of a scene; gives how many, or None where the scene is refused."""
     pixels = {(chance.randrange(scene.width), chance.randrange(scene.height)) for _ in range(PIXELS_OF_A_SCENE)}
     try:
@@ -116,7 +128,7 @@ def compare_scene(chance, scene, program):
     return len(pixels), steps
 
 
-def compare(given):
+def compare(given: argparse.Namespace) -> None:
     chance, number, pixels, steps = random.Random(given.seed), 0, 0, 0
     while pixels < given.pixels:
         found = compare_scene(chance, random_scenes.random_scene(chance, number, asked=0), given.program)
@@ -126,9 +138,11 @@ def compare(given):
     print(f"{pixels} pixels of {number} scenes are explained as the plain evaluation draws them, in {steps} steps")
 
 
-def main():
+def main() -> None:
     parser = argparse.ArgumentParser(description=__doc__, formatter_class=argparse.RawDescriptionHelpFormatter)
-    parser.add_argument("pixels", metavar="PIXELS", nargs="?", type=whole_number(1), default=100, help="how many at least (100)")
+    parser.add_argument(
+        "pixels", metavar="PIXELS", nargs="?", type=whole_number(1), default=100, help="how many at least (100)"
+    )
     parser.add_argument("seed", metavar="SEED", nargs="?", type=int, default=1, help="of the random numbers (1)")
     parser.add_argument("--program", metavar="FILE", help="the built program, if it isn't this clone's")
     given = parser.parse_args()

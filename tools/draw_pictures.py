@@ -3,35 +3,57 @@
 
     tools/draw_pictures.py [NAME ..] [--folder FOLDER] [--program FILE]
 
-The pictures are opaque, since the targets' alpha is 0 where nobody drew it. One whose target is wider than 1,024 pixels is made
-smaller, and two-faced-count has a legend of its counts. Pillow and numpy are wanted.
+The pictures are opaque, since the targets' alpha is 0 where nobody drew it. One whose target is wider than 1,024
+pixels is made smaller, and two-faced-count has a legend of its counts. Pillow and numpy are wanted.
 """
+
+from __future__ import annotations
 
 import argparse
 import pathlib
 import sys
+from typing import TYPE_CHECKING
 
 import make_examples
 import package_path
 from yuzuratchet import YuzuratchetError, load_script, run
 
+if TYPE_CHECKING:
+    from yuzuratchet.images import Pixels
+
 NAMES = [
-    "fan", "shared-edges", "pile", "slivers", "far", "large", "ribbon", "mesh", "bowl", "shadow-volumes", "two-faced-count",
-    "logic-operations", "eight-contexts", "lamps", "decals",
+    "fan",
+    "shared-edges",
+    "pile",
+    "slivers",
+    "far",
+    "large",
+    "ribbon",
+    "mesh",
+    "bowl",
+    "shadow-volumes",
+    "two-faced-count",
+    "logic-operations",
+    "eight-contexts",
+    "lamps",
+    "decals",
 ]
 FOLDER = package_path.TOP / "docs" / "pictures"
 WIDEST = 1024
 SWATCH = 24
 
 
-def with_legend(pixels):
+def with_legend(pixels: Pixels) -> Pixels:
     """The picture of two-faced-count, twice as large, over a row of its colours with the counts that they stand for."""
     import numpy as np
     from PIL import Image, ImageDraw
     from yuzuratchet.images import scaled
 
     # (what has a greater count keeps the background)
-    labels = {**{str(count): colour for count, colour in enumerate(make_examples.COUNT_COLOURS)}, "7+": make_examples.BACKGROUND}
+    labels = {
+        **{str(count): colour for count, colour in enumerate(make_examples.COUNT_COLOURS)},
+        "7+": make_examples.BACKGROUND,
+    }
     large = scaled(pixels, 2)
     width = large.shape[1]
     step = width // (2 * len(labels))
@@ -45,7 +67,7 @@ def with_legend(pixels):
     return np.concatenate([large, scaled(np.asarray(row), 2)])
 
 
-def picture(name, program):
+def picture(name: str, program: str | None) -> Pixels:
     """The picture of an example."""
     from yuzuratchet.images import opaque, scaled
 
@@ -56,10 +78,12 @@ def picture(name, program):
     return scaled(pixels, WIDEST / pixels.shape[1]) if pixels.shape[1] > WIDEST else pixels
 
 
-def main():
+def main() -> None:
     parser = argparse.ArgumentParser(description=__doc__, formatter_class=argparse.RawDescriptionHelpFormatter)
     parser.add_argument("names", metavar="NAME", nargs="*", help=f"of {', '.join(NAMES)}; without one, all")
-    parser.add_argument("--folder", type=pathlib.Path, default=FOLDER, help="where the pictures are written (docs/pictures)")
+    parser.add_argument(
+        "--folder", type=pathlib.Path, default=FOLDER, help="where the pictures are written (docs/pictures)"
+    )
     parser.add_argument("--program", metavar="FILE", help="the built program, if it isn't this clone's")
     given = parser.parse_args()
     unknown = [it for it in given.names if it not in NAMES]

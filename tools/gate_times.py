@@ -1,24 +1,33 @@
 #!/usr/bin/env python3
-"""Runs the gate, looks every half second at its processes, and prints what each crate and each edit took of the processors:
+"""Runs the gate, looks every half second at its processes, and prints what each crate and each edit took of the
+processors:
 
     tools/gate_times.py [COMMAND ..]
 
-Without a command it runs `rt ci`; another one, such as `rt all check --jobs 4`, is looked at in the same way.
-The first table has for each crate the processor seconds of its proof, of its tests, of the seed of its edits (the proof that they begin with, and
-a look at it behind them) and of its edits; what compiling and linking took is in no row. Behind it stand the edits that took longest. What
-the command itself prints goes to standard error."""
+Without a command it runs `rt ci`; another one, such as `rt all check --jobs 4`, is looked at in the same way. The
+first table has for each crate the processor seconds of its proof, of its tests, of the seed of its edits (the proof
+that they begin with, and a look at it behind them) and of its edits; what compiling and linking took is in no row.
+Behind it stand the edits that took longest. What the command itself prints goes to standard error.
+"""
+from __future__ import annotations
+
 import argparse
 import collections
 import os
 import subprocess
 import sys
 import time
+from typing import Any
 
 TICKS = os.sysconf("SC_CLK_TCK")
+# by a process and when it started: the crate that it checks, the kind of the check, the edit's number, and the
+# seconds
+Checks = dict[tuple[str, Any], list[Any]]
+
 CRATES = os.path.join(os.path.dirname(os.path.dirname(os.path.abspath(__file__))), "crates")
 
 
-def read(path):
+def read(path: str) -> bytes:
     """Returns the bytes of a file of /proc, or none where its process has ended."""
     try:
         with open(path, "rb") as file:
@@ -27,13 +36,13 @@ def read(path):
         return b""
 
 
-def seen(process):
+def seen(process: str) -> tuple[bytes | None, float]:
     """Returns when a process started, and its processor seconds."""
     fields = read(f"/proc/{process}/stat").rpartition(b")")[2].split()
     return (fields[19], (int(fields[11]) + int(fields[12])) / TICKS) if fields else (None, 0)
 
 
-def check_of(process):
+def check_of(process: str) -> tuple[str, str, int | None] | None:
     """Returns the crate that a process checks, the kind of its check, and for an edit its number; or None."""
     words = read(f"/proc/{process}/cmdline").decode(errors="replace").split("\0")
     if os.path.basename(words[0]) != "rattle" or "--crate-name" not in words:
@@ -49,7 +58,7 @@ def check_of(process):
     return words[words.index("--crate-name") + 1], kind, int(over) if kind == "edits" and over.isdigit() else None
 
 
-def sample(checks):
+def sample(checks: Checks) -> None:
     """Adds the processes that are there to those that were seen."""
     for process in filter(str.isdigit, os.listdir("/proc")):
         started, seconds = seen(process)
@@ -61,34 +70,46 @@ def sample(checks):
             checks[process, started][3] = seconds
 
 
-def edits_of(crate, checks):
+def edits_of(crate: str, checks: Checks) -> list[tuple[float, str]]:
     """Returns the seconds and names of a crate's edits; the gate numbers them in the order of their names."""
-    spent = collections.Counter()
+    spent: collections.Counter[int | None] = collections.Counter()
     for name, kind, number, seconds in checks.values():
         if (name, kind) == (crate, "edits"):
             spent[number] += seconds
     names = [it for it in sorted(os.listdir(f"{CRATES}/{crate}/must-fail")) if it.endswith(".edit")]
-    return [(seconds, f"{crate}/{'its edits in turn' if number is None else names[number]}") for number, seconds in spent.items()]
+    return [
+        (seconds, f"{crate}/{'its edits in turn' if number is None else names[number]}")
+        for number, seconds in spent.items()
+    ]
 
 
-def print_tables(checks):
+def print_tables(checks: Checks) -> None:
     """Prints what each crate took, and the edits that took longest."""
-    spent = collections.defaultdict(collections.Counter)
+    spent: dict[str, collections.Counter[str]] = collections.defaultdict(collections.Counter)
     for name, kind, _, seconds in checks.values():
         spent[name][kind] += seconds
     kinds = ("proof", "tests", "seed", "edits")
     for name in sorted(spent, key=lambda it: -sum(spent[it].values())):
         print("|", name, "|", " | ".join(str(round(spent[name][it])) for it in kinds), "|")
-    print("| all, in minutes |", " | ".join(str(round(sum(it[kind] for it in spent.values()) / 60)) for kind in kinds), "|")
-    for seconds, edit in sorted((it for name in spent if spent[name]["edits"] for it in edits_of(name, checks)), reverse=True)[:40]:
+    print(
+        "| all, in minutes |",
+        " | ".join(str(round(sum(it[kind] for it in spent.values()) / 60)) for kind in kinds),
+        "|",
+    )
+    for seconds, edit in sorted(
+        (it for name in spent if spent[name]["edits"] for it in edits_of(name, checks)), reverse=True
+    )[:40]:
         print(f"{seconds:6.1f} {edit}")
 
 
-def main():
+def main() -> int:
     parser = argparse.ArgumentParser(description=__doc__, formatter_class=argparse.RawDescriptionHelpFormatter)
-    parser.add_argument("command", metavar="COMMAND", nargs=argparse.REMAINDER, help="the command and its words (rt ci)")
+    parser.add_argument(
+        "command", metavar="COMMAND", nargs=argparse.REMAINDER, help="the command and its words (rt ci)"
+    )
     command = parser.parse_args().command or ["rt", "ci"]
-    checks, started = collections.OrderedDict(), time.time()
+    checks: Checks = {}
+    started = time.time()
     try:
         running = subprocess.Popen(command, stdout=sys.stderr)
     except OSError as error:
@@ -98,7 +119,8 @@ def main():
         time.sleep(0.5)
     print_tables(checks)
     times = os.times()
-    print(f"{(time.time() - started) / 60:.0f} minutes, {(times.children_user + times.children_system) / 60:.0f} processor minutes")
+    processor = times.children_user + times.children_system
+    print(f"{(time.time() - started) / 60:.0f} minutes, {processor / 60:.0f} processor minutes")
     return running.returncode
 
 

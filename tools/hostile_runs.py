@@ -3,12 +3,15 @@
 
     tools/hostile_runs.py [--program FILE]
 
-Standard descriptors that are closed, in all eight combinations, or can't be held, no descriptor left, a full device, a closed pipe, files and folders that are
-missing or can't be read, threads that don't start, wrong words, `--help`, scripts with a fault or a refused line, one cut at every byte,
-lists that are full or too full, and scripts of many short lines, whose time has to grow with their length alone. The answers and images that are wanted come from plain_device.py. A line is printed for each run, `right NAME` or `WRONG NAME: why` (`not
-tried` where root runs this, and another user, whom files can be closed to, can't reach the program). The status is 0 where none is
-wrong.
+Standard descriptors that are closed, in all eight combinations, or can't be held, no descriptor left, a full device,
+a closed pipe, files and folders that are missing or can't be read, threads that don't start, wrong words, `--help`,
+scripts with a fault or a refused line, one cut at every byte, lists that are full or too full, and scripts of many
+short lines, whose time has to grow with their length alone. The answers and images that are wanted come from
+plain_device.py. A line is printed for each run, `right NAME` or `WRONG NAME: why` (`not tried` where root runs this,
+and another user, whom files can be closed to, can't reach the program). The status is 0 where none is wrong.
 """
+
+from __future__ import annotations
 
 import argparse
 import dataclasses
@@ -20,6 +23,8 @@ import subprocess
 import sys
 import tempfile
 import time
+from collections.abc import Sequence
+from typing import IO, Any, Union
 
 import package_path
 import plain_device
@@ -30,6 +35,8 @@ DATA = package_path.TOP / "crates" / "gallery" / "data" / "rows"
 SECONDS = 60
 NOBODY = 65534
 NAMES = ("input", "output", "error")
+
+Words = Sequence[Union[str, bytes, pathlib.Path]]
 
 DRAWN, REFUSED, WRONG_WORDS, FAILED = range(4)
 
@@ -60,8 +67,8 @@ ENDED = {
     "a refused line": ("target 4 4\ni pixel 0 0\ni pixel 4 0\n", "pixel 0 0 0 0 0 0 16777215 0\nrefused 3 15\n"),
 }
 
-# Scripts of many short lines: what stands before the line, the line, and how often it stands. However often that is, the answers and the
-# image are the same.
+# Scripts of many short lines: what stands before the line, the line, and how often it stands. However often that is,
+# the answers and the image are the same.
 LIST = "d0 topology 4\nd0 vb 0 0 5 1 2 3 4 131072 0 5 1 2 3 4 0 131072 5 1 2 3 4\nd0 draw 3 0\nd0 finish 0\n"
 LONG = {
     "empty lists": ("", "d0 finish 0\n", 100_000),
@@ -82,7 +89,7 @@ class Ended:
     image: bytes | None
 
 
-def difference(wanted, got):
+def difference(wanted: Ended, got: Ended) -> str | None:
     """In what a run differs from what is wanted of it, or None. What is None on either side is not compared."""
     for field in dataclasses.fields(Ended):
         want, have = getattr(wanted, field.name), getattr(got, field.name)
@@ -93,11 +100,11 @@ def difference(wanted, got):
     return None
 
 
-def told(image):
+def told(image: bytes | None) -> str:
     return "not there" if image is None else f"of {len(image)} bytes" if image else "empty"
 
 
-def user_of(is_nobody):
+def user_of(is_nobody: bool) -> dict[str, Any]:
     """Who runs the program: root reads every file, so nobody does where a file is not to be read."""
     return {"user": NOBODY, "group": NOBODY} if is_nobody and os.geteuid() == 0 else {}
 
@@ -105,22 +112,22 @@ def user_of(is_nobody):
 class Runs:
     """Runs of the program in a folder of their own, each with a line about it."""
 
-    def __init__(self, program, room):
+    def __init__(self, program: pathlib.Path, room: pathlib.Path) -> None:
         self.program, self.room = program, room
         self.wrong = 0
 
-    def say(self, name, complaint):
+    def say(self, name: str, complaint: str | None) -> None:
         self.wrong += complaint is not None
         print(f"right {name}" if complaint is None else f"WRONG {name}: {complaint}", flush=True)
 
-    def complaint(self, wanted, words, **how):
+    def complaint(self, wanted: Ended, words: Words, **how: Any) -> str | None:
         """Runs the program on words; why it didn't end as wanted, or None."""
         try:
             return difference(wanted, self.ended(words, **how))
         except subprocess.TimeoutExpired:
             return f"it did not end within {SECONDS} seconds"
 
-    def expect(self, name, wanted, words, **how):
+    def expect(self, name: str, wanted: Ended, words: Words, **how: Any) -> None:
         """Runs the program on words, and says whether it ended as wanted."""
         try:
             self.say(name, self.complaint(wanted, words, **how))
@@ -129,12 +136,19 @@ class Runs:
                 raise
             print(f"not tried {name}: the user nobody can't start {self.program}")
 
-    def ended(self, words, closed=(), output=subprocess.PIPE, is_nobody=False, limit=None):
+    def ended(
+        self,
+        words: Words,
+        closed: Sequence[int] = (),
+        output: int | IO[bytes] = subprocess.PIPE,
+        is_nobody: bool = False,
+        limit: tuple[int, int] | None = None,
+    ) -> Ended:
         """How the program ends on words, with these descriptors closed, and a limit of a resource."""
         image = self.room / "image.tga"
         image.unlink(missing_ok=True)
 
-        def prepare():
+        def prepare() -> None:
             for descriptor in closed:
                 os.close(descriptor)
             if limit:
@@ -160,14 +174,14 @@ class Runs:
         )
 
 
-def stored(name):
+def stored(name: str) -> tuple[pathlib.Path, str, bytes]:
     """A row of the gallery: where it lies, and its answers and image."""
     script = DATA / f"{name}.txt"
     answers, image = plain_device.evaluate(script.read_bytes())
     return script, answers, image
 
 
-def try_closed_descriptors(runs):
+def try_closed_descriptors(runs: Runs) -> None:
     """Each combination, with a script that has answers and one that has none, alone and with workers."""
     for name, workers in itertools.product(("counted-then-cleared", "four-tiles"), ("0", "3")):
         script, answers, image = stored(name)
@@ -175,36 +189,44 @@ def try_closed_descriptors(runs):
             drawn = Ended(DRAWN, answers, "", image)
             wanted = Ended(FAILED, "", ANSWERS, b"") if 1 in closed and answers else drawn
             which = ", ".join(NAMES[it] for it in closed) or "nothing"
-            runs.expect(f"{name}, {workers} workers, closed: {which}", wanted, [script, "image.tga", "--workers", workers], closed=closed)
+            runs.expect(
+                f"{name}, {workers} workers, closed: {which}",
+                wanted,
+                [str(script), "image.tga", "--workers", workers],
+                closed=closed,
+            )
 
 
-def try_few_descriptors(runs):
-    """Few descriptors may be open: none is left for the image, and none to hold standard output with (the loader of the program wants one)."""
+def try_few_descriptors(runs: Runs) -> None:
+    """Few descriptors may be open: none is left for the image, and none to hold standard output with (the loader of
+    the program wants one)."""
     script, _, _ = stored("four-tiles")
-    words = [script, "image.tga"]
+    words: list[str | pathlib.Path] = [script, "image.tga"]
     runs.expect("one descriptor more", Ended(FAILED, "", IMAGE, None), words, limit=(resource.RLIMIT_NOFILE, 4))
     unheld = Ended(FAILED, "", UNHELD, None)
     runs.expect("no descriptor more, closed: input", unheld, words, closed=(0,), limit=(resource.RLIMIT_NOFILE, 3))
 
 
-def try_few_threads(runs):
+def try_few_threads(runs: Runs) -> None:
     """The user may have so many threads, the first included: the others don't start, and the answers are the same."""
-    for name, workers in itertools.product(("counted-four-tiles", "around-a-list", "seventy-lists", "../lamps"), ("0", "3", "15")):
+    for name, workers in itertools.product(
+        ("counted-four-tiles", "around-a-list", "seventy-lists", "../lamps"), ("0", "3", "15")
+    ):
         script, answers, image = stored(name)
         drawn = Ended(DRAWN, answers, "", image)
         reached = runs.room / "script.txt"
         reached.write_bytes(script.read_bytes())
         for most in (1, 2, 3, 4, 5, 8, 17, 24):
-            words = [reached, "image.tga", "--workers", workers]
+            words = [str(reached), "image.tga", "--workers", workers]
             limit = (resource.RLIMIT_NPROC, most)
             runs.expect(f"{name}, {workers} workers, {most} threads", drawn, words, is_nobody=True, limit=limit)
 
 
-def try_outputs(runs):
+def try_outputs(runs: Runs) -> None:
     """Where answers and image can't be written."""
     script, answers, image = stored("counted-then-cleared")
     unwritten = Ended(FAILED, None, ANSWERS, b"")
-    words = [script, "image.tga"]
+    words: list[str | pathlib.Path] = [script, "image.tga"]
     with open("/dev/full", "wb") as full:
         runs.expect("answers to a full device", unwritten, words, output=full)
     end, pipe = os.pipe()
@@ -216,11 +238,16 @@ def try_outputs(runs):
     runs.expect("image in place of a folder", Ended(FAILED, "", IMAGE, None), [script, "."])
     locked = runs.room / "locked"
     locked.mkdir(mode=0o555)
-    runs.expect("image in a folder that can't be written", Ended(FAILED, "", IMAGE, None), [script, "locked/image.tga"], is_nobody=True)
+    runs.expect(
+        "image in a folder that can't be written",
+        Ended(FAILED, "", IMAGE, None),
+        [script, "locked/image.tga"],
+        is_nobody=True,
+    )
     runs.expect("image of another script's name", Ended(DRAWN, answers, "", image), words)
 
 
-def try_scripts(runs):
+def try_scripts(runs: Runs) -> None:
     """Scripts that can't be read, and scripts that end early."""
     unread = Ended(FAILED, "", READ, None)
     runs.expect("a missing script", unread, ["missing.txt", "image.tga"])
@@ -235,23 +262,29 @@ def try_scripts(runs):
     for name, (text, answers) in ENDED.items():
         script.write_text(text, encoding="ascii")
         for workers in ("0", "3"):
-            runs.expect(f"{name}, {workers} workers", Ended(REFUSED, answers, "", b""), [script, "image.tga", "--workers", workers])
+            runs.expect(
+                f"{name}, {workers} workers",
+                Ended(REFUSED, answers, "", b""),
+                [str(script), "image.tga", "--workers", workers],
+            )
 
 
-def text_of(name):
+def text_of(name: str) -> bytes:
     return (DATA / f"{name}.txt").read_bytes()
 
 
-def cut_answer(text, cut):
-    """The answers and the image of a script of which so many bytes are left: a line that lost its line feed is fault 101."""
+def cut_answer(text: bytes, cut: int) -> tuple[str, bytes]:
+    """The answers and the image of a script of which so many bytes are left: a line that lost its line feed is fault
+    101."""
     left = text[:cut]
     if not left or left.endswith(b"\n"):
         return plain_device.evaluate(left) if left else ("refused 1 102\n", b"")
     return f"refused {left.count(10) + 1} 101\n", b""
 
 
-def try_cuts(runs):
-    """A script with answers, cut at every byte; a line is printed for each of its own lines, with the first cut that is wrong."""
+def try_cuts(runs: Runs) -> None:
+    """A script with answers, cut at every byte; a line is printed for each of its own lines, with the first cut that
+    is wrong."""
     text = text_of("counted-four-tiles")
     script = runs.room / "script.txt"
     ends = [at + 1 for at, byte in enumerate(text) if byte == 10]
@@ -265,8 +298,8 @@ def try_cuts(runs):
         runs.say(f"counted-four-tiles cut {end - start} times before the end of line {line}", complaint)
 
 
-def full_of_triangles():
-    """A list of 65,536 counted triangles, none of them empty: 21,845 and one more, of a pixel each, three times over."""
+def full_of_triangles() -> str:
+    """A list of 65,536 counted triangles, none of them empty: 21,845 and one, of a pixel each, three times over."""
     corners = "i vb 0 0 0 1 1 1 1 65536 0 0 2 2 2 2 0 131072 0 3 3 3 3\n"
     indices = "i ib" + 21845 * " 0 1 2" + "\n"
     draws = 3 * "i drawi 65535 0 0\n" + "i draw 3 0\n"
@@ -274,14 +307,19 @@ def full_of_triangles():
     return "target 2 2\n" + corners + indices + state + draws
 
 
-def try_full_lists(runs):
-    """A list that holds as many triangles as it may, and one command, one issue and one triangle more than a list holds."""
+def try_full_lists(runs: Runs) -> None:
+    """A list that holds as many triangles as it may, and one command, one issue and one triangle more than a list
+    holds."""
     script = runs.room / "script.txt"
     text = full_of_triangles()
     script.write_text(text + "i end 0\ni query 0\ni pixel 0 0\n", encoding="ascii")
     answers, image = plain_device.evaluate(script.read_bytes())
     for workers in ("0", "3"):
-        runs.expect(f"65,536 triangles, {workers} workers", Ended(DRAWN, answers, "", image), [script, "image.tga", "--workers", workers])
+        runs.expect(
+            f"65,536 triangles, {workers} workers",
+            Ended(DRAWN, answers, "", image),
+            [str(script), "image.tga", "--workers", workers],
+        )
     for name, text, refused in (
         ("65,537 triangles", text + "i draw 3 0\n", "refused 11 13\n"),
         ("65,537 clears", "target 1 1\n" + 65537 * "i clearc 1 2 3 4\n", "refused 65538 13\n"),
@@ -289,10 +327,14 @@ def try_full_lists(runs):
     ):
         script.write_text(text, encoding="ascii")
         for workers in ("0", "3"):
-            runs.expect(f"{name}, {workers} workers", Ended(REFUSED, refused, "", b""), [script, "image.tga", "--workers", workers])
+            runs.expect(
+                f"{name}, {workers} workers",
+                Ended(REFUSED, refused, "", b""),
+                [str(script), "image.tga", "--workers", workers],
+            )
 
 
-def least_seconds(runs, words):
+def least_seconds(runs: Runs, words: Words) -> float:
     """The least time of three runs."""
     times = []
     for _ in range(3):
@@ -302,12 +344,13 @@ def least_seconds(runs, words):
     return min(times)
 
 
-def growth(quarter, whole):
-    """Why a script took too long beside one of a quarter of its lines, in seconds, or None. Where time grows with the square it takes 16 times as long."""
+def growth(quarter: float, whole: float) -> str | None:
+    """Why a script took too long beside one of a quarter of its lines, in seconds, or None. Where time grows with the
+    square it takes 16 times as long."""
     return f"it took {whole:.2f} s, and a quarter of its lines {quarter:.2f} s" if whole > 8 * quarter + 0.1 else None
 
 
-def try_long_scripts(runs):
+def try_long_scripts(runs: Runs) -> None:
     """Many short lines: answers and image as of a few of them, in a time that grows with their number."""
     few, quarter, whole = (runs.room / f"{name}.txt" for name in ("few", "quarter", "whole"))
     for name, (before, line, times) in LONG.items():
@@ -322,7 +365,7 @@ def try_long_scripts(runs):
             runs.say(f"{times:,} {name}, {workers} workers", complaint)
 
 
-def try_words(runs):
+def try_words(runs: Runs) -> None:
     """Words that are not taken: nothing is opened or written, and the first line of the text is that of the parser."""
     for words, wanted in WORDS.items():
         name = f"words: {words or 'none'}".encode("utf-8", "backslashreplace").decode()
@@ -331,7 +374,7 @@ def try_words(runs):
         except subprocess.TimeoutExpired as error:
             runs.say(name, str(error))
             continue
-        first = got.error.partition("\n")[0]
+        first = (got.error or "").partition("\n")[0]
         runs.say(name, difference(Ended(WRONG_WORDS, "", wanted, None), dataclasses.replace(got, error=first)))
 
 
@@ -348,7 +391,7 @@ ATTEMPTS = (
 )
 
 
-def main():
+def main() -> int:
     parser = argparse.ArgumentParser(description=__doc__, formatter_class=argparse.RawDescriptionHelpFormatter)
     parser.add_argument("--program", help="the built program, if it isn't found by itself")
     given = parser.parse_args()

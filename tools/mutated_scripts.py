@@ -1,10 +1,22 @@
 """Scripts of the gallery with one thing changed: a byte, a word, a line.
 
-Where the change can be only one fault, `mutated` tells it: the line, the fault's number, and the first byte of the line that
-is to blame.
+Where the change can be only one fault, `mutated` tells it: the line, the fault's number, and the first byte of the
+line that is to blame.
 """
 
+from __future__ import annotations
+
+from collections.abc import Callable
+from random import Random
+from typing import Optional
+
 import package_path
+
+Lines = list[bytes]
+# the line, the fault's number, and the first byte of the line that is to blame
+Fault = tuple[int, int, int]
+Changed = tuple[bytes, Optional[Fault]]
+Change = Callable[[Random, Lines, int], Optional[Changed]]
 
 DATA = package_path.TOP / "crates" / "gallery" / "data"
 
@@ -12,15 +24,19 @@ DATA = package_path.TOP / "crates" / "gallery" / "data"
 LONGEST = 9_000
 WIDEST = 100
 
-NO_NUMBERS = [b"01", b"+1", b"-0", b"1.5", b"0x10", b"1e3", b"--1", b"x", b"-", b"1_0", b"00"]
-NUMBERS = [b"0", b"1", b"2", b"3", b"4", b"7", b"8", b"9", b"15", b"16", b"63", b"64", b"-1", b"255", b"256", b"4096", b"4097", b"65535", b"65536",
-           b"16777215", b"16777216", b"268435456", b"268435457", b"-268435457", b"2147483647", b"2147483648", b"-2147483648",
-           b"-2147483649", b"4294967295", b"4294967296", b"9" * 19, b"9" * 20, b"1" * 5000]
-WORDS = [b"i", b"d0", b"d3", b"d7", b"d8", b"vb", b"ib", b"topology", b"raster", b"scissor", b"ds", b"blend", b"predicate", b"draw", b"drawi",
-         b"clearc", b"cleards", b"begin", b"end", b"finish", b"exec", b"flush", b"query", b"pixel", b"target", b"Draw", b"drawx", b"#"]
+NO_NUMBERS = b"01 +1 -0 1.5 0x10 1e3 --1 x - 1_0 00".split()
+NUMBERS = [
+    *b"0 1 2 3 4 7 8 9 15 16 63 64 -1 255 256 4096 4097 65535 65536 16777215 16777216".split(),
+    *b"268435456 268435457 -268435457 2147483647 2147483648 -2147483648 -2147483649".split(),
+    *(b"4294967295", b"4294967296", b"9" * 19, b"9" * 20, b"1" * 5000),
+]
+WORDS = [
+    *b"i d0 d3 d7 d8 vb ib topology raster scissor ds blend predicate draw drawi clearc cleards".split(),
+    *b"begin end finish exec flush query pixel target Draw drawx #".split(),
+]
 
 
-def sources():
+def sources() -> list[bytes]:
     """The scripts that are changed."""
     found = []
     for name in (DATA / "index").read_text(encoding="ascii").split():
@@ -31,15 +47,15 @@ def sources():
     return found
 
 
-def joined(lines):
+def joined(lines: Lines) -> bytes:
     return b"".join(line + b"\n" for line in lines)
 
 
-def start_of(words, at):
+def start_of(words: Lines, at: int) -> int:
     return sum(len(word) + 1 for word in words[:at])
 
 
-def strange_byte(chance, lines, at):
+def strange_byte(chance: Random, lines: Lines, at: int) -> Changed:
     """A byte that no script has."""
     byte = chance.choice([b"\t", b"\r", b"\0", b"\x7f", b"\x80", b"\xc3\xa4", b"\xff", b"\x1b"])
     place = chance.randrange(len(lines[at]) + 1)
@@ -47,26 +63,26 @@ def strange_byte(chance, lines, at):
     return joined(lines), (at + 1, 101, place)
 
 
-def windows_end(_, lines, at):
+def windows_end(_: Random, lines: Lines, at: int) -> Changed:
     lines[at] += b"\r"
     return joined(lines), (at + 1, 101, len(lines[at]) - 1)
 
 
-def empty_line(_, lines, at):
+def empty_line(_: Random, lines: Lines, at: int) -> Changed:
     lines.insert(at, b"")
     return joined(lines), (at + 1, 101, 0)
 
 
-def comment(chance, lines, at):
+def comment(chance: Random, lines: Lines, at: int) -> Changed:
     lines.insert(at, chance.choice([b"# a comment", b"// a comment", b"; a comment"]))
     return joined(lines), (at + 1, 103 if at else 102, 0)
 
 
-def no_line_feed(_, lines, __):
+def no_line_feed(_: Random, lines: Lines, __: int) -> Changed:
     return joined(lines)[:-1], (len(lines), 101, len(lines[-1]))
 
 
-def space(chance, lines, at):
+def space(chance: Random, lines: Lines, at: int) -> Changed:
     """A space in front, at the end, or beside another."""
     places = [0, len(lines[at]), *(n for n, byte in enumerate(lines[at]) if byte == 0x20)]
     place = chance.choice(places)
@@ -74,7 +90,7 @@ def space(chance, lines, at):
     return joined(lines), (at + 1, 101, place)
 
 
-def no_number(chance, lines, at):
+def no_number(chance: Random, lines: Lines, at: int) -> Changed | None:
     """An argument that is no number."""
     words = lines[at].split(b" ")
     first = 2 if at else 1
@@ -86,7 +102,7 @@ def no_number(chance, lines, at):
     return joined(lines), (at + 1, 106, start_of(words, place))
 
 
-def number(chance, lines, at):
+def number(chance: Random, lines: Lines, at: int) -> Changed:
     """Another number in the place of a word."""
     words = lines[at].split(b" ")
     words[chance.randrange(len(words))] = chance.choice(NUMBERS)
@@ -94,7 +110,7 @@ def number(chance, lines, at):
     return joined(lines), None
 
 
-def word(chance, lines, at):
+def word(chance: Random, lines: Lines, at: int) -> Changed:
     """Another word in the place of the actor or the command."""
     words = lines[at].split(b" ")
     words[chance.randrange(min(2, len(words)))] = chance.choice(WORDS)
@@ -102,7 +118,7 @@ def word(chance, lines, at):
     return joined(lines), None
 
 
-def more_or_less(chance, lines, at):
+def more_or_less(chance: Random, lines: Lines, at: int) -> Changed:
     """A word twice, or not at all."""
     words = lines[at].split(b" ")
     place = chance.randrange(len(words))
@@ -111,7 +127,7 @@ def more_or_less(chance, lines, at):
     return joined(lines), None
 
 
-def lines_moved(chance, lines, at):
+def lines_moved(chance: Random, lines: Lines, at: int) -> Changed:
     """A line twice, not at all, or in another place."""
     line = lines.pop(at)
     for _ in range(chance.randrange(3)):
@@ -119,13 +135,13 @@ def lines_moved(chance, lines, at):
     return joined(lines), None
 
 
-def cut(chance, lines, _):
+def cut(chance: Random, lines: Lines, _: int) -> Changed:
     """The first bytes of a script."""
     text = joined(lines)
     return text[: chance.randrange(len(text))], None
 
 
-def any_byte(chance, lines, _):
+def any_byte(chance: Random, lines: Lines, _: int) -> Changed:
     """A byte changed, put in, or taken out."""
     text = joined(lines)
     place = chance.randrange(len(text))
@@ -133,10 +149,13 @@ def any_byte(chance, lines, _):
     return text[:place] + put + text[place + chance.randrange(2) :], None
 
 
-CHANGES = [strange_byte, windows_end, empty_line, comment, no_line_feed, space, no_number, number, number, number, word, more_or_less, lines_moved, cut, any_byte]
+CHANGES: tuple[Change, ...] = (
+    *(strange_byte, windows_end, empty_line, comment, no_line_feed, space, no_number),
+    *(number, number, number, word, more_or_less, lines_moved, cut, any_byte),
+)
 
 
-def mutated(chance, texts):
+def mutated(chance: Random, texts: list[bytes]) -> Changed:
     """A changed script, and the one fault that it must have, or None where that isn't known."""
     while True:
         lines = chance.choice(texts).split(b"\n")[:-1]

@@ -1,14 +1,21 @@
 """Random scenes, on which the program, tools/plain_device.py and the package are held against each other.
 
-Targets are up to 70 by 70, and now and then as long as a target may be, up to 4,096 by 3. Corners lie on centres, on edges of
-pixels, at ties of 1/512 pixel, anywhere near the target, and as far outside as corners may lie. There are four kinds of scenes:
+Targets are up to 70 by 70, and now and then as long as a target may be, up to 4,096 by 3. Corners lie on centres, on
+edges of pixels, at ties of 1/512 pixel, anywhere near the target, and as far outside as corners may lie. There are
+four kinds of scenes:
 
 - triangles: a hundred triangles under one state;
-- states: lists, strips, indices, cull modes, scissors, depth biases, both faces of the stencil, logic operations under masks,
-  queries, predicates and restore flags, and some of the lines are refused;
+- states: lists, strips, indices, cull modes, scissors, depth biases, both faces of the stencil, logic operations
+  under masks, queries, predicates and restore flags, and some of the lines are refused;
 - large: triangles that cover all or most of the target, under all functions of depth and stencil;
-- logic: such triangles and small ones under all logic operations and write masks, mostly without tests, with clears between them.
+- logic: such triangles and small ones under all logic operations and write masks, mostly without tests, with clears
+  between them.
 """
+
+from __future__ import annotations
+
+from collections.abc import Sequence
+from random import Random
 
 import package_path  # noqa: F401
 from yuzuratchet import Scene
@@ -17,7 +24,7 @@ from yuzuratchet.limits import DEEPEST, FARTHEST, FARTHEST_PIXEL, STRIP_CUT, SUB
 QUERIES = range(4)
 
 
-def place(chance, side):
+def place(chance: Random, side: int) -> int:
     kind = chance.randrange(10)
     if kind < 3:
         return SUBPIXELS * chance.randrange(-1, side + 2) + SUBPIXELS // 2
@@ -30,7 +37,7 @@ def place(chance, side):
     return chance.choice([-FARTHEST, FARTHEST, chance.randrange(-FARTHEST, FARTHEST + 1)])
 
 
-def vertices(chance, scene, count):
+def vertices(chance: Random, scene: Scene, count: int) -> list[int]:
     """The numbers of a `vb` line of so many vertices."""
     numbers = []
     for _ in range(count):
@@ -40,7 +47,7 @@ def vertices(chance, scene, count):
     return numbers
 
 
-def bias(chance):
+def bias(chance: Random) -> list[int]:
     """The bias of a `raster` line: mostly none, else small, of any size, or as great as one may be."""
     kind = chance.randrange(6)
     if kind < 3:
@@ -50,7 +57,7 @@ def bias(chance):
     return [value] if value else []
 
 
-def add_triangles(chance, scene):
+def add_triangles(chance: Random, scene: Scene) -> None:
     """A hundred triangles under one state."""
     scene.add("i", "raster", chance.choice([1, 3]), 0, 0, *bias(chance))
     scene.add("i", "vb", *vertices(chance, scene, 300))
@@ -58,7 +65,7 @@ def add_triangles(chance, scene):
     scene.add("i", "draw", 300, 0)
 
 
-def depth_stencil(chance):
+def depth_stencil(chance: Random) -> list[int]:
     """The fifteen numbers of `ds`: often with the stencil, seldom with the depth test off."""
     masks = [chance.choice([255, 15, chance.randrange(256)]) for _ in range(2)]
     faces = [chance.randrange(1, 9) for _ in range(8)]
@@ -66,7 +73,7 @@ def depth_stencil(chance):
     return [*tests, *masks, *faces, chance.randrange(256)]
 
 
-def add_setting(chance, scene, actor):
+def add_setting(chance: Random, scene: Scene, actor: str) -> None:
     """A line that sets some state; few of them are refused."""
     left, right = sorted(chance.randrange(scene.width + 1) for _ in range(2))
     top, bottom = sorted(chance.randrange(scene.height + 1) for _ in range(2))
@@ -84,7 +91,7 @@ def add_setting(chance, scene, actor):
         scene.add(actor, "blend", chance.randrange(2), chance.randrange(16), mask)
 
 
-def add_drawing(chance, scene, actor):
+def add_drawing(chance: Random, scene: Scene, actor: str) -> None:
     """Lines that draw, mostly, or clear."""
     count, topology, kind = chance.randrange(3, 12), chance.choice([4, 5]), chance.randrange(7)
     scene.add(actor, "vb", *vertices(chance, scene, count))
@@ -106,10 +113,13 @@ def add_drawing(chance, scene, actor):
 class Queries:
     """The queries that a list has begun and has open, those of its predicates, and the predicate in force."""
 
-    def __init__(self):
-        self.begun, self.opened, self.named, self.force = set(), [], set(), None
+    def __init__(self) -> None:
+        self.begun: set[int] = set()
+        self.opened: list[int] = []
+        self.named: set[int] = set()
+        self.force: int | None = None
 
-    def begin_anew(self, restore):
+    def begin_anew(self, restore: int) -> None:
         self.begun, self.force = set(), self.force if restore else None
         self.named = set() if self.force is None else {self.force}
 
@@ -117,31 +127,32 @@ class Queries:
 class StatesScene:
     """A scene of lists, states, queries, predicates and executions, in the making."""
 
-    def __init__(self, chance, scene):
-        self.chance, self.scene, self.ended = chance, scene, []
+    def __init__(self, chance: Random, scene: Scene) -> None:
+        self.chance, self.scene = chance, scene
+        self.ended: list[int] = []
         self.lists = {actor: Queries() for actor in ("i", "d0", "d1", "d7")}
-        self.finished = []
+        self.finished: list[tuple[int, int]] = []
 
-    def close(self, actor):
+    def close(self, actor: str) -> None:
         """Ends the queries of a list before something runs, save now and then."""
         if self.chance.randrange(80):
             for query in self.lists[actor].opened:
                 self.end(actor, query)
             self.lists[actor].opened = []
 
-    def end(self, actor, query):
+    def end(self, actor: str, query: int) -> None:
         self.scene.add(actor, "end", query)
         if actor == "i":
             self.ended.append(query)
 
-    def add_begin(self, actor):
+    def add_begin(self, actor: str) -> None:
         queries, query = self.lists[actor], self.chance.choice(QUERIES)
         if query not in queries.opened and query not in queries.named:
             self.scene.add(actor, "begin", query)
             queries.opened.append(query)
             queries.begun.add(query)
 
-    def add_predicate(self, actor):
+    def add_predicate(self, actor: str) -> None:
         """A predicate by a query that the list has not begun, or none."""
         queries = self.lists[actor]
         free = [query for query in QUERIES if query not in queries.begun]
@@ -153,22 +164,23 @@ class StatesScene:
         queries.named.add(queries.force)
         self.scene.add(actor, "predicate", queries.force, self.chance.randrange(2))
 
-    def add_finish(self, actor):
+    def add_finish(self, actor: str) -> None:
         self.close(actor)
         restore = self.chance.randrange(2)
         self.finished.append((int(actor[1:]), self.scene.finished[actor]))
         self.scene.add(actor, "finish", restore)
         self.lists[actor].begin_anew(restore)
 
-    def add_executions(self):
+    def add_executions(self) -> int:
         """An execution, or some that stand behind one another; gives whether the last one restores the state."""
+        restore = 1
         for _ in range(self.chance.choice([1, 1, 2, 4, 9])):
             restore = int(self.chance.randrange(3) > 0)
             self.scene.add("i", "exec", *self.chance.choice(self.finished), restore)
             self.lists["i"].begin_anew(restore)
         return restore
 
-    def add_run(self, kind):
+    def add_run(self, kind: int) -> None:
         """An execution, a flush or a question."""
         restore = 1
         if self.finished and kind < 2:
@@ -181,7 +193,7 @@ class StatesScene:
             return
         self.lists["i"].begin_anew(restore)
 
-    def add_round(self):
+    def add_round(self) -> None:
         chance, actor = self.chance, self.chance.choice(["i", "i", "d0", "d1", "d7"])
         queries = self.lists[actor]
         add_setting(chance, self.scene, actor)
@@ -199,23 +211,24 @@ class StatesScene:
             self.close("i")
             self.add_run(kind)
 
-    def fill(self):
+    def fill(self) -> None:
         for _ in range(40):
             self.add_round()
         self.close("i")
 
 
-def far_corners(chance):
+def far_corners(chance: Random) -> list[int]:
     """The corners of a triangle that goes far beyond the target, each with a depth of its own."""
     corners = []
     for x, y in ((-1, -1), (2, -1), (-1, 2)):
         far = [chance.randrange(1, FARTHEST_PIXEL // 2) * SUBPIXELS + chance.randrange(SUBPIXELS) for _ in range(2)]
         depth = chance.choice([chance.randrange(DEEPEST + 1), chance.randrange(100), 8_000_000 + chance.randrange(5)])
-        corners += [max(x * far[0], -FARTHEST), max(y * far[1], -FARTHEST), depth, *(chance.randrange(256) for _ in range(4))]
+        corners += [max(x * far[0], -FARTHEST), max(y * far[1], -FARTHEST), depth]
+        corners += [chance.randrange(256) for _ in range(4)]
     return corners
 
 
-def add_large(chance, scene):
+def add_large(chance: Random, scene: Scene) -> None:
     """Triangles that go far beyond the target, each under tests of its own, with biases and counts."""
     scene.add("i", "topology", 4)
     for number in range(12):
@@ -229,8 +242,9 @@ def add_large(chance, scene):
         scene.add("i", "query", query)
 
 
-def add_logic(chance, scene):
-    """Triangles under logic operations, of which many cover all of the target and few are tested, and clears of colours."""
+def add_logic(chance: Random, scene: Scene) -> None:
+    """Triangles under logic operations, of which many cover all of the target and few are tested, and clears of
+    colours."""
     scene.add("i", "topology", 4)
     scene.add("i", "raster", 1, 0, 0)
     for _ in range(16):
@@ -245,7 +259,7 @@ def add_logic(chance, scene):
         scene.add("i", "draw", 3, 0)
 
 
-def target(chance):
+def target(chance: Random) -> list[int]:
     """A width and a height: mostly small, now and then one long side."""
     sides = [chance.randrange(1, 71), chance.randrange(1, 71)]
     if chance.randrange(20) == 0:
@@ -257,7 +271,7 @@ def target(chance):
 KINDS = ("triangles", "states", "large", "logic")
 
 
-def random_scene(chance, number, asked=20, kinds=KINDS[:2]):
+def random_scene(chance: Random, number: int, asked: int = 20, kinds: Sequence[str] = KINDS[:2]) -> Scene:
     """A scene of the kind whose turn it is, by its number, with so many questions for pixels."""
     scene = Scene(*target(chance), strict=False)
     kind = kinds[number % len(kinds)]
