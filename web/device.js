@@ -44,7 +44,11 @@ class Device {
         }
     }
 
-    /** Draws a script into areas of these sizes. */
+    /**
+     * Draws a script into areas of these sizes: as `draw`, or {status, lines, image} with the sizes that are wanted.
+     *
+     * @returns {any}
+     */
     drawInto(script, sizes) {
         const areas = [];
         const take = (size) => {

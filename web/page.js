@@ -7,6 +7,7 @@ const BLOCK = 16;
 const NO_MEMORY64 = "This browser's WebAssembly has no 64-bit memory (memory64), which the device needs: "
     + "Chrome and Edge have it from version 133 on, and Firefox from 134.";
 
+/** @type {(id: string) => any} an element of the page, of whichever kind it is */
 const part = (id) => document.getElementById(id);
 
 /** Whether this machine's WebAssembly has a 64-bit memory: the shortest module that has one. */
@@ -340,7 +341,7 @@ async function begin() {
     }
     const [module, gallery] = await Promise.all([unpacked("module"), unpacked("gallery")]);
     const opening = JSON.parse(part("opening").textContent);
-    window.page = new Page(module, JSON.parse(new TextDecoder().decode(gallery)), opening);
+    /** @type {any} */ (window).page = new Page(module, JSON.parse(new TextDecoder().decode(gallery)), opening);
 }
 
 begin().catch((error) => {

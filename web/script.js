@@ -148,6 +148,8 @@ const DEFAULT_STATE = DEVICE.default_state.map((line) => `i ${line}\n`).join("")
  * The script is played with a question behind each line that draws, which changes no pixel. While a query of the immediate
  * context is open the device answers no question, and a list is executed whole; what lies within is asked by `within`, of lists
  * that leave the pixel changed. `by` is the line that executed a list, or null. `progress(done, all)` is called on the way.
+ *
+ * @param {(done: number, all: number) => void} [progress]
  */
 function pixelHistory(draw, script, last, x, y, progress = () => {}) {
     const groups = probed(script, last);
