@@ -29,7 +29,8 @@ MOST_WORDS = 26_000
 
 LINK = re.compile(r"!?\[[^\]]*\]\(([^()\s]+)\)|(?:src|href)=\"([^\"]+)\"")
 # what a page names by a path: a file of one of the folders, in backticks or not
-NAMED = re.compile(r"(?<![\w/.~-])(?:(?:tools|docs|bench|python|library|web|crates)/[\w./-]*\w|[A-Z]{4,}\.md)")
+FOLDERS = "tools|docs|bench|python|library|web|crates|[a-z]+/(?:specs|src)"
+NAMED = re.compile(rf"(?<![\w/.~-])(?:(?:{FOLDERS})/[\w./-]*\w|[A-Z]{{4,}}\.md)")
 # parts of paths that stand for others, and what is built
 OTHERS = re.compile(r"NAME|\bout/|/SCENE|/build/|expected$")
 
@@ -88,7 +89,7 @@ def missing_files(page: Path, lines: list[str]) -> Iterator[Problem]:
     """Files that a page names, and that aren't there."""
     for number, line in enumerate(lines, 1):
         for name in NAMED.findall(LINK.sub("", line)):
-            places = (TOP / name, page.parent / name, TOP / "docs" / name)
+            places = (TOP / name, page.parent / name, TOP / "docs" / name, TOP / "crates" / name)
             if not OTHERS.search(name) and not any(it.exists() for it in places):
                 yield number, f"{name} isn't there"
 
