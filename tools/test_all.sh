@@ -1,16 +1,80 @@
 #!/bin/sh
-# All tests: those of the Python package, then the gate, which takes every proof, must-fail edit, test and stored run from nothing, and then those
-# of the C library over what the gate proved. The last line is the gate's. The status is 0 where all three passed.
+# All tests: what looks over sources and pages, the package's tests, then the gate, which takes every proof, wrong body,
+# test and stored run from nothing, and then what stands above it, over what it built: the C library, Python over it,
+# the page, the package once more, and short comparisons of `check` and `explain` with the device.
+#
+# The last line is the gate's. The line before it names what failed, and what was skipped for want of a program. The
+# status is the gate's where that isn't 0, and else 1 where another part failed.
 cd "$(dirname "$0")/.." || exit 2
-python/run-tests.sh
-package=$?
-said=$(mktemp) && ended=$(mktemp) || exit 2
-trap 'rm -f "$said" "$ended"' EXIT
-{ rt ci; echo $? >"$ended"; } | tee "$said"
-gate=$(cat "$ended")
-tools/test_library.py
-library=$?
-tail -n 1 "$said"
+room=$(mktemp -d) || exit 2
+trap 'rm -rf "$room"' EXIT
+failed=
+
+# part NAME COMMAND ..: runs a part, and keeps what it prints and whether it failed
+part() {
+    part=$1
+    shift
+    printf '\n== %s\n' "$part"
+    { "$@" 2>&1; echo $? >"$room/status"; } | tee "$room/$part"
+    [ "$(cat "$room/status")" -eq 0 ] || failed="$failed${failed:+, }$part"
+}
+
+trusted() {
+    tools/trusted.py --check
+}
+
+# the program, over what the gate proved
+build_program() {
+    [ -x crates/tiledraw/out/tiledraw ] ||
+        (script=$PWD/crates/gallery/data/fan.txt && cd crates/tiledraw && rt run -- "$script" "$room/fan.tga")
+}
+
+# the package's tests once more, with the program and the library
+package_again() {
+    built=$room/prefix/lib/libyuzuratchet.so
+    if [ -e "$built" ]; then
+        YUZURATCHET_LIBRARY=$built python/run-tests.sh -q
+    else
+        python/run-tests.sh -q
+    fi
+}
+
+# what was skipped, a line each
+skipped() {
+    sed -n 's/^lint: .*; skipped: //p' "$room/lint"
+    [ ! -e "$room/library" ] || sed -n 's/^skipped //p' "$room/library"
+    for run in package-again package; do
+        [ -e "$room/$run" ] || continue
+        awk '/^SKIPPED / { count = substr($2, 2) + 0; sub(/^SKIPPED [^ ]+ [^ ]+ /, ""); of[$0] += count }
+             END { for (why in of) print of[why] " tests of the package (" why ")" }' "$room/$run"
+        break
+    done
+}
+
+joined() {
+    awk 'NR > 1 { printf "; " } { printf "%s", $0 }'
+}
+
+part lint tools/lint.sh --install
+part trusted trusted
+part wrong-bodies tools/wrong_bodies.py --check
+part package python/run-tests.sh -q
+
+printf '\n== gate\n'
+{ rt ci; echo $? >"$room/gate"; } | tee "$room/said"
+gate=$(cat "$room/gate")
+
+[ "$gate" -ne 0 ] || part program build_program
+part library tools/test_library.py --prefix "$room/prefix"
+if [ -x crates/tiledraw/out/tiledraw ]; then
+    part package-again package_again
+    part checked tools/compare_checked.py 1000
+    part explained tools/compare_explained.py 100
+else
+    failed="$failed${failed:+, }program (so the package's tests, compare_checked and compare_explained weren't run over it)"
+fi
+
+printf '\nfailed: %s; skipped: %s\n' "${failed:-nothing}" "$(skipped | joined)"
+tail -n 1 "$room/said"
 [ "$gate" -eq 0 ] || exit "$gate"
-[ "$package" -eq 0 ] || exit "$package"
-exit "$library"
+[ -z "$failed" ]
