@@ -16,7 +16,7 @@ from __future__ import annotations
 import argparse
 import re
 import sys
-from collections.abc import Iterator
+from collections.abc import Iterator, Sequence
 from functools import cache
 from pathlib import Path
 
@@ -78,7 +78,7 @@ def fault(crate: str, path: Path) -> str | None:
 # ---- the tables
 
 
-def table(head: tuple[str, ...], rows: list[tuple[str, ...]]) -> str:
+def table(head: Sequence[str], rows: Sequence[Sequence[str]]) -> str:
     lines = ["| " + " | ".join(cells) + " |" for cells in (head, *rows)]
     return "\n".join([lines[0], "|---" * len(head) + "|", *lines[1:]])
 
@@ -88,7 +88,9 @@ def counts() -> str:
     rows = [(name, len(edits(name, "must-fail")), len(edits(name, "edits"))) for name in crates()]
     rows = [*(row for row in rows if row[1] or row[2])]
     rows.append(("all", sum(row[1] for row in rows), sum(row[2] for row in rows)))
-    return table(("Crate", "The gate tries", "Beside it"), [(name, str(gate), str(beside)) for name, gate, beside in rows])
+    return table(
+        ("Crate", "The gate tries", "Beside it"), [(name, str(gate), str(beside)) for name, gate, beside in rows]
+    )
 
 
 def named() -> str:
@@ -132,7 +134,9 @@ def main() -> int:
     elif not given.check:
         print(tables())
     elif inner != tables():
-        print(f"{PAGE.relative_to(TOP)} has other tables than the edits: tools/wrong_bodies.py --write", file=sys.stderr)
+        print(
+            f"{PAGE.relative_to(TOP)} has other tables than the edits: tools/wrong_bodies.py --write", file=sys.stderr
+        )
         found += 1
     return 1 if found else 0
 

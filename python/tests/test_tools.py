@@ -76,6 +76,10 @@ def test_each_file_is_a_tool_or_a_module() -> None:
         ("tools/make_page.py", "--module", "/dev/null"),
         ("tools/make_page.py", "-o", "/no/such/folder/page.html", "--module", "README.md"),
         ("tools/test_page.py", "--no-such-option"),
+        ("tools/pages.py", "/no/such/page"),
+        ("tools/pages.py", "docs/GONE.md"),
+        ("tools/trusted.py", "x"),
+        ("tools/wrong_bodies.py", "--write", "--check"),
         ("bench/scenes.py", "nothing"),
         ("bench/scenes.py", "clear", "0"),
         ("bench/run.py", "nothing"),
@@ -89,6 +93,17 @@ def test_each_file_is_a_tool_or_a_module() -> None:
 def test_wrong_words_are_told(words: tuple[str, ...]) -> None:
     ran = run_tool(*words)
     assert ran.returncode not in (0, -1) and ran.stderr and "Traceback" not in ran.stderr
+
+
+@pytest.mark.parametrize(("words", "status"), [(("--help",), 0), (("--no-such-option",), 2)])
+def test_what_looks_over_the_sources_has_a_help(words: tuple[str, ...], status: int) -> None:
+    ran = subprocess.run(
+        ["sh", TOP / "tools" / "lint.sh", *words], capture_output=True, text=True, check=False
+    )
+    assert (ran.returncode, "tools/lint.sh [--install]" in ran.stdout + ran.stderr) == (
+        status,
+        True,
+    )
 
 
 def test_the_plain_evaluation_stands_in_for_the_program(tmp_path: Path) -> None:
