@@ -19,7 +19,7 @@ from dataclasses import replace
 
 sys.path.insert(0, str(pathlib.Path(__file__).resolve().parent.parent / "tools"))
 
-import package_path  # noqa: E402, F401
+import package_path  # noqa: F401
 from yuzuratchet import (
     BlendState,
     CommandList,
@@ -32,11 +32,11 @@ from yuzuratchet import (
     RasterizerState,
     Scene,
     StencilFace,
-)  # noqa: E402
-from yuzuratchet.arguments import whole_number  # noqa: E402
-from yuzuratchet.limits import DEEPEST, FARTHEST_PIXEL, STRIP_CUT, TARGET_SIDE  # noqa: E402
-from yuzuratchet.recipes import mark_shadow_volumes  # noqa: E402
-from yuzuratchet.scene import Context  # noqa: E402
+)
+from yuzuratchet.arguments import whole_number
+from yuzuratchet.limits import DEEPEST, FARTHEST_PIXEL, STRIP_CUT, TARGET_SIDE
+from yuzuratchet.recipes import mark_shadow_volumes
+from yuzuratchet.scene import Context
 
 Colour = tuple[int, ...]
 Corner = tuple[float, float, int, Colour]

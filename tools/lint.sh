@@ -72,7 +72,8 @@ look_over() {
         check ruff ruff check --quiet .
     elif python=$(python_with flake8); then
         # (E203 is the space before a colon in slices, as black writes it)
-        check flake8 "$python" -m flake8 --max-line-length 120 --extend-ignore E203 $tools_files $package_files
+        check flake8 "$python" -m flake8 --max-line-length 120 --extend-ignore E203 \
+            --per-file-ignores bench/scenes.py:E402 $tools_files $package_files
         skip "ruff (flake8 looked in its place)"
     else
         skip ruff

@@ -13,6 +13,7 @@ import argparse
 import re
 import sys
 from collections.abc import Iterator
+from fnmatch import fnmatch
 from pathlib import Path
 
 TOP = Path(__file__).resolve().parent.parent
@@ -44,7 +45,7 @@ def pages() -> list[Path]:
 
 def limit(table: dict[str, int], page: Path) -> int | None:
     """What a table says of a page, or None."""
-    return next((most for pattern, most in table.items() if page.relative_to(TOP).match(pattern)), None)
+    return next((most for pattern, most in table.items() if fnmatch(str(page.relative_to(TOP)), pattern)), None)
 
 
 def anchors(page: Path) -> set[str]:

@@ -74,3 +74,9 @@ def test_too_many_words(
     (top / "docs" / "X.md").write_text("word\n" * pages.MOST_WORDS, encoding="utf-8")
     assert pages.main() == 1
     assert "words together" in capsys.readouterr().out
+
+
+def test_other_readmes_may_be_longer(top: Path) -> None:
+    page = top / "docs" / "README.md"
+    page.write_text("| " + "a" * 121 + " |\n" + "a\n" * 121, encoding="utf-8")
+    assert [*pages.problems(page)] == []
