@@ -29,12 +29,9 @@ from yuzuratchet.program import Ran, find_program
 SCRIPT = package_path.TOP / "crates" / "gallery" / "data" / "shadow-volumes.txt"
 CRATE = package_path.TOP / "crates" / "tiledraw"
 SOURCES = package_path.TOP / "python" / "src"
+CACHE = pathlib.Path(os.environ.get("XDG_CACHE_HOME") or pathlib.Path.home() / ".cache")
 # the tests' own environment, and Debian's Python, may have Pillow and numpy where this one has not
-PYTHONS = [
-    sys.executable,
-    str(package_path.TOP / "python" / "out" / "environment" / "bin" / "python"),
-    "/usr/bin/python3",
-]
+PYTHONS = [sys.executable, str(CACHE / "yuzuratchet" / "environment" / "bin" / "python"), "/usr/bin/python3"]
 
 
 def say(text: str) -> None:
