@@ -2,6 +2,9 @@
 
 from __future__ import annotations
 
+from operator import attrgetter
+from pathlib import Path
+
 import pytest
 from conftest import DATA, TOP, gallery_names
 
@@ -19,8 +22,8 @@ def test_the_gallery_is_written_back_byte_for_byte(name: str) -> None:
     assert load_script(DATA / name).script().encode("ascii") == (DATA / name).read_bytes()
 
 
-@pytest.mark.parametrize("path", EXAMPLES, ids=lambda it: it.name)
-def test_the_examples_are_written_back_byte_for_byte(path) -> None:  # type: ignore[no-untyped-def]
+@pytest.mark.parametrize("path", EXAMPLES, ids=attrgetter("name"))
+def test_the_examples_are_written_back_byte_for_byte(path: Path) -> None:
     assert load_script(path).script().encode("ascii") == path.read_bytes()
 
 

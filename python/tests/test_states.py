@@ -2,6 +2,8 @@
 
 from __future__ import annotations
 
+from typing import Callable
+
 import pytest
 
 from yuzuratchet import (
@@ -59,23 +61,23 @@ def test_numbers_there_and_back() -> None:
 
 
 @pytest.mark.parametrize(
-    ("make", "argument"),
+    ("make", "argument", "value"),
     [
-        (lambda: RasterizerState(cull_mode=4), "cull_mode"),
-        (lambda: RasterizerState(depth_bias=2**31), "depth_bias"),
-        (lambda: RasterizerState(depth_bias=-(2**31) - 1), "depth_bias"),
-        (lambda: RasterizerState(depth_bias=1.5), "depth_bias"),
-        (lambda: RasterizerState(scissor_enable=2), "scissor_enable"),
-        (lambda: StencilFace(stencil_pass_op=0), "stencil_pass_op"),
-        (lambda: StencilFace(stencil_func=9), "stencil_func"),
-        (lambda: DepthStencilState(depth_func="LESS"), "depth_func"),
-        (lambda: DepthStencilState(stencil_read_mask=256), "stencil_read_mask"),
-        (lambda: DepthStencilState(stencil_write_mask=-1), "stencil_write_mask"),
-        (lambda: BlendState(logic_op=16), "logic_op"),
-        (lambda: BlendState(write_mask=16), "write_mask"),
+        (RasterizerState, "cull_mode", 4),
+        (RasterizerState, "depth_bias", 2**31),
+        (RasterizerState, "depth_bias", -(2**31) - 1),
+        (RasterizerState, "depth_bias", 1.5),
+        (RasterizerState, "scissor_enable", 2),
+        (StencilFace, "stencil_pass_op", 0),
+        (StencilFace, "stencil_func", 9),
+        (DepthStencilState, "depth_func", "LESS"),
+        (DepthStencilState, "stencil_read_mask", 256),
+        (DepthStencilState, "stencil_write_mask", -1),
+        (BlendState, "logic_op", 16),
+        (BlendState, "write_mask", 16),
     ],
 )
-def test_no_states(make, argument: str) -> None:  # type: ignore[no-untyped-def]
+def test_no_states(make: Callable[..., object], argument: str, value: object) -> None:
     with pytest.raises(ArgumentError) as raised:
-        make()
+        make(**{argument: value})
     assert raised.value.argument == argument

@@ -5,6 +5,7 @@ from __future__ import annotations
 import os
 import subprocess
 import sys
+from operator import attrgetter
 from pathlib import Path
 
 import make_examples
@@ -38,7 +39,7 @@ def run_tool(name: str, *words: str, **environment: str) -> subprocess.Completed
     )
 
 
-@pytest.mark.parametrize("tool", TOOLS, ids=lambda it: it.stem)
+@pytest.mark.parametrize("tool", TOOLS, ids=attrgetter("stem"))
 def test_help(tool: Path) -> None:
     ran = run_tool(str(tool), "--help")
     assert (ran.returncode, ran.stderr) == (0, "") and ran.stdout.startswith("usage: ")

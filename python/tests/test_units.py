@@ -84,4 +84,4 @@ def test_numbers_of_numpy() -> None:
     assert subpixels(np.int64(2)) == 131_072
     assert stored_depth(np.float64(1)) == 16_777_215
     assert stored_depth(np.int32(1)) == 1
-    assert rgba(np.array([1, 2, 3, 4], dtype=np.uint8)) == (1, 2, 3, 4)  # type: ignore[arg-type]
+    assert rgba(np.array([1, 2, 3, 4], dtype=np.uint8)) == (1, 2, 3, 4)

@@ -10,7 +10,7 @@ from conftest import TOP
 
 from yuzuratchet.errors import ArgumentError
 from yuzuratchet.limits import DEFERRED_CONTEXTS, LIMITS
-from yuzuratchet.messages import FAULTS, REFUSALS, message_of
+from yuzuratchet.messages import FAULTS, REFUSALS, Message, message_of
 from yuzuratchet.words import ACTORS, DEFERRED, TARGET, WORDS
 
 PAGE = (TOP / "docs" / "SCRIPT.md").read_text(encoding="utf-8")
@@ -44,7 +44,7 @@ def test_the_page_has_the_ranges(name: str) -> None:
 @pytest.mark.parametrize(
     ("section", "messages"), [("Faults of a script", FAULTS), ("Refusals", REFUSALS)]
 )
-def test_the_page_has_the_messages(section: str, messages: dict) -> None:
+def test_the_page_has_the_messages(section: str, messages: dict[int, Message]) -> None:
     page = {int(number): {"when": when, "advice": advice} for number, when, advice in rows(section)}
     assert page == {number: asdict(message) for number, message in messages.items()}
 
