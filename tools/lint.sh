@@ -92,8 +92,7 @@ look_over() {
     fi
     if command -v shellcheck >/dev/null; then check shellcheck shellcheck -x $shell_files .ci/run; else skip shellcheck; fi
     if command -v node >/dev/null && command -v tsc >/dev/null; then
-        check "tsc of the page" tsc --project web/jsconfig.json
-        check "tsc of the worker" tsc --project web/jsconfig.worker.json
+        for project in web/jsconfig*.json; do check "tsc ($project)" tsc --project "$project"; done
     else
         skip "tsc"
     fi

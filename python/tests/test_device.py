@@ -328,9 +328,11 @@ def test_the_longest_answer_line() -> None:
     assert DEVICE["answers"]["longest_line"] == max(map(len, lines))
 
 
-def test_no_other_file_of_the_page_has_these_numbers() -> None:
-    known = {*LIMITS.values(), DEVICE["image"]["header_size"]} - {8, 15, 64, 65_536, 65_535}
-    for path in sorted((TOP / "web").glob("*.js")):
+def test_the_page_repeats_no_limit() -> None:
+    known = {it for it in LIMITS.values() if it > 64} - {65_536, 65_535}
+    paths = [path for path in (TOP / "web").rglob("*.js") if not {"out", "tests"} & {*path.parts}]
+    assert paths
+    for path in paths:
         found = {int(it) for it in re.findall(r"(?<![\w.])\d+(?![\w.])", uncommented(path))}
         assert not found & known, f"{path.name} repeats {sorted(found & known)}"
 
