@@ -13,13 +13,15 @@ edited function is read off its lines:
     no proof: it calls ..                   it stands on a refused function, and wasn't looked at: a later round
     nothing                                 the check stopped before it: a later round, alone at last
 
-An edit outside of every function (a constant, a field) is tried alone, and then any refusal of the crate counts. Before
-its edits each crate is tried with one that changes nothing, which must be told as proved.
+An edit outside of every function (a constant, a field) is tried alone, and then any refusal of the crate counts.
+Before its edits each crate is tried with one that changes nothing, which must be told as proved.
 
 The copy lies in FOLDER (a new folder under /tmp without --room), and --keep leaves it there, so that the next run has
-the work of this one. With --all the edits of must-fail/ are tried too. Status 0: each edit was refused; 1: one wasn't, or
-couldn't be applied or judged; 2: wrong words.
+the work of this one. With --all the edits of must-fail/ are tried too. Status 0: each edit was refused; 1: one
+wasn't, or couldn't be applied or judged; 2: wrong words.
 """
+
+from __future__ import annotations
 
 import argparse
 import os
@@ -29,6 +31,15 @@ import subprocess
 import sys
 import tempfile
 import time
+from collections.abc import Callable
+from typing import Optional
+
+Texts = dict[str, str]
+# a pattern of a function's name, and where its body begins and ends
+Body = tuple[str, int, int]
+Bodies = Callable[[str, str], list[Body]]
+# patterns of names, and None for what stands in no function
+Functions = set[Optional[str]]
 
 TOP = os.path.dirname(os.path.dirname(os.path.abspath(__file__)))
 PARTS = ("src", "specs", "proofs")
@@ -42,25 +53,25 @@ METHOD = r"(?:\w+::)*"
 class Edit:
     """One file of edits/, with the places that it changes."""
 
-    def __init__(self, path):
+    def __init__(self, path: str) -> None:
         self.path = path
         self.label = os.path.relpath(path, f"{TOP}/crates")
-        self.pairs = []
-        self.outcome = None
+        self.pairs: list[tuple[str, str, str]] = []
+        self.outcome: str | None = None
         file = old = None
         with open(path, encoding="utf-8") as lines:
             for line in lines.read().split("\n"):
                 if line.startswith("file: "):
-                    file = line[len("file: "):].strip()
+                    file = line[len("file: ") :].strip()
                 elif line.startswith("old: "):
-                    old = line[len("old: "):]
+                    old = line[len("old: ") :]
                 elif line.startswith("new:") and file and old:
-                    self.pairs.append((file, old, line[len("new:"):].removeprefix(" ")))
+                    self.pairs.append((file, old, line[len("new:") :].removeprefix(" ")))
                     old = None
 
-    def applied(self, texts):
+    def applied(self, texts: Texts) -> Texts | None:
         """The changed texts by their files, or None where one of its texts doesn't stand there once."""
-        changed = {}
+        changed: Texts = {}
         for file, old, new in self.pairs:
             text = changed.get(file, texts.get(file, ""))
             if text.count(old) != 1:
@@ -68,7 +79,7 @@ class Edit:
             changed[file] = text.replace(old, new)
         return changed or None
 
-    def functions(self, texts, bodies):
+    def functions(self, texts: Texts, bodies: Bodies) -> Functions:
         """The functions in whose bodies it changes something, None among them for a place outside of all."""
         found = set()
         texts = dict(texts)
@@ -80,12 +91,12 @@ class Edit:
         return found
 
 
-def blanked(text):
+def blanked(text: str) -> str:
     """The text with comments and literals as spaces, so that braces and words in them aren't seen."""
     return LITERAL.sub(lambda it: re.sub(r"[^\n]", " ", it[0]), text)
 
 
-def closing(text, start):
+def closing(text: str, start: int) -> int:
     """The place behind the brace that closes the one at start."""
     depth = 0
     for at in range(start, len(text)):
@@ -95,7 +106,7 @@ def closing(text, start):
     return len(text)
 
 
-def brace_behind(text, start):
+def brace_behind(text: str, start: int) -> int | None:
     """The first brace or semicolon from start on that stands in no parentheses or brackets."""
     depth = 0
     for at in range(start, len(text)):
@@ -105,7 +116,7 @@ def brace_behind(text, start):
     return None
 
 
-def without_generics(header):
+def without_generics(header: str) -> str:
     """A header of an impl without its angle brackets' contents."""
     kept, depth = [], 0
     for at, letter in enumerate(header):
@@ -118,24 +129,25 @@ def without_generics(header):
     return "".join(kept)
 
 
-def impl_pattern(header):
-    """What the names of an impl's methods begin with, as a pattern: its type, and for a trait's impl the trait behind it."""
+def impl_pattern(header: str) -> str:
+    """What the names of an impl's methods begin with, as a pattern: its type, and for a trait's impl the trait behind
+    it."""
     words = without_generics(header.removeprefix("impl")).split(" where ")[0]
     trait, _, subject = words.partition(" for ")
     named = re.findall(r"[A-Za-z_]\w*", subject or trait)
-    base = named[-1] if named else r"\w+"
+    base: str = named[-1] if named else r"\w+"
     if subject:
-        return base + re.findall(r"[A-Za-z_]\w*", trait)[-1] + r"\w*"
+        return str(base + re.findall(r"[A-Za-z_]\w*", trait)[-1] + r"\w*")
     return METHOD + base
 
 
-def pattern_of(path):
+def pattern_of(path: list[str]) -> str:
     """The pattern of a function's name, from the names of its crate, modules and impls."""
     method = [at for at, name in enumerate(path) if name.startswith(METHOD)]
-    return path[0] + "::" + "::".join(path[method[-1]:]) if method else "::".join(path)
+    return path[0] + "::" + "::".join(path[method[-1] :]) if method else "::".join(path)
 
 
-def functions_in(text, path):
+def functions_in(text: str, path: list[str]) -> list[Body]:
     """Each function in a text as (pattern of its name, start and end of its body)."""
     text = blanked(text)
     found = []
@@ -143,7 +155,7 @@ def functions_in(text, path):
     while item := ITEM.search(text, at):
         kind = item[1]
         if kind == "fn":
-            name = re.match(r"\s*(\w+)", text[item.end():])
+            name = re.match(r"\s*(\w+)", text[item.end() :])
             at = item.end()
             if not name:
                 continue
@@ -164,26 +176,28 @@ def functions_in(text, path):
             at = item.end()
             continue
         end = closing(text, brace)
-        header = text[item.start():brace].strip()
+        header = text[item.start() : brace].strip()
         inner = impl_pattern(header) if kind == "impl" else re.findall(r"\w+", header)[1]
-        for name, start, stop in functions_in(text[brace + 1:end - 1], [*path, inner]):
-            found.append((name, start + brace + 1, stop + brace + 1))
+        for pattern, start, stop in functions_in(text[brace + 1 : end - 1], [*path, inner]):
+            found.append((pattern, start + brace + 1, stop + brace + 1))
         at = end
     return found
 
 
-def bodies_of(crate):
+def bodies_of(crate: str) -> Bodies:
     """A function that gives the functions of a file of a crate, by patterns of their names as the check prints them."""
-    def bodies(file, text):
+
+    def bodies(file: str, text: str) -> list[Body]:
         if not file.startswith("src/"):
             return []
         inner = file.removeprefix("src/").removesuffix(".rt").split("/")
         path = [crate] if inner[-1] in ("lib", "main") else [crate, *inner]
         return functions_in(text, path)
+
     return bodies
 
 
-def sources(folder):
+def sources(folder: str) -> Texts:
     texts = {}
     for part in PARTS:
         for at, _, files in os.walk(f"{folder}/{part}"):
@@ -193,7 +207,7 @@ def sources(folder):
     return texts
 
 
-def check(folder, texts):
+def check(folder: str, texts: Texts) -> tuple[int, str]:
     """Checks a crate's copy with these texts in place of its own, and gives back what the check said."""
     own = {}
     for file, text in texts.items():
@@ -202,7 +216,14 @@ def check(folder, texts):
         with open(f"{folder}/{file}", "w", encoding="utf-8") as it:
             it.write(text)
     try:
-        ran = subprocess.run(["rt", "check"], cwd=folder, stdin=subprocess.DEVNULL, stdout=subprocess.PIPE, stderr=subprocess.STDOUT, errors="replace")
+        ran = subprocess.run(
+            ["rt", "check"],
+            cwd=folder,
+            stdin=subprocess.DEVNULL,
+            stdout=subprocess.PIPE,
+            stderr=subprocess.STDOUT,
+            errors="replace",
+        )
         return ran.returncode, ran.stdout
     finally:
         for file, text in own.items():
@@ -210,7 +231,7 @@ def check(folder, texts):
                 it.write(text)
 
 
-def told_of(said, pattern):
+def told_of(said: str, pattern: str) -> str:
     """What the check said of a function, by its last line: refused, proved, later or nothing."""
     lines = re.findall(rf"^(?:fn|final fn) {pattern}(?:-\d+)?: (.*)$", said, re.M)
     if any("did not prove" in it or (it.startswith("not proved") and "it calls" not in it) for it in lines):
@@ -220,26 +241,33 @@ def told_of(said, pattern):
     return "proved" if lines and all(it.startswith("proved") for it in lines) else "nothing"
 
 
-def note_calls(said, calls):
+def note_calls(said: str, calls: dict[str, set[str]]) -> None:
     """Notes what the check told of functions that stand on refused ones."""
     for name, callees in re.findall(r"^(?:fn|final fn) (\S+?)(?:-\d+)?: .*?it calls (.*?), which", said, re.M):
         calls.setdefault(name, set()).update(re.findall(r"`([^`]+)`", callees))
 
 
-def stands_on(function, others, calls):
+def stands_on(function: str, others: Functions, calls: dict[str, set[str]]) -> bool:
     """Whether a function is known to call one of the others."""
     called = {callee for name, callees in calls.items() if re.fullmatch(function, name) for callee in callees}
     return any(re.fullmatch(other, callee) for other in others if other for callee in called)
 
 
-def round_of(edits, texts, bodies, alone, calls):
-    """Edits of functions of which none is known to call another: the edits, their functions, and the texts with all of them."""
-    chosen, taken, changed = [], set(), dict(texts)
+def round_of(
+    edits: list[Edit], texts: Texts, bodies: Bodies, alone: bool, calls: dict[str, set[str]]
+) -> tuple[list[tuple[Edit, Functions]], Texts]:
+    """Edits of functions of which none is known to call another: the edits, their functions, and the texts with all
+    of them."""
+    chosen: list[tuple[Edit, Functions]] = []
+    taken: Functions = set()
+    changed = dict(texts)
     for edit in edits:
         functions = edit.functions(texts, bodies)
         if taken & functions or (None in functions and chosen):
             continue
-        if any(stands_on(it, taken, calls) for it in functions if it) or any(stands_on(it, functions, calls) for it in taken):
+        if any(stands_on(it, taken, calls) for it in functions if it) or any(
+            stands_on(it, functions, calls) for it in taken
+        ):
             continue
         with_it = edit.applied(changed)
         if with_it is None:
@@ -252,12 +280,12 @@ def round_of(edits, texts, bodies, alone, calls):
     return chosen, {file: text for file, text in changed.items() if text != texts[file]}
 
 
-def judge(edit, functions, code, said, alone):
+def judge(edit: Edit, functions: Functions, code: int, said: str, alone: bool) -> None:
     """Notes an edit's outcome, if the check told it."""
     if None in functions:
         edit.outcome = "refused" if code == 1 else "NOT REFUSED"
         return
-    told = {told_of(said, it) for it in functions}
+    told = {told_of(said, it) for it in functions if it}
     if "refused" in told:
         edit.outcome = "refused"
     elif told == {"proved"}:
@@ -266,24 +294,30 @@ def judge(edit, functions, code, said, alone):
         edit.outcome = "refused" if code == 1 and "later" in told else "NOT JUDGED: the check never looked at it"
 
 
-def harmless(crate, folder, texts, bodies):
+def harmless(crate: str, folder: str, texts: Texts, bodies: Bodies) -> bool:
     """Tries an edit that changes nothing, which must be told as proved."""
     for file in sorted(texts):
         for name, start, _ in bodies(file, texts[file]):
             if "tests" in name.split("::"):
                 continue
-            code, said = check(folder, {file: texts[file][:start + 1] + " /* nothing */" + texts[file][start + 1:]})
+            code, said = check(folder, {file: texts[file][: start + 1] + " /* nothing */" + texts[file][start + 1 :]})
             told = told_of(said, name)
             print(f"{crate}: an edit that changes nothing, in {name}: {told}", flush=True)
             return code == 0 and told == "proved"
     return True
 
 
-def try_crate(crate, room, with_gate):
+def try_crate(crate: str, room: str, with_gate: bool) -> bool:
     folder = f"{room}/crates/{crate}"
     kinds = ["edits", "must-fail"] if with_gate else ["edits"]
     paths = [f"{TOP}/crates/{crate}/{kind}" for kind in kinds]
-    edits = [Edit(f"{it}/{name}") for it in paths if os.path.isdir(it) for name in sorted(os.listdir(it)) if name.endswith(".edit")]
+    edits = [
+        Edit(f"{it}/{name}")
+        for it in paths
+        if os.path.isdir(it)
+        for name in sorted(os.listdir(it))
+        if name.endswith(".edit")
+    ]
     if not edits:
         return True
     texts, bodies, began = sources(folder), bodies_of(crate), time.time()
@@ -291,7 +325,8 @@ def try_crate(crate, room, with_gate):
         if edit.applied(texts) is None:
             edit.outcome = "BAD EDIT: an old text doesn't stand in its file once"
     well = harmless(crate, folder, texts, bodies)
-    rounds, alone, calls = 0, False, {}
+    rounds, alone = 0, False
+    calls: dict[str, set[str]] = {}
     while left := [it for it in edits if it.outcome is None]:
         chosen, changed = round_of(left, texts, bodies, alone, calls)
         code, said = check(folder, changed)
@@ -300,7 +335,10 @@ def try_crate(crate, room, with_gate):
         for edit, functions in chosen:
             judge(edit, functions, code, said, alone or len(chosen) == 1)
         alone = all(edit.outcome is None for edit, _ in chosen) or alone and len(left) > 1
-        print(f"{crate}: round {rounds}: {sum(edit.outcome is not None for edit, _ in chosen)} of {len(chosen)} judged", flush=True)
+        print(
+            f"{crate}: round {rounds}: {sum(edit.outcome is not None for edit, _ in chosen)} of {len(chosen)} judged",
+            flush=True,
+        )
     for edit in edits:
         if edit.outcome != "refused":
             print(f"{edit.label}: {edit.outcome}", flush=True)
@@ -309,7 +347,7 @@ def try_crate(crate, room, with_gate):
     return well and refused == len(edits)
 
 
-def copied(room):
+def copied(room: str) -> None:
     """Brings the copy up to date: sources of each crate, and what its checks kept where the copy has nothing."""
     for name in ("crates.txt", "HANDLES"):
         shutil.copy(f"{TOP}/{name}", room)
@@ -324,14 +362,16 @@ def copied(room):
             shutil.copytree(f"{own}/out", f"{copy}/out", symlinks=True)
 
 
-def main():
+def main() -> int:
     parser = argparse.ArgumentParser(description=__doc__, formatter_class=argparse.RawDescriptionHelpFormatter)
     parser.add_argument("names", nargs="*", metavar="NAME", help="a crate; without one, every crate that has edits")
     parser.add_argument("--all", action="store_true", help="the edits of must-fail/ too")
     parser.add_argument("--room", help="the folder of the copy")
     parser.add_argument("--keep", action="store_true", help="leave the copy there")
     given = parser.parse_args()
-    crates = given.names or [it for it in sorted(os.listdir(f"{TOP}/crates")) if os.path.isdir(f"{TOP}/crates/{it}/edits")]
+    crates = given.names or [
+        it for it in sorted(os.listdir(f"{TOP}/crates")) if os.path.isdir(f"{TOP}/crates/{it}/edits")
+    ]
     unknown = [it for it in crates if not os.path.isdir(f"{TOP}/crates/{it}")]
     if unknown:
         parser.error(f"no crate {' '.join(unknown)}")
