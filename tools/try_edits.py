@@ -265,9 +265,9 @@ def round_of(
         functions = edit.functions(texts, bodies)
         if taken & functions or (None in functions and chosen):
             continue
-        if any(stands_on(it, taken, calls) for it in functions if it) or any(
-            stands_on(it, functions, calls) for it in taken
-        ):
+        if any(stands_on(it, taken, calls) for it in functions if it):
+            continue
+        if any(stands_on(it, functions, calls) for it in taken if it):
             continue
         with_it = edit.applied(changed)
         if with_it is None:
