@@ -16,6 +16,7 @@ from __future__ import annotations
 import argparse
 import re
 import sys
+import textwrap
 from collections.abc import Iterator, Sequence
 from functools import cache
 from pathlib import Path
@@ -84,13 +85,12 @@ def table(head: Sequence[str], rows: Sequence[Sequence[str]]) -> str:
 
 
 def counts() -> str:
-    """How many edits each crate has."""
+    """How many edits each crate has: those that the gate tries, and those beside it."""
     rows = [(name, len(edits(name, "must-fail")), len(edits(name, "edits"))) for name in crates()]
-    rows = [*(row for row in rows if row[1] or row[2])]
-    rows.append(("all", sum(row[1] for row in rows), sum(row[2] for row in rows)))
-    return table(
-        ("Crate", "The gate tries", "Beside it"), [(name, str(gate), str(beside)) for name, gate, beside in rows]
-    )
+    gate, beside = sum(row[1] for row in rows), sum(row[2] for row in rows)
+    each = ", ".join(f"{row[0]} {row[1]} + {row[2]}" for row in rows if row[1] or row[2])
+    text = f"The gate tries {gate} edits, and {beside} stand beside it; of each crate so many and so many: {each}."
+    return textwrap.fill(text, 120, break_on_hyphens=False)
 
 
 def named() -> str:

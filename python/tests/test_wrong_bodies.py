@@ -48,7 +48,7 @@ def test_the_tables_are_written(edit: Path, monkeypatch: pytest.MonkeyPatch) -> 
     assert run(monkeypatch, "--check") == 0
     page = wrong_bodies.PAGE.read_text(encoding="utf-8")
     assert page.startswith("# Before\n") and page.endswith("\n\nBehind.\n")
-    assert "| answer | 1 | 0 |\n| all | 1 | 0 |" in page
+    assert "The gate tries 1 edits, and 0 stand beside it;" in page and "answer 1 + 0." in page
     assert "| a number that is one more | answer `one-more` |" in page
     edit.unlink()
     assert run(monkeypatch, "--check") == 1
