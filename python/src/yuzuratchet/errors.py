@@ -19,6 +19,10 @@ class ArgumentError(YuzuratchetError, ValueError):
         self.message = message
 
 
+class WrongType(ArgumentError, TypeError):
+    """An argument of a type that can't be taken."""
+
+
 class CallRefused(YuzuratchetError, ValueError):
     """A call that the device refuses.
 
@@ -58,16 +62,28 @@ class ScriptRefused(YuzuratchetError):
     """The program refused a line of a script, or found a fault in it.
 
     ``line`` and ``number`` are those of its last answer line, and ``answers`` are the answers
-    before it.
+    before it. ``scene`` counts the scene from 0, where many were drawn.
     """
 
     def __init__(
-        self, line: int, number: int, meaning: str, answers: tuple[object, ...] = ()
+        self,
+        line: int,
+        number: int,
+        meaning: str,
+        answers: tuple[object, ...] = (),
+        scene: int | None = None,
     ) -> None:
-        super().__init__(f"line {line} was refused with {number}: {meaning}")
+        which = "" if scene is None else f"scene {scene}: "
+        super().__init__(f"{which}line {line} was refused with {number}: {meaning}")
         self.line = line
         self.number = number
+        self.meaning = meaning
         self.answers = answers
+        self.scene = scene
+
+    def of_scene(self, scene: int) -> ScriptRefused:
+        """The same, of a scene among many."""
+        return ScriptRefused(self.line, self.number, self.meaning, self.answers, scene)
 
 
 class ProgramMissing(YuzuratchetError):
@@ -84,6 +100,10 @@ class PageMissing(YuzuratchetError):
 
 class ProgramFailed(YuzuratchetError):
     """The program ended as it never should: by a signal, with another status, or too late."""
+
+
+class ProgramStopped(ProgramFailed):
+    """A run of the program was ended by whoever started it."""
 
 
 class ImageError(YuzuratchetError, ValueError):

@@ -12,8 +12,8 @@ from pathlib import Path
 from typing import Final
 
 from .errors import LibraryMissing, ProgramFailed
-from .limits import TARGET_SIDE
 from .program import Ran, named_file
+from .targa import HEADER_SIZE, image_size, target_sides
 
 NAME: Final = "yuzuratchet"
 VARIABLE: Final = "YUZURATCHET_LIBRARY"
@@ -31,7 +31,6 @@ STATUSES: Final = {
     8: "two areas overlap",
 }
 
-HEADER_SIZE: Final = 18
 # the longest answer line, `pixel` with its numbers, has 46 bytes
 LINE_SIZE: Final = 64
 
@@ -132,8 +131,5 @@ def run_library(script: bytes, *, library: str | Path | None = None) -> Ran:
 
 def _image_size(script: bytes) -> int:
     """The size of the image by the first line; where that says nothing, the report will."""
-    words = script[:64].split(b"\n", 1)[0].split(b" ")
-    sides = [int(it) if it.isdigit() and len(it) <= 4 else 0 for it in words[1:]]
-    if words[0] != b"target" or len(sides) != 2 or max(sides) > TARGET_SIDE:
-        return HEADER_SIZE
-    return HEADER_SIZE + 4 * sides[0] * sides[1]
+    sides = target_sides(script)
+    return image_size(*sides) if sides else HEADER_SIZE
