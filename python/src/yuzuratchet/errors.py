@@ -94,6 +94,10 @@ class LibraryMissing(YuzuratchetError):
     """The library isn't built, isn't where it was said to be, or is another."""
 
 
+class PackageMissing(YuzuratchetError):
+    """A package of Python's that something wants isn't installed."""
+
+
 class PageMissing(YuzuratchetError):
     """The page isn't built, or isn't where it was said to be."""
 

@@ -7,6 +7,7 @@ from pathlib import Path
 
 from .errors import ScriptFault
 from .faults import FIRST_LINE, LineReader, parsed_line, parsed_target
+from .labels import Labels
 from .line import Line
 from .scene import Scene
 
@@ -51,5 +52,8 @@ def read_script(text: str | bytes, *, strict: bool = False) -> Scene:
 
 
 def load_script(path: str | Path, *, strict: bool = False) -> Scene:
-    """The scene of a script's file, as :func:`read_script`."""
-    return read_script(Path(path).read_bytes(), strict=strict)
+    """The scene of a script's file, as :func:`read_script`, with the names that lie beside it."""
+    text = Path(path).read_bytes()
+    scene = read_script(text, strict=strict)
+    scene.labels = Labels.read(Path(path), text)
+    return scene
