@@ -29,15 +29,24 @@ class CallRefused(YuzuratchetError, ValueError):
     ``number`` is the refusal's number, which :data:`yuzuratchet.messages.REFUSALS` explains, and
     ``argument`` the name of the argument that is to blame, or the call's own word where none is.
     ``place`` counts the argument among those of the line, from 0, and is None where none is to
-    blame. ``line`` is the number of the line, where a whole script was taken.
+    blame. ``line`` is the number of the line, where a whole script was taken. ``of`` is another line
+    that has to do with it, and the place of the argument there: the index that is no vertex.
     """
 
-    def __init__(self, number: int, argument: str, message: str, place: int | None = None) -> None:
+    def __init__(
+        self,
+        number: int,
+        argument: str,
+        message: str,
+        place: int | None = None,
+        of: tuple[int, int] | None = None,
+    ) -> None:
         super().__init__(f"{argument}: {message} (refusal {number})")
         self.number = number
         self.argument = argument
         self.place = place
         self.message = message
+        self.of = of
         self.line: int | None = None
 
 

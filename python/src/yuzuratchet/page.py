@@ -12,7 +12,6 @@ import html
 import json
 import re
 from dataclasses import asdict, dataclass
-from enum import IntEnum, IntFlag
 from pathlib import Path
 from typing import Final
 
@@ -20,14 +19,7 @@ from .errors import PageMissing
 from .limits import DEEPEST, SUBPIXELS
 from .messages import FAULTS, REFUSALS
 from .program import named_file, repository
-from .states import (
-    ColorWriteEnable,
-    ComparisonFunc,
-    CullMode,
-    LogicOp,
-    PrimitiveTopology,
-    StencilOp,
-)
+from .states import names_of
 from .words import TARGET, WORDS, Argument, Word
 
 VARIABLE: Final = "YUZURATCHET_PAGE"
@@ -124,22 +116,8 @@ def word_table() -> dict[str, dict[str, object]]:
     return {word.name: _word(word) for word in (TARGET, *WORDS.values())}
 
 
-def _kind(name: str) -> type[IntEnum] | type[IntFlag] | None:
-    """The enumeration of an argument's values."""
-    kinds = {"topology": PrimitiveTopology, "cull_mode": CullMode, "logic_op": LogicOp}
-    if name in kinds:
-        return kinds[name]
-    if name == "write_mask":
-        return ColorWriteEnable
-    return next((kind for end, kind in _ENDS.items() if name.endswith(end)), None)
-
-
-_ENDS: Final[dict[str, type[IntEnum]]] = {"_func": ComparisonFunc, "_op": StencilOp}
-
-
 def _argument(argument: Argument) -> dict[str, object]:
-    kind = _kind(argument.name)
-    values = {str(int(it)): it.name for it in kind.__members__.values()} if kind else {}
+    values = {str(value): name for name, value in names_of(argument).items()}
     return {"name": argument.name, "range": argument.range, "values": values}
 
 

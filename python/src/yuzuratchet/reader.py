@@ -6,7 +6,7 @@ from collections import Counter
 from pathlib import Path
 
 from .errors import ScriptFault
-from .faults import FIRST_LINE, LineReader, parsed_line, parsed_target
+from .faults import EMPTY, FIRST_LINE, LineReader, parsed_line, parsed_target
 from .labels import Labels
 from .line import Line
 from .scene import Scene
@@ -27,7 +27,7 @@ def parse(text: str | bytes) -> tuple[int, int, list[Line]]:
     """
     lines = lines_of(text if isinstance(text, bytes) else text.encode("utf-8"))
     if not lines:
-        raise ScriptFault(1, FIRST_LINE, 0, 0, "the script is empty")
+        raise ScriptFault(1, FIRST_LINE, 0, 0, EMPTY)
     width, height = parsed_target(lines[0])
     found, finished = [], Counter[str]()
     for line in lines[1:]:
