@@ -39,7 +39,7 @@ def test_check(scene: Path, program: Path, capsys: pytest.CaptureFixture[str]) -
 def test_explain(scene: Path, program: Path, capsys: pytest.CaptureFixture[str]) -> None:
     assert main(["explain", str(scene), "1", "2", "--program", str(program)]) == 0
     assert capsys.readouterr().out.startswith(
-        f"{scene}: pixel (1, 2) holds colour 1 2 3 4, depth 16777215, stencil 0\n\nline "
+        f"{scene}: pixel (1, 2) holds colour 1 2 3 4, depth 16777215 (1), stencil 0\n\nline "
     )
 
 

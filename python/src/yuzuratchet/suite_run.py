@@ -3,7 +3,6 @@
 from __future__ import annotations
 
 import hashlib
-import sys
 import time
 from concurrent.futures import Future, ThreadPoolExecutor, as_completed, wait
 from dataclasses import dataclass, field, replace
@@ -16,6 +15,7 @@ from .errors import ProgramFailed, ScriptRefused, YuzuratchetError
 from .images import decode, encode
 from .planes import planes_behind
 from .program import Ran, Running, run_program
+from .progress import ProgressLine
 from .suite import Expected, Outcome, Suite, Verdict, expected_text, judged
 
 GRACE: Final = 0.5
@@ -25,33 +25,21 @@ Told = Callable[[Outcome], None]
 
 
 class Progress:
-    """A line on standard error that tells how far a suite is.
-
-    On a terminal it is written over; else it is written anew now and then.
-    """
-
-    EVERY = 10.0
+    """Tells how far a suite is."""
 
     def __init__(self, total: int) -> None:
         self.total, self.done, self.differ = total, 0, 0
-        self.is_terminal = sys.stderr.isatty()
-        self.told = time.monotonic()
+        self.line = ProgressLine()
 
     def __call__(self, outcome: Outcome) -> None:
         """Counts an outcome, and tells."""
         self.done += 1
         self.differ += outcome.verdict is not Verdict.AGREES
-        line = f"{self.done} of {self.total} scripts, {self.differ} without agreement"
-        if self.is_terminal:
-            print(f"\r{line}", end="", file=sys.stderr, flush=True)
-        elif time.monotonic() - self.told > self.EVERY:
-            self.told = time.monotonic()
-            print(line, file=sys.stderr, flush=True)
+        self.line.tell(f"{self.done} of {self.total} scripts, {self.differ} without agreement")
 
     def end(self) -> None:
         """Ends the line of a terminal."""
-        if self.is_terminal and self.done:
-            print(file=sys.stderr, flush=True)
+        self.line.end()
 
 
 @dataclass(frozen=True)
