@@ -12,14 +12,23 @@ import html
 import json
 import re
 from dataclasses import asdict, dataclass
+from enum import IntEnum, IntFlag
 from pathlib import Path
 from typing import Final
 
 from .errors import PageMissing
+from .labels import Labels
 from .limits import DEEPEST, SUBPIXELS
 from .messages import FAULTS, REFUSALS
 from .program import named_file, repository
-from .states import names_of
+from .states import (
+    ColorWriteEnable,
+    ComparisonFunc,
+    CullMode,
+    LogicOp,
+    PrimitiveTopology,
+    StencilOp,
+)
 from .words import TARGET, WORDS, Argument, Word
 
 VARIABLE: Final = "YUZURATCHET_PAGE"
@@ -93,8 +102,8 @@ def build_page(sources: Path, module: bytes, gallery: list[Entry], opening: str)
     return page
 
 
-def with_script(page: str, name: str, text: str) -> str:
-    """A built page that shows this script first, under its name.
+def with_script(page: str, name: str, text: str, labels: Labels = Labels()) -> str:
+    """A built page that shows this script first, under its name, with the names of its lines.
 
     Raises :class:`~yuzuratchet.errors.PageMissing` where the text is no built page.
     """
@@ -103,7 +112,10 @@ def with_script(page: str, name: str, text: str) -> str:
         raise PageMissing(f"this is no built page.\n{HOW_TO_BUILD}")
     title = f"<title>{html.escape(name)} - Yuzuratchet</title>"
     page = re.sub(r"<title>.*?</title>", lambda _: title, page, count=1)
-    return opening.sub(lambda _: _json("opening", {"name": name, "text": text}), page)
+    shown: dict[str, object] = {"name": name, "text": text}
+    if labels:
+        shown["labels"] = [*labels]
+    return opening.sub(lambda _: _json("opening", shown), page)
 
 
 def message_table() -> dict[str, dict[str, str]]:
@@ -116,8 +128,22 @@ def word_table() -> dict[str, dict[str, object]]:
     return {word.name: _word(word) for word in (TARGET, *WORDS.values())}
 
 
+def _kind(name: str) -> type[IntEnum] | type[IntFlag] | None:
+    """The enumeration of an argument's values."""
+    kinds = {"topology": PrimitiveTopology, "cull_mode": CullMode, "logic_op": LogicOp}
+    if name in kinds:
+        return kinds[name]
+    if name == "write_mask":
+        return ColorWriteEnable
+    return next((kind for end, kind in _ENDS.items() if name.endswith(end)), None)
+
+
+_ENDS: Final[dict[str, type[IntEnum]]] = {"_func": ComparisonFunc, "_op": StencilOp}
+
+
 def _argument(argument: Argument) -> dict[str, object]:
-    values = {str(value): name for name, value in names_of(argument).items()}
+    kind = _kind(argument.name)
+    values = {str(int(it)): it.name for it in kind.__members__.values()} if kind else {}
     return {"name": argument.name, "range": argument.range, "values": values}
 
 
