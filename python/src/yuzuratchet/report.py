@@ -18,6 +18,9 @@ from .planes import PLANES
 from .suite import Outcome, Suite, Verdict
 from .suite_run import SuiteRun
 
+Pictures = list[tuple[str, Pixels]]
+"""Images with their captions."""
+
 ANSWER_LINES = 40
 LEAST_WIDTH = 240
 CUT_SHORT = "the whole suite"
@@ -157,37 +160,51 @@ def _case(suite: ElementTree.Element, of: str, name: str, seconds: float) -> Ele
 def write_page(report: Report, path: Path) -> None:
     """Writes one page with what doesn't agree: its images, what differs marked, and its answers."""
     differing = report.differing
-    page = PAGE.substitute(
-        title=html.escape(f"Suite {report.name}"),
-        state="differs" if differing or report.run.cut else "same",
-        summary=html.escape(report.summary),
-        sections="\n".join(section(report, outcome) for outcome in differing),
+    is_well = not differing and not report.run.cut
+    sections = [section(report, outcome) for outcome in differing]
+    path.write_text(page(f"Suite {report.name}", report.summary, is_well, sections), encoding="utf-8")
+
+
+def page(title: str, summary: str, is_well: bool, sections: list[str]) -> str:
+    """A page of sections, which are HTML already."""
+    return PAGE.substitute(
+        title=html.escape(title),
+        state="same" if is_well else "differs",
+        summary=html.escape(summary),
+        sections="\n".join(sections),
     )
-    path.write_text(page, encoding="utf-8")
 
 
 def section(report: Report, outcome: Outcome) -> str:
     """A script that doesn't agree."""
-    parts = [f"<h2>{html.escape(outcome.name)}: {html.escape(outcome.text)}</h2>"]
-    text = report.details(outcome)
+    title = f"{outcome.name}: {outcome.text}"
+    return section_of(title, report.details(outcome), pictures(report.suite, outcome))
+
+
+def section_of(title: str, text: str, shown: Pictures) -> str:
+    """A section of a page: its title, a text, and pictures."""
+    parts = [f"<h2>{html.escape(title)}</h2>"]
     parts += [f"<pre>{html.escape(text)}</pre>"] if text else []
-    return "\n".join(parts + figures(report.suite, outcome))
+    return "\n".join(parts + [figure(caption, pixels) for caption, pixels in shown])
 
 
-def figures(suite: Suite, outcome: Outcome) -> list[str]:
-    """The image that was expected, the one that was drawn, and where they differ."""
+def pictures(suite: Suite, outcome: Outcome) -> Pictures:
+    """The image that was expected, the one that was drawn, and where they differ, as far as they are
+    known."""
     if not outcome.image:
         return []
     picture = suite.picture(outcome.name)
+    found = []
     try:
         drawn = decode(outcome.image, outcome.name)
-        if picture is None or outcome.expected is None:
-            return [figure("drawn", drawn)]
-        found = [figure("expected", load(picture)), figure("drawn", drawn)]
-        difference = suite.image_difference(outcome)
-        return found + ([figure("what differs", marked(drawn, difference))] if difference else [])
-    except ImageError as error:
-        return [f"<p>{html.escape(str(error))}</p>"]
+        found.append(("drawn", drawn))
+        if picture is not None and outcome.expected is not None:
+            found.insert(0, ("expected", load(picture)))
+            difference = suite.image_difference(outcome)
+            found += [("what differs", marked(drawn, difference))] if difference else []
+    except ImageError:
+        pass  # (the text says why)
+    return found
 
 
 def figure(caption: str, pixels: Pixels) -> str:

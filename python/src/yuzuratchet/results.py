@@ -10,7 +10,7 @@ from dataclasses import dataclass
 from functools import cached_property, partial
 from itertools import count, islice
 from pathlib import Path, PurePath
-from typing import TYPE_CHECKING, Iterable, Iterator, Union
+from typing import TYPE_CHECKING, Callable, Iterable, Iterator, Union
 
 from .backends import Backend, draw
 from .errors import ArgumentError, ImageError, ProgramFailed, ScriptRefused, WrongType
@@ -79,7 +79,9 @@ class Result:
     A notebook shows it as its image.
     """
 
-    def __init__(self, ran: Ran, script: bytes = b"") -> None:
+    def __init__(
+        self, ran: Ran, script: bytes = b"", draw: Callable[[bytes], Ran] | None = None
+    ) -> None:
         refused = ran.refused
         self.refused = Refusal(*refused) if refused else None
         """The refusal that ended the script, or None."""
@@ -92,6 +94,7 @@ class Result:
         """The answer lines as they were written."""
         self.script = script
         """The bytes of the script that was drawn."""
+        self._draw = draw
 
     def __repr__(self) -> str:
         sides = target_sides(self.script)
@@ -113,6 +116,18 @@ class Result:
             line, number = self.refused.line, self.refused.number
             raise ImageError(f"there is no image, since line {line} was refused with {number}")
         return decode(self.tga)
+
+    @cached_property
+    def planes(self) -> Planes:
+        """Depth and stencil of the whole target, for which the script is drawn once more.
+
+        Raises :class:`~yuzuratchet.errors.ImageError` where a line was refused.
+        """
+        from .planes import planes_behind
+
+        if self.refused or self._draw is None:
+            raise ImageError("there is neither depth nor stencil, since nothing was drawn")
+        return planes_behind(self.script, self._draw)
 
     def save(self, path: str | Path, *, keep_alpha: bool = False, scale: float = 1) -> None:
         """Saves the image, as ``result.save("x.png")``; opaque unless alpha is kept."""
@@ -172,15 +187,15 @@ def run(
     was refused, unless ``check`` is False.
     """
     script = script_bytes(scene)
-    ran = draw(
-        script,
+    drawing = partial(
+        draw,
         backend=backend,
         library=library,
         workers=workers,
         program=program,
         seconds=seconds,
     )
-    result = Result(ran, script)
+    result = Result(drawing(script), script, drawing)
     refused, given = result.refused, len(result.answers)
     if isinstance(scene, Scene) and not refused and given != scene.questions:
         raise ProgramFailed(f"the program told {given} answers to {scene.questions} questions")

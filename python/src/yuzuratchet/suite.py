@@ -12,16 +12,19 @@ What draws the scripts is :mod:`yuzuratchet.suite_run`.
 
 from __future__ import annotations
 
+import hashlib
+import time
 from dataclasses import dataclass, field, replace
 from enum import Enum
 from fnmatch import fnmatchcase
 from pathlib import Path
-from typing import TYPE_CHECKING
+from typing import TYPE_CHECKING, Callable
 
 from .difference import EXACT, Tolerance, compare
 from .errors import ImageError, YuzuratchetError
 from .images import decode, load
-from .program import REFUSED
+from .planes import planes_behind
+from .program import REFUSED, Ran
 
 if TYPE_CHECKING:
     from .difference import Difference
@@ -162,6 +165,20 @@ class Suite:
         if picture is None:
             raise ImageError("the image that was expected isn't stored; its digest is another")
         return compare(load(picture), decode(outcome.image, outcome.name), tolerance)
+
+
+def drawn_outcome(
+    name: str, script: bytes, draw: Callable[[bytes], Ran], planes: bool = False
+) -> Outcome:
+    """What comes of a script, compared with nothing yet; depth and stencil where they are wanted."""
+    begun = time.monotonic()
+    ran = draw(script)
+    drawn = Expected(ran.answers, hashlib.sha256(ran.image).hexdigest())
+    if planes and not ran.refused:
+        depth, stencil = planes_behind(script, draw).digests
+        drawn = replace(drawn, depth=depth, stencil=stencil)
+    took = time.monotonic() - begun
+    return Outcome(name, Verdict.AGREES, took, drawn=drawn, image=ran.image)
 
 
 def parse_expected(text: str, name: str) -> dict[str, Expected]:

@@ -2,7 +2,6 @@
 
 from __future__ import annotations
 
-import hashlib
 import time
 from concurrent.futures import Future, ThreadPoolExecutor, as_completed, wait
 from dataclasses import dataclass, field, replace
@@ -13,10 +12,9 @@ from typing import Callable, Final
 from .difference import EXACT, Tolerance
 from .errors import ProgramFailed, ScriptRefused, YuzuratchetError
 from .images import decode, encode
-from .planes import planes_behind
 from .program import Ran, Running, run_program
 from .progress import ProgressLine
-from .suite import Expected, Outcome, Suite, Verdict, expected_text, judged
+from .suite import Outcome, Suite, Verdict, drawn_outcome, expected_text, judged
 
 GRACE: Final = 0.5
 """Seconds for the runs that are ended to let go of their folders."""
@@ -81,17 +79,11 @@ class Drawing:
         begun = time.monotonic()
         try:
             script = (suite.scripts / name).read_bytes()
-            ran = self.run(script)
-            drawn = Expected(ran.answers, hashlib.sha256(ran.image).hexdigest())
-            if (planes or self.planes) and not ran.refused:
-                depth, stencil = planes_behind(script, self.run).digests
-                drawn = replace(drawn, depth=depth, stencil=stencil)
+            return drawn_outcome(name, script, self.run, planes or self.planes)
         except (ProgramFailed, ScriptRefused, OSError) as error:
             self.running.check()
             took = time.monotonic() - begun
             return Outcome(name, Verdict.FAILED, took, message=str(error))
-        took = time.monotonic() - begun
-        return Outcome(name, Verdict.AGREES, took, drawn=drawn, image=ran.image)
 
     def each(self, names: list[str], task: Callable[[str], Outcome], progress: Told) -> SuiteRun:
         """What a task gives for each script, side by side.
