@@ -148,7 +148,9 @@ def test_depth_is_that_of_the_distance(program: Path) -> None:
     camera = perspective(60, 4 / 3, near, far) @ look_at((0, 1, 0), (0, 1, 1))
     draw_triangles(scene.immediate, project(grid(20, 20, 10.0), camera, scene))
     depth, _ = depth_and_stencil(scene, program=program)
-    slope = np.tan(np.radians(30)) * 2 * (np.arange(30) + 0.5 - 15) / 30  # (downwards, by a distance of 1)
+    slope = (
+        np.tan(np.radians(30)) * 2 * (np.arange(30) + 0.5 - 15) / 30
+    )  # (downwards, by a distance of 1)
     wanted = far / (far - near) * (1 - near * slope) * DEEPEST
     moved = abs(wanted[1] - wanted[0]) / 512
     assert np.abs(depth[18:] - wanted[18:, None]).max() < moved + 1

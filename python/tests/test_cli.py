@@ -74,7 +74,10 @@ def test_diff(
         "at most by 8 in red, 7 in green, 6 in blue, 5 in alpha\n  (0, 0): 1 2 3 4 | 9 9 9 9\n"
         in out
     )
-    assert "depth: 1 of 16 pixels differ, in columns 0 to 0 and rows 0 to 0, at most by 16777215\n" in out
+    assert (
+        "depth: 1 of 16 pixels differ, in columns 0 to 0 and rows 0 to 0, at most by 16777215\n"
+        in out
+    )
     assert "stencil" not in out
     assert load(picture).shape == (4, 4, 4)
     image = tmp_path / "image.tga"
@@ -101,7 +104,9 @@ def test_diff_lets_pass_what_it_is_told_to(
     pair = ["diff", str(scene), str(other), *words]
     assert main(pair) == 1
     out = capsys.readouterr().out
-    assert "depth: 16 of 16 pixels differ, in columns 0 to 3 and rows 0 to 3, at most by 10\n" in out
+    assert (
+        "depth: 16 of 16 pixels differ, in columns 0 to 3 and rows 0 to 3, at most by 10\n" in out
+    )
     assert "stencil: 16 of 16 pixels differ" in out and "at most by 3 in blue\n" in out
     assert main([*pair, "--tolerance", "2", "--colour-only"]) == 1
     told = "16 of 16 pixels differ by more than 2, in columns 0 to 3 and rows 0 to 3, at most by 3"
@@ -164,9 +169,7 @@ STEPS = (
 )
 
 
-def drawn(
-    tmp_path: Path, program: Path, *words: str, text: str = STEPS
-) -> list[list[list[int]]]:
+def drawn(tmp_path: Path, program: Path, *words: str, text: str = STEPS) -> list[list[list[int]]]:
     script, image = tmp_path / "steps.txt", tmp_path / "steps.png"
     script.write_text(text, encoding="ascii")
     assert main(["draw", str(script), str(image), "--program", str(program), *words]) == 0
@@ -237,9 +240,7 @@ def test_an_empty_image_is_told(tmp_path: Path, capsys: pytest.CaptureFixture[st
     )
 
 
-@pytest.mark.parametrize(
-    "command", ["draw", "check", "explain", "diff", "suite", "png", "view"]
-)
+@pytest.mark.parametrize("command", ["draw", "check", "explain", "diff", "suite", "png", "view"])
 def test_help(command: str, capsys: pytest.CaptureFixture[str]) -> None:
     with pytest.raises(SystemExit) as raised:
         main([command, "--help"])

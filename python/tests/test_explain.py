@@ -99,7 +99,9 @@ def marked_scene() -> Scene:
     draw_triangles(scene.immediate, rectangle(0, 0, 1, 1, depth=0.5, colour=(9, 8, 7, 6)))
     context = scene.deferred[0]
     scene.label("the list")
-    context.om_set_blend(BlendState(True, LogicOp.XOR, ColorWriteEnable.RED | ColorWriteEnable.BLUE))
+    context.om_set_blend(
+        BlendState(True, LogicOp.XOR, ColorWriteEnable.RED | ColorWriteEnable.BLUE)
+    )
     draw_triangles(context, rectangle(0, 0, 1, 1, depth=1, colour=(255, 255, 255, 255)))
     scene.immediate.execute(context.finish_command_list())
     return scene
@@ -191,7 +193,9 @@ def test_the_command_tells_it_for_machines_too(
     words = ["explain", str(path), "0", "0", "--changes", "--program", str(program)]
     assert main([*words, "--json"]) == 0
     told = json.loads(capsys.readouterr().out)
-    assert [it["line"] for it in told["steps"]] == [2, 10] and told["steps"][1]["label"] == "the list"
+    assert [it["line"] for it in told["steps"]] == [2, 10] and told["steps"][1][
+        "label"
+    ] == "the list"
     assert main(words) == 0
     out = capsys.readouterr().out
     assert "the list: draw, triangle 1 of 2:" in out and "stencil test" not in out

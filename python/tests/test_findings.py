@@ -33,7 +33,9 @@ def numbers(*lines: str) -> list[tuple[int, int]]:
 
 
 def test_all_faults_are_told() -> None:
-    found = numbers("i drow 3 0", "i topology 4", "i draw 3", "i draw 3 x", "", "x flush", "i exec d0 0 0")
+    found = numbers(
+        "i drow 3 0", "i topology 4", "i draw 3", "i draw 3 x", "", "x flush", "i exec d0 0 0"
+    )
     assert found == [(2, 104), (4, 105), (5, 106), (6, 101), (7, 103), (8, 107)]
     # a fault hides each refusal
     assert numbers("i draw 3 0", "i clearc 1") == [(3, 105)]
@@ -49,7 +51,12 @@ def test_lists_behind_a_faulty_finish_are_not_told() -> None:
 
 def test_refusals_that_stand_alone_are_told() -> None:
     found = numbers(
-        "i scissor 3 0 1 4", "i pixel 9 0", "i end 3", "i draw 3 0", "i query 5", "d0 draw 3 0",
+        "i scissor 3 0 1 4",
+        "i pixel 9 0",
+        "i end 3",
+        "i draw 3 0",
+        "i query 5",
+        "d0 draw 3 0",
     )
     assert found == [(2, 8), (3, 15), (4, 10), (5, 7), (6, 17), (7, 7)]
 
@@ -132,7 +139,9 @@ def test_the_first_is_the_programs(expected: dict[str, Expected]) -> None:
 def test_where_the_program_knows_better_its_line_stands_alone() -> None:
     text = b"target 4 4\ni draw 3 0\ni draw 3 0\n"
     assert [(it.line, it.is_located) for it in all_located(text, 2, 7)] == [(2, True), (3, True)]
-    assert [(it.line, it.number, it.is_located) for it in all_located(text, 3, 1)] == [(3, 1, False)]
+    assert [(it.line, it.number, it.is_located) for it in all_located(text, 3, 1)] == [
+        (3, 1, False)
+    ]
 
 
 # ---- hints
@@ -199,7 +208,9 @@ def warned(*lines: str) -> list[tuple[int, int, str]]:
 
 
 def test_lists() -> None:
-    assert warned("d2 clearc 1 2 3 4", "d2 flush"[:0] + "d2 clearc 1 2 3 4") == [(2, 1, "list-never-finished")]
+    assert warned("d2 clearc 1 2 3 4", "d2 flush"[:0] + "d2 clearc 1 2 3 4") == [
+        (2, 1, "list-never-finished")
+    ]
     found = warned("d0 finish 0", "d0 finish 0", "d1 finish 1", "i exec d0 1 0", "i exec d0 1 0")
     assert found == [(2, 4, "list-never-executed"), (4, 4, "list-never-executed")]
     assert warned("d0 clearc 1 2 3 4", "d0 finish 0", "i exec d0 0 0") == []
@@ -246,7 +257,9 @@ def test_states_that_are_set_twice() -> None:
     assert warned(*count, "i predicate 0 1", "i clearc 1 1 1 1", "i predicate", "i query 0") == []
     # with 0 an execution sets the default
     assert warned("d0 finish 0", twice[0], "i exec d0 0 0", twice[1], *draw) == []
-    assert warned("d0 finish 0", twice[0], "i exec d0 0 1", twice[1], *draw) == [(3, 3, "state-set-twice")]
+    assert warned("d0 finish 0", twice[0], "i exec d0 0 1", twice[1], *draw) == [
+        (3, 3, "state-set-twice")
+    ]
 
 
 def test_examples_have_no_warnings() -> None:
@@ -255,7 +268,9 @@ def test_examples_have_no_warnings() -> None:
 
     for path in (TOP / "python" / "examples").glob("*.txt"):
         data = path.read_bytes()
-        assert {it.rule for it in warnings_of(Text(data), *parse(data))} <= {"state-set-twice"}, path
+        assert {it.rule for it in warnings_of(Text(data), *parse(data))} <= {
+            "state-set-twice"
+        }, path
 
 
 # ---- the command, and its forms for machines
@@ -276,16 +291,12 @@ def scripts(tmp_path: Path) -> list[Path]:
     return paths
 
 
-def checked(
-    capsys: pytest.CaptureFixture[str], program: Path, *words: object
-) -> tuple[int, Any]:
+def checked(capsys: pytest.CaptureFixture[str], program: Path, *words: object) -> tuple[int, Any]:
     status = main(["check", *map(str, words), "--program", str(program)])
     return status, json.loads(capsys.readouterr().out)
 
 
-def test_json(
-    scripts: list[Path], program: Path, capsys: pytest.CaptureFixture[str]
-) -> None:
+def test_json(scripts: list[Path], program: Path, capsys: pytest.CaptureFixture[str]) -> None:
     status, found = checked(capsys, program, *scripts, "--lint", "--json")
     assert status == 1 and found["version"] == 1
     files = {Path(it["file"]).stem: it for it in found["files"]}
@@ -299,9 +310,17 @@ def test_json(
     assert first["meaning"].startswith("`drawi`") and first["advice"]
     assert (second["number"], second["told"]) == (5, False)
     (fault,) = files["faulty"]["findings"]
-    assert (fault["line"], fault["column"], fault["end_column"]) == (2, 6, 7)  # (letters, and not bytes)
+    assert (fault["line"], fault["column"], fault["end_column"]) == (
+        2,
+        6,
+        7,
+    )  # (letters, and not bytes)
     (warning,) = files["warned"]["findings"]
-    assert (warning["kind"], warning["code"], warning["told"]) == ("warning", "list-never-executed", False)
+    assert (warning["kind"], warning["code"], warning["told"]) == (
+        "warning",
+        "list-never-executed",
+        False,
+    )
     assert "number" not in warning and files["well"]["findings"] == []
     assert checked(capsys, program, scripts[2], "--lint", "--json")[0] == 0
 
@@ -332,13 +351,20 @@ def check_sarif(log: Any) -> None:
             assert rule["shortDescription"]["text"]
             assert rule["defaultConfiguration"]["level"] in ("none", "note", "warning", "error")
         for result in run["results"]:
-            assert result["message"]["text"] and result["level"] in ("none", "note", "warning", "error")
+            assert result["message"]["text"] and result["level"] in (
+                "none",
+                "note",
+                "warning",
+                "error",
+            )
             assert codes[result["ruleIndex"]] == result["ruleId"]
             for location in result["locations"] + result.get("relatedLocations", []):
                 physical = location["physicalLocation"]
                 assert " " not in physical["artifactLocation"]["uri"]
                 region = physical.get("region", {"startLine": 1, "startColumn": 1, "endColumn": 1})
-                assert 1 <= region["startLine"] and 1 <= region["startColumn"] <= region["endColumn"]
+                assert (
+                    1 <= region["startLine"] and 1 <= region["startColumn"] <= region["endColumn"]
+                )
 
 
 def test_each_rule_can_be_told() -> None:
@@ -384,9 +410,7 @@ def test_warnings_are_told_and_are_no_reason(
     )
 
 
-def test_labels_are_told(
-    tmp_path: Path, program: Path, capsys: pytest.CaptureFixture[str]
-) -> None:
+def test_labels_are_told(tmp_path: Path, program: Path, capsys: pytest.CaptureFixture[str]) -> None:
     scene = Scene(4, 4, strict=False)
     scene.label("the floor")
     draw_triangles(scene.immediate, rectangle(0, 0, 4, 4))
@@ -395,6 +419,9 @@ def test_labels_are_told(
     scene.save(path)
     words = ["check", str(path), "--program", str(program)]
     assert main(words) == 1
-    assert f"{path}:5:8: refusal 5: count: 9 from place 0 on pass the end of the 6 vertices that are set (in the floor)\n" in capsys.readouterr().out
+    assert (
+        f"{path}:5:8: refusal 5: count: 9 from place 0 on pass the end of the 6 vertices that are set (in the floor)\n"
+        in capsys.readouterr().out
+    )
     assert main([*words, "--json"]) == 1
     assert json.loads(capsys.readouterr().out)["files"][0]["findings"][0]["label"] == "the floor"

@@ -55,7 +55,10 @@ def test_time_that_grows_with_the_square_is_told() -> None:
 def test_how_often_a_line_of_a_long_script_stands_changes_nothing(name: str) -> None:
     before, line, times = LONG[name]
     assert times % 4 == 0
-    once, often = (evaluate(("target 4 4\n" + before + count * line + "i pixel 0 0\n").encode("ascii")) for count in (2, 20))
+    once, often = (
+        evaluate(("target 4 4\n" + before + count * line + "i pixel 0 0\n").encode("ascii"))
+        for count in (2, 20)
+    )
     assert once == often and once[1]
 
 

@@ -116,7 +116,9 @@ def test_depth_and_stencil_of_a_refused_scene(program: Path) -> None:
 
 
 def test_depth_and_stencil_of_what_is_no_scene() -> None:
-    with pytest.raises(TypeError, match="^scene: a Scene is wanted, and not str: read_script makes"):
+    with pytest.raises(
+        TypeError, match="^scene: a Scene is wanted, and not str: read_script makes"
+    ):
         yuzuratchet.depth_and_stencil("target 1 1\n")  # type: ignore[arg-type]
 
 
@@ -161,7 +163,10 @@ def test_a_result_says_what_it_is(program: Path) -> None:
     assert repr(run("target 2 1\n", program=program)) == "<Result: 2 by 1 pixels, 0 answers>"
     refused = run("target 2 1\ni draw 3 0\n", program=program, check=False)
     assert repr(refused) == "<Result: 2 by 1 pixels, line 2 refused with 7, 0 answers>"
-    assert repr(run("", program=program, check=False)) == "<Result: line 1 refused with 102, 0 answers>"
+    assert (
+        repr(run("", program=program, check=False))
+        == "<Result: line 1 refused with 102, 0 answers>"
+    )
 
 
 def test_many_scenes(program: Path) -> None:

@@ -433,7 +433,9 @@ def test_they_say_what_they_are() -> None:
     assert repr(scene.immediate) == f"<ImmediateContext i of {scene!r}: 4 lines>"
     context = scene.deferred[3]
     context.clear_color("#000000")
-    assert repr(context).startswith("<DeferredContext d3 of <Scene: ") and repr(context).endswith(": 1 line>")
+    assert repr(context).startswith("<DeferredContext d3 of <Scene: ") and repr(context).endswith(
+        ": 1 line>"
+    )
     found = context.finish_command_list()
     assert repr(found) == "<CommandList 0 of d3: 2 lines>" and repr(context).endswith(": 0 lines>")
 
@@ -452,7 +454,12 @@ def test_labels() -> None:
     names = [scene.labels.of(line) for line in range(1, 8)]
     assert names == [None, None, "floor", "cube", "cube", "floor", None]
     assert "floor" not in scene.script()
-    for name, kind in ((7, TypeError), ("", ValueError), ("a\nb", ValueError), ("x" * 81, ValueError)):
+    for name, kind in (
+        (7, TypeError),
+        ("", ValueError),
+        ("a\nb", ValueError),
+        ("x" * 81, ValueError),
+    ):
         with pytest.raises(kind, match="^name: "):
             scene.label(name)  # type: ignore[arg-type]
 

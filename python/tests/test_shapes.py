@@ -95,7 +95,9 @@ def test_grid() -> None:
     assert floor.points.max(axis=0).tolist() == [0.75, 0, 0.5]
     assert len(floor.faces) == 12 and (floor.normals() == (0, 1, 0)).all()
     corners = floor.points[floor.faces]
-    areas = np.linalg.norm(np.cross(corners[:, 1] - corners[:, 0], corners[:, 2] - corners[:, 0]), axis=1)
+    areas = np.linalg.norm(
+        np.cross(corners[:, 1] - corners[:, 0], corners[:, 2] - corners[:, 0]), axis=1
+    )
     assert np.allclose(areas, 0.25)
     # from the nearest row, from left to right
     centres = corners.mean(axis=1)[::2, [0, 2]]
@@ -188,7 +190,12 @@ def test_two_meshes_as_one() -> None:
     both = box((0, 0, 0), 1, "#ff0000") + box((5, 0, 0), 1, "#00ff00")
     assert repr(both) == "<Mesh: 16 points, 24 faces>"
     assert both.points[both.faces[12:]][..., 0].min() == 4
-    assert both.colours[0].tolist() == [255, 0, 0, 255] and both.colours[12].tolist() == [0, 255, 0, 255]
+    assert both.colours[0].tolist() == [255, 0, 0, 255] and both.colours[12].tolist() == [
+        0,
+        255,
+        0,
+        255,
+    ]
 
 
 def test_mesh() -> None:

@@ -74,8 +74,7 @@ def test_an_image_that_differs(
     out = capsys.readouterr().out
     assert (
         "below/plain.txt: the image differs\n    1 of 6 pixels differ, in columns 1 to 1 and rows 0 to 0, "
-        "at most by 9 in red, 9 in green, 9 in blue, 9 in alpha\n"
-        in out
+        "at most by 9 in red, 9 in green, 9 in blue, 9 in alpha\n" in out
     )
     assert out.endswith("2 of 3 scripts agree\n")
     root = ElementTree.parse(junit).getroot()
@@ -318,7 +317,9 @@ def test_expected_there_and_back() -> None:
     assert parse_expected("a\nquery 0 1\nimage 12\n", "x") == {"a": Expected("query 0 1\n", "12")}
     planes = "a\nquery 0 1\ndepth 12\nstencil 34\nimage 56\n"
     found = parse_expected(planes, "x")
-    assert found == {"a": Expected("query 0 1\n", "56", "12", "34")} and expected_text(found) == planes
+    assert (
+        found == {"a": Expected("query 0 1\n", "56", "12", "34")} and expected_text(found) == planes
+    )
 
 
 def test_the_gallery_is_a_suite(fast_program: Path, capsys: pytest.CaptureFixture[str]) -> None:

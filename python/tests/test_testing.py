@@ -43,7 +43,11 @@ def test_images_that_differ(program: Path) -> None:
         "  (0, 0): 1 5 3 4 expected, 1 2 3 4 drawn\n"
         "  (1, 0): 1 5 3 4 expected, 1 2 3 4 drawn"
     )
-    assert [caption for caption, _ in raised.value.pictures] == ["expected", "drawn", "what differs"]
+    assert [caption for caption, _ in raised.value.pictures] == [
+        "expected",
+        "drawn",
+        "what differs",
+    ]
     assert_same(result, other.image, tolerance=3)
     with pytest.raises(AssertionError, match="differ by more than 2"):
         assert_same(result, other.image, tolerance=2)
@@ -122,7 +126,9 @@ def test_a_scene_that_differs(scenes: Path, program: Path) -> None:
     assert ran.returncode == 1 and "1 failed, 1 passed" in ran.stdout
     told = "9 of 9 pixels differ, in columns 0 to 2 and rows 0 to 2, at most by 1 in green"
     assert "below/two.scene.txt: the image differs" in ran.stdout and told in ran.stdout
-    assert "Traceback" not in ran.stdout and "scenes that differ are shown in out.html" in ran.stdout
+    assert (
+        "Traceback" not in ran.stdout and "scenes that differ are shown in out.html" in ran.stdout
+    )
     text = (scenes / "out.html").read_text()
     assert "2 tests ran, 1 scene differs" in text and text.count("<img ") == 3 and told in text
     assert told in (scenes / "out.xml").read_text()

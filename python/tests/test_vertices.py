@@ -103,9 +103,7 @@ def test_limits_are_told_in_pixels(count: int, vertex: tuple[float, ...], why: s
         ((0, 0, 2**70), "the depth of vertex {} is 1180591620717411303424"),
     ],
 )
-def test_so_are_numbers_that_no_script_has(
-    count: int, vertex: tuple[float, ...], why: str
-) -> None:
+def test_so_are_numbers_that_no_script_has(count: int, vertex: tuple[float, ...], why: str) -> None:
     given = [(0, 0, 0.0, "#000000")] * count
     given[-1] = (*vertex, "#000000")  # type: ignore[assignment]
     with pytest.raises(ArgumentError, match=f"^vertices: {why.format(count - 1)}"):

@@ -167,7 +167,9 @@ def test_a_missing_page_is_told_before_the_script_is_read(
         words = ["view", str(tmp_path / "no-such-script.txt"), "--page", str(page_file)]
         assert main(words) == 2
         err = capsys.readouterr().err
-        assert "no-such-script" not in err and "With --static a page is written that needs none" in err
+        assert (
+            "no-such-script" not in err and "With --static a page is written that needs none" in err
+        )
 
 
 def test_labels_are_put_into_the_page(built_file: Path, tmp_path: Path) -> None:
@@ -253,7 +255,11 @@ def test_a_static_page_of_a_refused_script(program: Path, tmp_path: Path) -> Non
     text = "".join(data for _, data in read.texts)
     assert "5 lines; line 4 is refused (7)" in text and "as line 3 leaves it" in text
     assert "scene.txt:4:3: refusal 7: draw: no topology is set" in text
-    assert "what to do" in text and "refused 4 7" in text and "pixel (2, 2) holds colour 1 2 3 4" in text
+    assert (
+        "what to do" in text
+        and "refused 4 7" in text
+        and "pixel (2, 2) holds colour 1 2 3 4" in text
+    )
     assert ("span.refused", "i draw 3 0") in read.texts
 
 
@@ -311,7 +317,15 @@ def test_no_such_pixels(
 ) -> None:
     path = tmp_path / "scene.txt"
     path.write_text("target 2 2\n")
-    call = ["view", str(path), "--static", "-o", str(tmp_path / "x.html"), "--program", str(program)]
+    call = [
+        "view",
+        str(path),
+        "--static",
+        "-o",
+        str(tmp_path / "x.html"),
+        "--program",
+        str(program),
+    ]
     try:
         status = main([*call, *words])
     except SystemExit as error:

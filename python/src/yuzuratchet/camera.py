@@ -189,7 +189,9 @@ def _sides(target: Target) -> tuple[int, int]:
     try:
         return target.width, target.height
     except AttributeError as error:
-        raise WrongType("target", f"a Scene or (width, height) is wanted, not {target!r}") from error
+        raise WrongType(
+            "target", f"a Scene or (width, height) is wanted, not {target!r}"
+        ) from error
 
 
 def _vector(values: Sequence[float], name: str) -> Floats:

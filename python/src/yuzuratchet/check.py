@@ -82,9 +82,7 @@ def reported(finding: Finding, name: str, text: Text, label: str | None = None) 
     return lines
 
 
-def report_all(
-    findings: list[Finding], name: str, text: bytes, labels: Labels = Labels()
-) -> str:
+def report_all(findings: list[Finding], name: str, text: bytes, labels: Labels = Labels()) -> str:
     """The reports of all findings; what a number means is told where it stands first."""
     parts, told = Text(text), set()
     found = []

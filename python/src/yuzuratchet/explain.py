@@ -148,7 +148,9 @@ class Stage:
 class Explainer:
     """A scene, the pixel of it that is asked about, and how the device is run."""
 
-    def __init__(self, scene: Scene, x: int, y: int, told: Told = lambda _: None, **how: Any) -> None:
+    def __init__(
+        self, scene: Scene, x: int, y: int, told: Told = lambda _: None, **how: Any
+    ) -> None:
         for name, at, side in (("x", x, scene.width), ("y", y, scene.height)):
             if not 0 <= at < side:
                 raise ArgumentError(name, f"{at} is not in 0 to {side - 1}")
@@ -183,7 +185,9 @@ class Explainer:
             return Unrolled(self.scene)
         except CallRefused as refusal:
             run(self.scene, **self.how)
-            raise YuzuratchetError(f"the device takes what the package doesn't: {refusal}") from refusal
+            raise YuzuratchetError(
+                f"the device takes what the package doesn't: {refusal}"
+            ) from refusal
 
     def drawn(self, asking: Scene, unrolled: Unrolled) -> Result:
         """What the scene answers, with the questions of its predicates."""

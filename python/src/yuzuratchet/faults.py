@@ -55,7 +55,9 @@ class LineReader:
         if self.has_line_feed and FORM.fullmatch(self.text):
             return
         if self.number == 1 and self.text.startswith(BYTE_ORDER_MARK):
-            message = "the file begins with a byte-order mark; it is to be saved as UTF-8 without one"
+            message = (
+                "the file begins with a byte-order mark; it is to be saved as UTF-8 without one"
+            )
             self.fail_at(LINE_FORM, 0, len(BYTE_ORDER_MARK), message)
         for at, byte in enumerate(self.text):
             if not 0x20 <= byte <= 0x7E:
@@ -194,7 +196,9 @@ def parsed_target(line: LineReader) -> tuple[int, int]:
     if line.words[0] != TARGET.name.encode():
         is_comment = is_comment_sign(line.words[0])
         message = f"the first line begins with 'target', and not with {line.shown(0)}"
-        line.fail(FIRST_LINE, 0, message + COMMENT * is_comment + in_lower_case(line.words[0], ["target"]))
+        line.fail(
+            FIRST_LINE, 0, message + COMMENT * is_comment + in_lower_case(line.words[0], ["target"])
+        )
     width, height = line.arguments(TARGET, 1)
     return width, height
 

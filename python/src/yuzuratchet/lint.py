@@ -71,13 +71,19 @@ class Lint(Session):
         assert item.state.topology is not None  # (a draw without one is refused)
         found = triangles(item.places, item.state.topology, item.line.word == "drawi")
         if not found:
-            message = f"{item.line.arguments[0]} places make no triangle of a {item.state.topology.name}"
+            message = (
+                f"{item.line.arguments[0]} places make no triangle of a {item.state.topology.name}"
+            )
             self.warn("draw-of-no-triangle", item.number, message, 2)
             return
         mode, base = item.state.rasterizer.cull_mode, item.base
         corners = ([item.state.vertices[it + base] for it in triple] for triple in found)
         if all(_is_dropped(item, *it) for it in corners):
-            why = "has no area" if mode is CullMode.NONE else f"is culled by {mode.name}, or has no area"
+            why = (
+                "has no area"
+                if mode is CullMode.NONE
+                else f"is culled by {mode.name}, or has no area"
+            )
             count = "its triangle" if len(found) == 1 else f"each of its {len(found)} triangles"
             self.warn("draw-all-culled", item.number, f"{count} {why}", 2)
 

@@ -163,7 +163,14 @@ def load_mesh(path: str | Path, colours: npt.ArrayLike | Colour | None = None) -
     try:
         loaded = trimesh.load(str(path), force="mesh")
         points, faces = np.array(loaded.vertices, dtype=float), np.array(loaded.faces)
-    except (ValueError, KeyError, TypeError, IndexError, AttributeError, NotImplementedError) as error:
+    except (
+        ValueError,
+        KeyError,
+        TypeError,
+        IndexError,
+        AttributeError,
+        NotImplementedError,
+    ) as error:
         raise ArgumentError("path", f"{path} is no mesh that trimesh reads: {error}") from error
     points[:, 2:] *= -1
     return Mesh(points, faces[:, ::-1], _face_colours(loaded) if colours is None else colours)
@@ -216,16 +223,25 @@ def _faces(values: npt.ArrayLike, points: int) -> Faces:
 
 def _colours(colours: npt.ArrayLike | Colour, faces: int) -> Channels:
     """A row of four channels for each face."""
-    given = [colours] if isinstance(colours, str) else np.atleast_2d(np.asarray(colours)).tolist()
+    given = _channels(colours)
     if len(given) not in (1, faces):
         raise ArgumentError("colours", f"{len(given)} are given for {faces} faces")
-    distinct = {key: rgba(list(key)) if isinstance(key, tuple) else rgba(key) for key in map(_key, given)}
-    found = np.array([distinct[_key(it)] for it in given], dtype=np.int64).reshape(-1, 4)
-    return np.repeat(found, faces, axis=0) if len(given) == 1 != faces else found
+    return np.repeat(given, faces, axis=0) if len(given) == 1 != faces else given
 
 
-def _key(colour: Any) -> Any:
-    return tuple(colour) if isinstance(colour, list) else colour
+def _channels(colours: npt.ArrayLike | Colour) -> Channels:
+    """One colour, or rows of three or four numbers, as rows of four."""
+    if isinstance(colours, str):
+        return np.array([rgba(colours)], dtype=np.int64)
+    rows = np.atleast_2d(np.asarray(colours))
+    is_whole = rows.dtype.kind in "iu" and rows.ndim == 2 and rows.shape[1] in (3, 4)
+    if not is_whole or rows.size and not 0 <= rows.min() <= rows.max() <= 255:
+        each = [rgba(row, "colours") for row in rows.tolist()]  # (which tells what is wrong)
+        return np.array(each, dtype=np.int64).reshape(-1, 4)
+    if rows.shape[1] == 3:
+        rows = np.column_stack([rows, np.full(len(rows), 255)])
+    found: Channels = rows.astype(np.int64)
+    return found
 
 
 def _direction(values: Sequence[float], name: str) -> Floats:

@@ -53,7 +53,9 @@ class Shown:
         from .report import page
 
         differ = len(self.sections)
-        summary = f"{self.count} tests ran, {differ} scene{' differs' if differ == 1 else 's differ'}"
+        summary = (
+            f"{self.count} tests ran, {differ} scene{' differs' if differ == 1 else 's differ'}"
+        )
         self.path.write_text(page("Scenes", summary, not differ, self.sections), encoding="utf-8")
 
 

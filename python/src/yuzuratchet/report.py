@@ -162,7 +162,9 @@ def write_page(report: Report, path: Path) -> None:
     differing = report.differing
     is_well = not differing and not report.run.cut
     sections = [section(report, outcome) for outcome in differing]
-    path.write_text(page(f"Suite {report.name}", report.summary, is_well, sections), encoding="utf-8")
+    path.write_text(
+        page(f"Suite {report.name}", report.summary, is_well, sections), encoding="utf-8"
+    )
 
 
 def page(title: str, summary: str, is_well: bool, sections: list[str]) -> str:

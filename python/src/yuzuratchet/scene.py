@@ -50,7 +50,9 @@ class CommandList:
     lines: int = field(default=0, compare=False)
 
     def __repr__(self) -> str:
-        return f"<CommandList {self.number} of {DEFERRED[self.context]}: {_count(self.lines, 'line')}>"
+        return (
+            f"<CommandList {self.number} of {DEFERRED[self.context]}: {_count(self.lines, 'line')}>"
+        )
 
 
 def _count(number: int, thing: str) -> str:
@@ -312,6 +314,9 @@ class LabelledBlock:
         return self.scene
 
     def __exit__(
-        self, kind: type[BaseException] | None, error: BaseException | None, at: TracebackType | None
+        self,
+        kind: type[BaseException] | None,
+        error: BaseException | None,
+        at: TracebackType | None,
     ) -> None:
         self.scene.label(self.before)

@@ -86,9 +86,7 @@ def draw_triangles(context: Context, vertices: Iterable[Vertex]) -> None:
 # ---- in space
 
 
-def box(
-    centre: Sequence[float], half: float | Sequence[float], colour: Colour = "#ffffff"
-) -> Mesh:
+def box(centre: Sequence[float], half: float | Sequence[float], colour: Colour = "#ffffff") -> Mesh:
     """A box; ``half`` is half of its size, each way or in x, y and z."""
     import numpy as np
 
@@ -158,7 +156,10 @@ def sphere(
     _check_count("rings", rings, 2)
     turn = 2 * np.pi * np.arange(segments) / segments
     tilt = np.pi * np.arange(1, rings) / rings
-    ring = [(np.sin(t) * np.cos(turn), np.full(segments, np.cos(t)), np.sin(t) * np.sin(turn)) for t in tilt]
+    ring = [
+        (np.sin(t) * np.cos(turn), np.full(segments, np.cos(t)), np.sin(t) * np.sin(turn))
+        for t in tilt
+    ]
     between = np.concatenate([np.stack(it, axis=1) for it in ring])
     points = np.concatenate([[(0.0, 1.0, 0.0)], between, [(0.0, -1.0, 0.0)]])
     here = np.arange(segments)
@@ -166,7 +167,12 @@ def sphere(
     last = len(points) - 1
     faces = [np.stack([np.zeros_like(here), beside + 1, here + 1], axis=1)]
     for first in range(1, 1 + segments * (rings - 2), segments):
-        a, b, c, d = first + here, first + beside, first + segments + here, first + segments + beside
+        a, b, c, d = (
+            first + here,
+            first + beside,
+            first + segments + here,
+            first + segments + beside,
+        )
         faces += [np.stack([a, b, d], axis=1), np.stack([a, d, c], axis=1)]
     bottom = last - segments
     faces.append(np.stack([np.full_like(here, last), bottom + here, bottom + beside], axis=1))

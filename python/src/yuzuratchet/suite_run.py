@@ -155,9 +155,7 @@ class Stored:
     removed: list[Path] = field(default_factory=list)
 
 
-def store(
-    suite: Suite, drawing: Drawing, progress: Told, allow_faults: bool = False
-) -> Stored:
+def store(suite: Suite, drawing: Drawing, progress: Told, allow_faults: bool = False) -> Stored:
     """Draws the scripts of a suite and stores answers, digests and images.
 
     A script with a fault isn't stored unless that is allowed: what was stored of it stays. What is

@@ -78,7 +78,9 @@ def _image(of: Picture) -> Pixels | None:
         return load(of)
     if isinstance(of, np.ndarray) and of.ndim == 3 and of.shape[2] == 4 and of.dtype == np.uint8:
         return of
-    raise WrongType("expected", f"a Result, an image or its file is wanted, not {type(of).__name__}")
+    raise WrongType(
+        "expected", f"a Result, an image or its file is wanted, not {type(of).__name__}"
+    )
 
 
 def _answers(result: Picture, expected: Picture) -> list[str]:

@@ -29,6 +29,9 @@ Number = Union[int, float, Fraction]
 Colour = Union[str, Sequence[int]]
 ScriptColour = tuple[int, int, int, int]
 
+UNSURE = 1e-6
+"""How near to a half a depth may lie that is left to exact fractions."""
+
 HEX_COLOUR = re.compile(r"#([0-9a-fA-F]{6})([0-9a-fA-F]{2})?")
 
 
@@ -51,6 +54,8 @@ def subpixels(pixels: Number, name: str = "coordinate") -> int:
     >>> subpixels(1.5)
     98304
     """
+    if type(pixels) is int:
+        return pixels * SUBPIXELS
     if isinstance(pixels, float) and math.isfinite(pixels):
         return round(pixels * SUBPIXELS)  # (exact, since the factor is a power of two)
     return round(_exact(pixels, name) * SUBPIXELS)
@@ -62,7 +67,12 @@ def stored_depth(depth: Number, name: str = "depth") -> int:
     >>> stored_depth(0.5), stored_depth(7)
     (8388608, 7)
     """
-    if isinstance(depth, Integral) and not isinstance(depth, bool):
+    if isinstance(depth, float) and 0 <= depth <= 1:
+        scaled = depth * DEEPEST + 0.5
+        below = math.floor(scaled)
+        if UNSURE < scaled - below < 1 - UNSURE:
+            return below
+    elif isinstance(depth, Integral) and not isinstance(depth, bool):
         return int(depth)
     exact = _exact(depth, name)
     if not 0 <= exact <= 1:
@@ -100,5 +110,7 @@ def _channels(colour: Iterable[int], name: str) -> list[int]:
 
 
 def _is_channel(value: object) -> bool:
+    if type(value) is int:
+        return 0 <= value <= 255
     is_whole = isinstance(value, Integral) and not isinstance(value, bool)
     return is_whole and 0 <= int(value) <= 255  # type: ignore[call-overload]

@@ -11,7 +11,7 @@ from typing import TYPE_CHECKING, Any, Iterable, Sequence, Union, overload
 from .errors import ArgumentError
 from .limits import DEEPEST, FARTHEST_PIXEL, SUBPIXELS
 from .line import Line
-from .units import Colour, Number, rgba, stored_depth, subpixels
+from .units import UNSURE, Colour, Number, rgba, stored_depth, subpixels
 from .words import WORDS
 
 if TYPE_CHECKING:  # (numpy is asked for by whoever has many vertices)
@@ -25,9 +25,6 @@ Vertex = Union[tuple[Number, Number, Number, Colour], Sequence[Any]]
 
 MANY = 64
 """From so many vertices on they are taken by numpy, where it is installed."""
-
-UNSURE = 1e-6
-"""How near to a half a depth may lie that is left to exact fractions."""
 
 
 class Vertices(Sequence[Vertex]):
@@ -46,10 +43,12 @@ class Vertices(Sequence[Vertex]):
         return len(self.numbers)
 
     @overload
-    def __getitem__(self, place: int) -> Vertex: ...
+    def __getitem__(self, place: int) -> Vertex:
+        ...
 
     @overload
-    def __getitem__(self, place: slice) -> Vertices: ...
+    def __getitem__(self, place: slice) -> Vertices:
+        ...
 
     def __getitem__(self, place: int | slice) -> Vertex | Vertices:
         if isinstance(place, slice):

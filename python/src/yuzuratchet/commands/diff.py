@@ -31,7 +31,9 @@ def add(commands: Any) -> None:
     most = "how many pixels are listed (10)"
     found.add_argument("--list", metavar="N", type=whole_number(0), default=10, help=most)
     channel = "lets channels pass that lie at most so far apart, 0 to 255 (0)"
-    found.add_argument("--tolerance", metavar="N", type=whole_number(0, 255), default=0, help=channel)
+    found.add_argument(
+        "--tolerance", metavar="N", type=whole_number(0, 255), default=0, help=channel
+    )
     depth = "lets depths pass that lie at most so many of 16,777,215 apart (0)"
     found.add_argument("--depth-units", metavar="N", type=whole_number(0), default=0, help=depth)
     colour = "compares no depth and no stencil, which take two seconds for each million pixels"

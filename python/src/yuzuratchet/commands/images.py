@@ -34,13 +34,17 @@ def add_draw(commands: Any) -> None:
     """Adds ``draw``."""
     about = "Draws a script into an image that can be looked at; the answer lines go to standard output."
     found = add_command(commands, "draw", about)
-    found.epilog = "With OUT.png - the image goes to standard output, and the answers to standard error."
+    found.epilog = (
+        "With OUT.png - the image goes to standard output, and the answers to standard error."
+    )
     found.add_argument("script", metavar="SCRIPT", type=Path, help="a script; - is standard input")
     kinds = "the image (.png, .tga, .tiff); - is a PNG to standard output"
     found.add_argument("image", metavar="OUT.png", type=Path, help=kinds)
     at = "draws the lines up to this one, which is counted from 1"
     found.add_argument("--at", metavar="LINE", type=whole_number(1), help=at)
-    plane = "a picture of the depth (the nearest white, what nobody drew on black) or of the stencil"
+    plane = (
+        "a picture of the depth (the nearest white, what nobody drew on black) or of the stencil"
+    )
     found.add_argument("--plane", choices=("depth", "stencil"), help=plane)
     add_looks(found)
     found.set_defaults(run=draw)
@@ -122,7 +126,9 @@ def add_png(commands: Any) -> None:
     """Adds ``png``."""
     about = "Makes a PNG of a TGA image or a script, opaque, since viewers show nothing where alpha is 0."
     found = add_command(commands, "png", about)
-    found.add_argument("source", metavar="IN", type=Path, help="an image, or a script that is drawn")
+    found.add_argument(
+        "source", metavar="IN", type=Path, help="an image, or a script that is drawn"
+    )
     found.add_argument("image", metavar="OUT.png", type=Path)
     add_looks(found)
     found.set_defaults(run=png)

@@ -26,11 +26,15 @@ def add(commands: Any) -> None:
     found.add_argument("folder", metavar="FOLDER", type=Path)
     only = "draws the scripts alone whose names match, as 'fog/*'"
     found.add_argument("--only", metavar="GLOB", help=only)
-    found.add_argument("--junit", metavar="FILE", type=Path, help="writes JUnit's XML for a build server")
+    found.add_argument(
+        "--junit", metavar="FILE", type=Path, help="writes JUnit's XML for a build server"
+    )
     page = "writes a page of what differs, with images"
     found.add_argument("--page", metavar="FILE", type=Path, help=page)
     channel = "lets images pass whose channels lie at most so far from the stored picture (0)"
-    found.add_argument("--tolerance", metavar="N", type=whole_number(0, 255), default=0, help=channel)
+    found.add_argument(
+        "--tolerance", metavar="N", type=whole_number(0, 255), default=0, help=channel
+    )
     add_storing(found)
     most, jobs = os.cpu_count() or 1, "how many scripts are drawn side by side (one a processor)"
     found.add_argument("--jobs", metavar="N", type=whole_number(1), default=most, help=jobs)
@@ -43,7 +47,9 @@ def add_storing(found: argparse.ArgumentParser) -> None:
     """Adds what has to do with storing."""
     write = "stores what is drawn, in place of comparing"
     found.add_argument("--write", action="store_true", help=write)
-    planes = "with --write: stores digests of depth and stencil too, which are compared from then on"
+    planes = (
+        "with --write: stores digests of depth and stencil too, which are compared from then on"
+    )
     found.add_argument("--planes", action="store_true", help=planes)
     faults = "with --write: stores scripts that have a fault too"
     found.add_argument("--allow-faults", action="store_true", help=faults)
@@ -58,7 +64,9 @@ def check_words(given: argparse.Namespace) -> None:
     for name in ("planes", "allow_faults"):
         if getattr(given, name) and not given.write:
             word = name.replace("_", "-")
-            raise YuzuratchetError(f"--{word} says what --write stores, and nothing is stored without it")
+            raise YuzuratchetError(
+                f"--{word} says what --write stores, and nothing is stored without it"
+            )
 
 
 def suite(given: argparse.Namespace) -> int:
@@ -71,7 +79,9 @@ def suite(given: argparse.Namespace) -> int:
     found = Suite.of_folder(given.folder, given.only)
     names = found.names()
     if not names:
-        which = f"no script whose name matches {given.only!r}" if given.only else "no scripts (*.txt)"
+        which = (
+            f"no script whose name matches {given.only!r}" if given.only else "no scripts (*.txt)"
+        )
         raise YuzuratchetError(f"{given.folder} has {which}")
     program = find_program(given.program)
     for path in [it for it in (given.junit, given.page) if it]:
