@@ -4,6 +4,7 @@ from __future__ import annotations
 
 import random
 from pathlib import Path
+from typing import Any
 
 import numpy as np
 import pytest
@@ -22,8 +23,8 @@ def triangle(*points: tuple[float, float, float], colour: str = "#ffffff") -> Me
     return Mesh(points, [(0, 1, 2)], colour)
 
 
-def area(a, b, c) -> float:  # type: ignore[no-untyped-def]
-    return (b[0] - a[0]) * (c[1] - a[1]) - (c[0] - a[0]) * (b[1] - a[1])
+def area(a: Any, b: Any, c: Any) -> float:
+    return float((b[0] - a[0]) * (c[1] - a[1]) - (c[0] - a[0]) * (b[1] - a[1]))
 
 
 def test_what_the_eye_sees() -> None:
@@ -186,7 +187,7 @@ def test_turned_bodies_hide_their_backs(program: Path) -> None:
         (lambda: look_at((1, 2, 3), (1, 2, 3)), "at"),
         (lambda: look_at((0, 0, 0), (0, 5, 0)), "up"),
         (lambda: project(box((0, 0, 0), 1), np.eye(3), (8, 8)), "camera"),
-        (lambda: project(box((0, 0, 0), 1), WIDE, "scene"), "target"),
+        (lambda: project(box((0, 0, 0), 1), WIDE, "scene"), "target"),  # type: ignore[arg-type]
     ],
 )
 def test_no_cameras(call, argument: str) -> None:  # type: ignore[no-untyped-def]

@@ -61,8 +61,8 @@ def test_diff(
 ) -> None:
     other, picture = tmp_path / "other.txt", tmp_path / "picture.png"
     other.write_text(
-        SCENE
-        + "i raster 1 0 0\ni vb 0 0 0 9 9 9 9 65536 0 0 9 9 9 9 0 131072 0 9 9 9 9\ni topology 4\ni draw 3 0\ni pixel 0 0\n"
+        SCENE + "i raster 1 0 0\ni vb 0 0 0 9 9 9 9 65536 0 0 9 9 9 9 0 131072 0 9 9 9 9\n"
+        "i topology 4\ni draw 3 0\ni pixel 0 0\n"
     )
     words = ["--program", str(program)]
     assert main(["diff", str(scene), str(scene), *words]) == 0

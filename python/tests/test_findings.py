@@ -148,29 +148,91 @@ def test_where_the_program_knows_better_its_line_stands_alone() -> None:
 
 
 HINTS = [
-    (b"target 4 4\ni flush  # now\n", "x:2:8: fault 101: two spaces stand together; a script has no comments"),
-    (b"target 4 4\ni CLEARC 1 2 3 4\n", "x:2:3: fault 104: 'CLEARC' is no command; words are in lower case: 'clearc'"),
-    (b"target 4 4\nI flush\n", "x:2:1: fault 103: 'I' is no actor: a line begins with i or d0 to d7; words are in lower case: 'i'"),
-    (b"TARGET 4 4\n", "x:1:1: fault 102: the first line begins with 'target', and not with 'TARGET'; words are in lower case: 'target'"),
-    (b"target 4 4\ni topology TRIANGLELIST\n", "x:2:12: fault 106: 'TRIANGLELIST' is no number of a script: TRIANGLELIST is 4"),
-    (b"target 4 4\ni topology D3D11_PRIMITIVE_TOPOLOGY_TRIANGLESTRIP\n", "x:2:12: fault 106: 'D3D11_PRIMITIVE_TOPOLOGY_TRIANGLESTRIP' is no number of a script: TRIANGLESTRIP is 5"),
-    (b"target 4 4\ni raster D3D11_CULL_BACK 0 0\n", "x:2:10: fault 106: 'D3D11_CULL_BACK' is no number of a script: BACK is 3"),
-    (b"target 4 4\ni raster 3 false 0\n", "x:2:12: fault 106: 'false' is no number of a script: false is 0"),
-    (b"target 4 4\ni blend TRUE xor 15\n", "x:2:9: fault 106: 'TRUE' is no number of a script: true is 1"),
-    (b"target 4 4\ni blend 1 xor 15\n", "x:2:11: fault 106: 'xor' is no number of a script: XOR is 10"),
-    (b"target 4 4\ni ds 1 1 D3D11_COMPARISON_LESS_EQUAL 0 255 255 1 1 1 8 1 1 1 8 0\n", "x:2:10: fault 106: 'D3D11_COMPARISON_LESS_EQUAL' is no number of a script: LESS_EQUAL is 4"),
-    (b"target 4 4\ni ds 1 1 2 0 255 255 KEEP 1 1 8 1 1 1 8 0\n", "x:2:22: fault 106: 'KEEP' is no number of a script: KEEP is 1"),
-    (b"target 4 4\ni clearc 1,2,3,4\n", "x:2:17: fault 105: clearc takes 4 arguments, and 1 stand here; one space stands between numbers, and no comma"),
-    (b"target 4 4\ni clearc 1, 2, 3, 4\n", "x:2:10: fault 106: '1,' is no number of a script; one space stands between numbers, and no comma"),
-    (b"\xef\xbb\xbftarget 4 4\n", "x:1:1: fault 101: the file begins with a byte-order mark; it is to be saved as UTF-8 without one"),
-]  # fmt: skip
+    (
+        b"target 4 4\ni flush  # now\n",
+        "2:8: fault 101",
+        "two spaces stand together; a script has no comments",
+    ),
+    (
+        b"target 4 4\ni CLEARC 1 2 3 4\n",
+        "2:3: fault 104",
+        "'CLEARC' is no command; words are in lower case: 'clearc'",
+    ),
+    (
+        b"target 4 4\nI flush\n",
+        "2:1: fault 103",
+        "'I' is no actor: a line begins with i or d0 to d7; words are in lower case: 'i'",
+    ),
+    (
+        b"TARGET 4 4\n",
+        "1:1: fault 102",
+        "the first line begins with 'target', and not with 'TARGET'; words are in lower "
+        "case: 'target'",
+    ),
+    (
+        b"target 4 4\ni topology TRIANGLELIST\n",
+        "2:12: fault 106",
+        "'TRIANGLELIST' is no number of a script: TRIANGLELIST is 4",
+    ),
+    (
+        b"target 4 4\ni topology D3D11_PRIMITIVE_TOPOLOGY_TRIANGLESTRIP\n",
+        "2:12: fault 106",
+        "'D3D11_PRIMITIVE_TOPOLOGY_TRIANGLESTRIP' is no number of a script: TRIANGLESTRIP is " "5",
+    ),
+    (
+        b"target 4 4\ni raster D3D11_CULL_BACK 0 0\n",
+        "2:10: fault 106",
+        "'D3D11_CULL_BACK' is no number of a script: BACK is 3",
+    ),
+    (
+        b"target 4 4\ni raster 3 false 0\n",
+        "2:12: fault 106",
+        "'false' is no number of a script: false is 0",
+    ),
+    (
+        b"target 4 4\ni blend TRUE xor 15\n",
+        "2:9: fault 106",
+        "'TRUE' is no number of a script: true is 1",
+    ),
+    (
+        b"target 4 4\ni blend 1 xor 15\n",
+        "2:11: fault 106",
+        "'xor' is no number of a script: XOR is 10",
+    ),
+    (
+        b"target 4 4\ni ds 1 1 D3D11_COMPARISON_LESS_EQUAL 0 255 255 1 1 1 8 1 1 1 8 0\n",
+        "2:10: fault 106",
+        "'D3D11_COMPARISON_LESS_EQUAL' is no number of a script: LESS_EQUAL is 4",
+    ),
+    (
+        b"target 4 4\ni ds 1 1 2 0 255 255 KEEP 1 1 8 1 1 1 8 0\n",
+        "2:22: fault 106",
+        "'KEEP' is no number of a script: KEEP is 1",
+    ),
+    (
+        b"target 4 4\ni clearc 1,2,3,4\n",
+        "2:17: fault 105",
+        "clearc takes 4 arguments, and 1 stand here; one space stands between numbers, and "
+        "no comma",
+    ),
+    (
+        b"target 4 4\ni clearc 1, 2, 3, 4\n",
+        "2:10: fault 106",
+        "'1,' is no number of a script; one space stands between numbers, and no comma",
+    ),
+    (
+        b"\xef\xbb\xbftarget 4 4\n",
+        "1:1: fault 101",
+        "the file begins with a byte-order mark; it is to be saved as UTF-8 without one",
+    ),
+]
 
 
-@pytest.mark.parametrize(("text", "head"), HINTS, ids=lambda it: None)
-def test_hints(text: bytes, head: str, program: Path) -> None:
+@pytest.mark.parametrize(("text", "where", "why"), HINTS)
+def test_hints(text: bytes, where: str, why: str, program: Path) -> None:
     finding = check_script(text, program=program)
     assert finding is not None
-    assert report(finding, "x", text).startswith(f"{head}\n")
+    assert report(finding, "x", text).splitlines()[0] == f"x:{where}: {why}"
 
 
 def test_the_index_that_is_no_vertex_is_underlined(program: Path) -> None:

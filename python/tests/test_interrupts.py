@@ -91,7 +91,7 @@ def cut_short(folder: Path) -> Iterator[subprocess.Popen[str]]:
     process.wait()
 
 
-@pytest.mark.parametrize("number", STATUSES, ids=lambda it: it.name)
+@pytest.mark.parametrize("number", STATUSES, ids=[it.name for it in STATUSES])
 def test_a_suite_ends_in_order(
     number: signal.Signals, folder: Path, cut_short: subprocess.Popen[str]
 ) -> None:
@@ -133,7 +133,7 @@ def test_nothing_is_stored_of_a_part(folder: Path) -> None:
     assert not list((folder / "temporary").iterdir())
 
 
-@pytest.mark.parametrize("number", STATUSES, ids=lambda it: it.name)
+@pytest.mark.parametrize("number", STATUSES, ids=[it.name for it in STATUSES])
 def test_other_commands_leave_nothing_either(number: signal.Signals, folder: Path) -> None:
     process = started(folder, "check", str(folder / "suite" / "slow-00.txt"))
     wait_for(lambda: bool(pids(folder)))

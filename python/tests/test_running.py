@@ -172,7 +172,7 @@ def test_a_result_says_what_it_is(program: Path) -> None:
 def test_many_scenes(program: Path) -> None:
     """Results come in the order of the scenes, which may be scenes, texts and bytes."""
     texts = [f"target 1 1\ni clearc {number} 0 0 9\n" for number in range(20)]
-    scenes = [texts[0].encode(), read_script(texts[1]), *texts[2:]]
+    scenes: list[Scene | str | bytes] = [texts[0].encode(), read_script(texts[1]), *texts[2:]]
     found = [it.image[0, 0, 0] for it in run_many(scenes, workers=3, program=program)]
     assert found == list(range(20))
     assert list(run_many([], program=program)) == []

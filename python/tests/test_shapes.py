@@ -8,6 +8,7 @@ from collections import Counter
 from fractions import Fraction
 from pathlib import Path
 from types import ModuleType
+from typing import Any
 
 import numpy as np
 import pytest
@@ -19,8 +20,8 @@ from yuzuratchet.shapes import box, checker, clockwise, draw_triangles, grid, re
 from yuzuratchet.vertices import Vertices
 
 
-def area(a, b, c) -> float:  # type: ignore[no-untyped-def]
-    return (b[0] - a[0]) * (c[1] - a[1]) - (c[0] - a[0]) * (b[1] - a[1])
+def area(a: Any, b: Any, c: Any) -> float:
+    return float((b[0] - a[0]) * (c[1] - a[1]) - (c[0] - a[0]) * (b[1] - a[1]))
 
 
 @pytest.mark.parametrize("corners", itertools.permutations([(0, 0), (4, 0), (0, 4)]))
@@ -117,7 +118,7 @@ def test_checker() -> None:
     "make",
     [
         lambda: grid(0, 1),
-        lambda: grid(1, 1.5),
+        lambda: grid(1, 1.5),  # type: ignore[arg-type]
         lambda: sphere((0, 0, 0), 1, segments=2),
         lambda: sphere((0, 0, 0), 1, rings=1),
     ],
@@ -210,7 +211,7 @@ def test_mesh() -> None:
 
 def test_one_rule_for_depths() -> None:
     """A whole number is the stored depth, wherever it stands; an array's type is that of all its numbers."""
-    points = [(0, 0, 1), (4, 0, 1.0), (0, 4, Fraction(1, 2)), (4, 4, 0)]
+    points: list[Any] = [(0, 0, 1), (4, 0, 1.0), (0, 4, Fraction(1, 2)), (4, 4, 0)]
     given = [(*point, "#ffffff") for point in points]
     one, other = Scene(4, 4), Scene(4, 4)
     one.immediate.ia_set_vertices(given[:3])
@@ -246,8 +247,13 @@ class Loaded:
 def test_meshes_from_files(monkeypatch: pytest.MonkeyPatch, tmp_path: Path) -> None:
     """By a stand-in with trimesh's calls; a face that looks at the viewer there does so here."""
     calls = []
+
+    def load(path: str, force: str) -> Loaded:
+        calls.append((path, force))
+        return Loaded()
+
     stand_in = ModuleType("trimesh")
-    stand_in.load = lambda path, force: calls.append((path, force)) or Loaded()  # type: ignore[attr-defined]
+    stand_in.load = load  # type: ignore[attr-defined]
     monkeypatch.setitem(sys.modules, "trimesh", stand_in)
     path = tmp_path / "x.obj"
     with pytest.raises(FileNotFoundError):
@@ -264,7 +270,7 @@ def test_meshes_from_files(monkeypatch: pytest.MonkeyPatch, tmp_path: Path) -> N
 
 
 def test_without_trimesh(monkeypatch: pytest.MonkeyPatch, tmp_path: Path) -> None:
-    monkeypatch.setitem(sys.modules, "trimesh", None)
+    monkeypatch.setitem(sys.modules, "trimesh", None)  # type: ignore[misc]
     with pytest.raises(PackageMissing, match="pip install trimesh"):
         load_mesh(tmp_path / "x.obj")
 

@@ -67,7 +67,8 @@ def test_an_image_that_differs(
         folder,
         "below/plain.txt",
         "target 3 2\n",
-        "target 3 2\ni raster 1 0 0\ni vb 65536 0 0 9 9 9 9 131072 0 0 9 9 9 9 65536 131072 0 9 9 9 9\ni topology 4\ni draw 3 0\n",
+        "target 3 2\ni raster 1 0 0\ni vb 65536 0 0 9 9 9 9 131072 0 0 9 9 9 9 65536 131072 0 9 9 9 9\n"
+        "i topology 4\ni draw 3 0\n",
     )
     junit, page = folder / "junit.xml", folder / "page.html"
     assert suite(folder, program, "--junit", str(junit), "--page", str(page)) == 1

@@ -3,7 +3,9 @@
 from __future__ import annotations
 
 import random
+import sys
 from fractions import Fraction
+from typing import Any, Callable
 
 import numpy as np
 import pytest
@@ -17,12 +19,18 @@ TIES = [n / 131_072 for n in (-3, -1, 1, 3, 5)]
 HALVES = [float(Fraction(2 * n + 1, 2 * DEEPEST)) for n in (0, 1, 1000, DEEPEST // 2, DEEPEST - 1)]
 
 
-def random_vertices(chance: random.Random, count: int) -> list[tuple[object, ...]]:
-    coordinates = [lambda: chance.uniform(-4096, 4096), lambda: chance.randrange(-4096, 4097)]
+def random_vertices(chance: random.Random, count: int) -> list[Any]:
+    coordinates: list[Callable[[], Any]] = [
+        lambda: chance.uniform(-4096, 4096),
+        lambda: chance.randrange(-4096, 4097),
+    ]
     coordinates += [lambda: chance.choice(TIES), lambda: np.float32(chance.uniform(-9, 9))]
-    depths = [lambda: chance.random(), lambda: chance.choice([0.0, 0.5, 1.0, *HALVES])]
+    depths: list[Callable[[], Any]] = [
+        lambda: chance.random(),
+        lambda: chance.choice([0.0, 0.5, 1.0, *HALVES]),
+    ]
     depths += [lambda: chance.randrange(DEEPEST + 1), lambda: np.float64(chance.random())]
-    colours = ["#ff8000", "#01020304", (1, 2, 3), (1, 2, 3, 4), [5, 6, 7, 8]]
+    colours: list[Any] = ["#ff8000", "#01020304", (1, 2, 3), (1, 2, 3, 4), [5, 6, 7, 8]]
     made = []
     for _ in range(count):
         x, y = (chance.choice(coordinates)() for _ in range(2))
@@ -64,11 +72,9 @@ WRONG: list[tuple[tuple[object, ...], str, str]] = [
 
 @pytest.mark.parametrize("count", [2, MANY + 5])
 @pytest.mark.parametrize(("wrong", "argument", "why"), WRONG)
-def test_what_is_wrong_is_told(
-    count: int, wrong: tuple[object, ...], argument: str, why: str
-) -> None:
-    given = [(0, 0, 0.0, "#000000")] * count
-    given[-1] = wrong  # type: ignore[call-overload]
+def test_what_is_wrong_is_told(count: int, wrong: Any, argument: str, why: str) -> None:
+    given: list[Any] = [(0, 0, 0.0, "#000000")] * count
+    given[-1] = wrong
     scene = Scene(4, 4)
     with pytest.raises(ArgumentError, match=f"^{argument}: {why}.*\\(vertex {count - 1}\\)$"):
         scene.immediate.ia_set_vertices(given)
@@ -85,8 +91,8 @@ def test_what_is_wrong_is_told(
     ],
 )
 def test_limits_are_told_in_pixels(count: int, vertex: tuple[float, ...], why: str) -> None:
-    given = [(0, 0, 0.0, "#000000")] * count
-    given[-1] = (*vertex, "#000000")  # type: ignore[assignment]
+    given: list[Any] = [(0, 0, 0.0, "#000000")] * count
+    given[-1] = (*vertex, "#000000")
     with pytest.raises(CallRefused) as raised:
         Scene(4, 4).immediate.ia_set_vertices(given)
     wanted = f"vertices: {why.format(count - 1)} (refusal 3)"
@@ -104,8 +110,8 @@ def test_limits_are_told_in_pixels(count: int, vertex: tuple[float, ...], why: s
     ],
 )
 def test_so_are_numbers_that_no_script_has(count: int, vertex: tuple[float, ...], why: str) -> None:
-    given = [(0, 0, 0.0, "#000000")] * count
-    given[-1] = (*vertex, "#000000")  # type: ignore[assignment]
+    given: list[Any] = [(0, 0, 0.0, "#000000")] * count
+    given[-1] = (*vertex, "#000000")
     with pytest.raises(ArgumentError, match=f"^vertices: {why.format(count - 1)}"):
         Scene(4, 4, strict=False).immediate.ia_set_vertices(given)
 
@@ -113,6 +119,9 @@ def test_so_are_numbers_that_no_script_has(count: int, vertex: tuple[float, ...]
 def test_without_numpy(monkeypatch: pytest.MonkeyPatch) -> None:
     given = random_vertices(random.Random(1), 100)
     line = vertex_line("i", given)
-    monkeypatch.setitem(__import__("sys").modules, "numpy", None)
-    plain = [(float(x), float(y), int(z) if isinstance(z, int) else float(z), c) for x, y, z, c in given]  # type: ignore[call-overload]
+    monkeypatch.setitem(sys.modules, "numpy", None)  # type: ignore[misc]
+    plain = []
+    for x, y, z, colour in given:
+        depth = int(z) if isinstance(z, int) else float(z)
+        plain.append((float(x), float(y), depth, colour))
     assert vertex_line("i", plain).arguments == line.arguments

@@ -12,7 +12,8 @@ import textwrap
 from pathlib import Path
 
 from .backends import draw
-from .findings import Finding, Place, Text, letters, of_number
+from .findings import Finding as Finding
+from .findings import Place, Text, letters, of_number
 from .labels import Labels
 from .survey import all_findings
 

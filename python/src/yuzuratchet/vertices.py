@@ -30,8 +30,9 @@ MANY = 64
 class Vertices(Sequence[Vertex]):
     """Vertices as the device takes them, in an array; as a sequence each is ``(x, y, depth, colour)``.
 
-    :func:`yuzuratchet.meshes.mesh` and :func:`yuzuratchet.camera.project` give them. ``numbers`` has a row of seven whole numbers for each: x and y in 1/65,536 of a pixel, the stored
-    depth, red, green, blue and alpha.
+    :func:`yuzuratchet.meshes.mesh` and :func:`yuzuratchet.camera.project` give them. ``numbers`` has
+    a row of seven whole numbers for each: x and y in 1/65,536 of a pixel, the stored depth, red,
+    green, blue and alpha.
     """
 
     def __init__(self, numbers: Numbers) -> None:
