@@ -397,6 +397,8 @@ def test_sarif(scripts: list[Path], program: Path, capsys: pytest.CaptureFixture
     ]  # fmt: skip
     region = results[0]["locations"][0]["physicalLocation"]["region"]
     assert region == {"startLine": 5, "startColumn": 13, "endColumn": 14}
+    uris = {it["locations"][0]["physicalLocation"]["artifactLocation"]["uri"] for it in results}
+    assert uris == {path.as_uri() for path in scripts[:3]}
     related = results[0]["relatedLocations"][0]["physicalLocation"]["region"]
     assert related == {"startLine": 3, "startColumn": 8, "endColumn": 9}
 

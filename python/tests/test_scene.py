@@ -492,3 +492,28 @@ def test_many_vertices_are_set_fast() -> None:
         scene.immediate.ia_set_vertices(given)
         times.append(time.process_time() - begun)
     assert min(times) < 0.3, times
+
+
+def test_states_of_another_kind() -> None:
+    context = drawable().immediate
+    for call in (context.rs_set_state, context.om_set_depth_stencil, context.om_set_blend):
+        for state in (None, 3, CullMode.NONE, StencilFace()):
+            with pytest.raises(TypeError, match="^state: a [A-Za-z]+State is wanted, and not "):
+                call(state)
+
+
+def test_the_text_of_a_line_is_made_once(monkeypatch: pytest.MonkeyPatch) -> None:
+    """However often the script is asked for, the work grows with its lines alone."""
+    made: list[str] = []
+    text = Line._text.func  # type: ignore[attr-defined]
+
+    def counted(line: Line) -> str:
+        made.append(line.word)
+        return str(text(line))
+
+    monkeypatch.setattr(Line._text, "func", counted)
+    scene = drawable()
+    for _ in range(50):
+        scene.immediate.draw(3)
+        scene.script()
+    assert len(made) == len(scene.lines) == 53

@@ -6,7 +6,9 @@ Lines and columns count from 1 in both, and a column is a letter; an end lies ju
 from __future__ import annotations
 
 from dataclasses import dataclass, field
+from pathlib import Path
 from typing import Any, Final
+from urllib.parse import quote
 
 from . import __version__
 from .findings import Finding, Place, Text
@@ -122,6 +124,5 @@ def _location(checked: Checked, place: Finding | Place) -> Json:
 
 
 def _uri(name: str) -> str:
-    from urllib.parse import quote
-
-    return quote(name)
+    path = Path(name)
+    return path.as_uri() if path.is_absolute() else quote(name)

@@ -24,7 +24,7 @@ from contextlib import contextmanager
 from dataclasses import dataclass, field
 from pathlib import Path
 from types import TracebackType
-from typing import Iterable, Iterator
+from typing import Iterable, Iterator, TypeVar
 
 from .errors import ArgumentError, CallRefused, WrongType
 from .labels import Labels
@@ -57,6 +57,16 @@ class CommandList:
 
 def _count(number: int, thing: str) -> str:
     return f"{number} {thing}{'' if number == 1 else 's'}"
+
+
+StateKind = TypeVar("StateKind", RasterizerState, DepthStencilState, BlendState)
+
+
+def _of_kind(kind: type[StateKind], state: StateKind) -> StateKind:
+    """The state, if it is one of the kind that a call takes."""
+    if not isinstance(state, kind):
+        raise WrongType("state", f"a {kind.__name__} is wanted, and not {state!r}")
+    return state
 
 
 class Context:
@@ -104,7 +114,7 @@ class Context:
 
     def rs_set_state(self, state: RasterizerState) -> None:
         """Says which triangles are drawn, and whether the scissor rectangle acts."""
-        self._add("raster", *state.numbers())
+        self._add("raster", *_of_kind(RasterizerState, state).numbers())
 
     def rs_set_scissor(self, left: int, top: int, right: int, bottom: int) -> None:
         """Sets the scissor rectangle, in pixels; right and bottom are the first ones outside."""
@@ -112,11 +122,11 @@ class Context:
 
     def om_set_depth_stencil(self, state: DepthStencilState, stencil_ref: int = 0) -> None:
         """Says how depth and stencil are tested and changed; the reference is 0 to 255."""
-        self._add("ds", *state.numbers(), stencil_ref)
+        self._add("ds", *_of_kind(DepthStencilState, state).numbers(), stencil_ref)
 
     def om_set_blend(self, state: BlendState) -> None:
         """Says what is written of a triangle's colour."""
-        self._add("blend", *state.numbers())
+        self._add("blend", *_of_kind(BlendState, state).numbers())
 
     def set_predication(self, predicate: tuple[int, bool] | None) -> None:
         """Leaves out draws and clears where the query's result is the value; None ends that.
