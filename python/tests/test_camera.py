@@ -187,6 +187,7 @@ def test_turned_bodies_hide_their_backs(program: Path) -> None:
         (lambda: look_at((1, 2, 3), (1, 2, 3)), "at"),
         (lambda: look_at((0, 0, 0), (0, 5, 0)), "up"),
         (lambda: project(box((0, 0, 0), 1), np.eye(3), (8, 8)), "camera"),
+        (lambda: project([(0, 0, 0)], WIDE, (8, 8)), "mesh"),  # type: ignore[arg-type]
         (lambda: project(box((0, 0, 0), 1), WIDE, "scene"), "target"),  # type: ignore[arg-type]
     ],
 )

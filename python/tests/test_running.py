@@ -206,6 +206,14 @@ def test_scenes_are_made_as_they_are_wanted(program: Path) -> None:
     several.close()  # type: ignore[attr-defined]
 
 
+@pytest.mark.parametrize("scenes", ["target 1 1\n", b"target 1 1\n", Scene(1, 1)])
+def test_one_scene_is_not_many(scenes: object) -> None:
+    with pytest.raises(
+        TypeError, match="^scenes: several scenes are wanted, as a list, and not one"
+    ):
+        run_many(scenes)  # type: ignore[arg-type]
+
+
 @pytest.mark.parametrize("workers", [0, -1])
 def test_how_many_at_once(workers: int) -> None:
     with pytest.raises(ArgumentError, match="^workers: .* is not at least 1"):

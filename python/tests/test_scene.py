@@ -502,6 +502,12 @@ def test_states_of_another_kind() -> None:
                 call(state)
 
 
+def test_no_predicates() -> None:
+    for predicate in (3, (1, True, 2), "ab", [0, True]):
+        with pytest.raises(TypeError, match=r"^predicate: \(query, value\) is wanted, and not "):
+            drawable().immediate.set_predication(predicate)  # type: ignore[arg-type]
+
+
 def test_the_text_of_a_line_is_made_once(monkeypatch: pytest.MonkeyPatch) -> None:
     """However often the script is asked for, the work grows with its lines alone."""
     made: list[str] = []

@@ -8,7 +8,7 @@ from collections import Counter
 from fractions import Fraction
 from pathlib import Path
 from types import ModuleType
-from typing import Any
+from typing import Any, Callable
 
 import numpy as np
 import pytest
@@ -112,6 +112,20 @@ def test_checker() -> None:
     for colours in ("#000000", ["#000000"]):
         with pytest.raises(ArgumentError, match="^colours: two colours are wanted"):
             checker(2, 2, colours)
+
+
+@pytest.mark.parametrize(
+    ("call", "argument"),
+    [
+        (lambda: box((0, 0), 1), "centre"),
+        (lambda: sphere("abc", 1), "centre"),  # type: ignore[arg-type]
+        (lambda: box((0, 0, 0), 1).moved((0, float("nan"), 0)), "by"),
+        (lambda: box((0, 0, 0), 1).shadow_volume((0, 1), 2), "light"),
+    ],
+)
+def test_no_vectors(call: Callable[[], object], argument: str) -> None:
+    with pytest.raises(ArgumentError, match=f"^{argument}: x, y and z are wanted, and not "):
+        call()
 
 
 @pytest.mark.parametrize(

@@ -19,7 +19,7 @@ import numpy.typing as npt
 
 from .errors import ArgumentError, WrongType
 from .limits import DEEPEST, FARTHEST_PIXEL, SUBPIXELS
-from .meshes import Floats, Mesh, triangle_vertices
+from .meshes import Floats, Mesh, triangle_vertices, unit, vector
 from .vertices import Vertices
 
 Matrix = npt.NDArray[np.float64]
@@ -46,9 +46,9 @@ def look_at(
 
     ``up`` is the direction that is shown upwards.
     """
-    here = _vector(eye, "eye")
-    away = _unit(_vector(at, "at") - here, "at", "the eye lies there itself")
-    right = _unit(np.cross(_vector(up, "up"), away), "up", "it lies along the line of sight")
+    here = vector(eye, "eye")
+    away = unit(vector(at, "at") - here, "at", "the eye lies there itself")
+    right = unit(np.cross(vector(up, "up"), away), "up", "it lies along the line of sight")
     above = np.cross(away, right)
     found = np.eye(4)
     found[:3, :3] = right, above, away
@@ -99,6 +99,8 @@ def project(mesh: Mesh, camera: npt.ArrayLike, target: Target) -> Vertices:
     left of it, in its colour and at its turn. Faces that look away are not left out: that is the
     rasterizer state's.
     """
+    if not isinstance(mesh, Mesh):
+        raise WrongType("mesh", f"a Mesh is wanted, and not {mesh!r}")
     width, height = _sides(target)
     matrix = np.asarray(camera, dtype=float)
     if matrix.shape != (4, 4) or not np.isfinite(matrix).all():
@@ -192,21 +194,6 @@ def _sides(target: Target) -> tuple[int, int]:
         raise WrongType(
             "target", f"a Scene or (width, height) is wanted, not {target!r}"
         ) from error
-
-
-def _vector(values: Sequence[float], name: str) -> Floats:
-    found = np.asarray(values, dtype=float)
-    if found.shape != (3,) or not np.isfinite(found).all():
-        raise ArgumentError(name, f"x, y and z are wanted, and not {values!r}")
-    return found
-
-
-def _unit(vector: Floats, name: str, why: str) -> Floats:
-    length = float(np.linalg.norm(vector))
-    if length < 1e-12:
-        raise ArgumentError(name, why)
-    found: Floats = vector / length
-    return found
 
 
 def _check_aspect(aspect: float) -> None:

@@ -54,7 +54,7 @@ class Mesh:
 
     def moved(self, by: Sequence[float]) -> Mesh:
         """The mesh, moved so far in x, y and z."""
-        return Mesh(self.points + np.asarray(by, dtype=float), self.faces, self.colours)
+        return Mesh(self.points + vector(by, "by"), self.faces, self.colours)
 
     def scaled(self, by: float | Sequence[float]) -> Mesh:
         """The mesh so many times as large round the origin, each way or in x, y and z.
@@ -103,7 +103,7 @@ class Mesh:
         A face that is turned away has its colour times ``ambient``, one that looks straight against
         the light its colour times ``ambient + direct``, at most 1.0. Alpha stays.
         """
-        towards = -_direction(light, "light")
+        towards = -unit(vector(light, "light"), "light", "it has no direction")
         bright = ambient + direct * np.clip(self.normals() @ towards, 0, 1)
         colours = self.colours.astype(float)
         colours[:, :3] *= np.clip(bright, 0, 1)[:, None]
@@ -115,12 +115,13 @@ class Mesh:
         ``light`` is the direction in which the light goes. The volume is closed: the lit faces, the
         same moved away and turned, and walls between them.
         """
-        lit = self.faces[self.normals() @ np.asarray(light, dtype=float) < 0]
+        along = vector(light, "light")
+        lit = self.faces[self.normals() @ along < 0]
         edges = [(int(face[k]), int(face[(k + 1) % 3])) for face in lit for k in range(3)]
         rim = sorted(set(edges) - {(b, a) for a, b in edges})
         far = len(self.points)
         walls = [wall for a, b in rim for wall in ((b, a, a + far), (b, a + far, b + far))]
-        moved = self.points + reach * np.asarray(light, dtype=float)
+        moved = self.points + reach * along
         every = [lit, lit[:, ::-1] + far, np.array(walls, dtype=np.int64).reshape(-1, 3)]
         return Mesh(np.concatenate([self.points, moved]), np.concatenate(every))
 
@@ -244,13 +245,24 @@ def _channels(colours: npt.ArrayLike | Colour) -> Channels:
     return found
 
 
-def _direction(values: Sequence[float], name: str) -> Floats:
-    """A direction of length 1."""
-    found = np.asarray(values, dtype=float)
-    if found.shape != (3,) or not np.isfinite(found).all() or not found.any():
-        raise ArgumentError(name, f"{values!r} is no direction: x, y and z, not all of them 0")
-    direction: Floats = found / np.linalg.norm(found)
-    return direction
+def vector(values: Sequence[float], name: str) -> Floats:
+    """x, y and z as an array."""
+    try:
+        found = np.asarray(values, dtype=float)
+    except (TypeError, ValueError):
+        found = np.empty(0)
+    if found.shape != (3,) or not np.isfinite(found).all():
+        raise ArgumentError(name, f"x, y and z are wanted, and not {values!r}")
+    return found
+
+
+def unit(values: Floats, name: str, why: str) -> Floats:
+    """The same direction with a length of 1; raises, and says why, where there is none."""
+    length = float(np.linalg.norm(values))
+    if length < 1e-12:
+        raise ArgumentError(name, why)
+    found: Floats = values / length
+    return found
 
 
 def _axis(name: str) -> str:

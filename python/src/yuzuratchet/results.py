@@ -220,6 +220,8 @@ def run_many(
     scenes may be made as they are wanted. The rest is as with :func:`run`: the library is what
     makes many small scenes fast. An error is raised at its scene's turn, and ends the others.
     """
+    if isinstance(scenes, (Scene, str, bytes)):
+        raise WrongType("scenes", "several scenes are wanted, as a list, and not one")
     if workers is not None and (isinstance(workers, bool) or not isinstance(workers, int)):
         raise WrongType("workers", f"a whole number is wanted, and not {workers!r}")
     if workers is not None and workers < 1:

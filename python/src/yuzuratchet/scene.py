@@ -137,6 +137,8 @@ class Context:
         if predicate is None:
             self._add("predicate")
         else:
+            if not isinstance(predicate, tuple) or len(predicate) != 2:
+                raise WrongType("predicate", f"(query, value) is wanted, and not {predicate!r}")
             query, value = predicate
             self._add("predicate", query, int(bool(value)))
 

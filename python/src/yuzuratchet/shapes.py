@@ -90,13 +90,13 @@ def box(centre: Sequence[float], half: float | Sequence[float], colour: Colour =
     """A box; ``half`` is half of its size, each way or in x, y and z."""
     import numpy as np
 
-    from .meshes import Mesh
+    from .meshes import Mesh, vector
 
     signs = np.array([(x, y, z) for x in (-1, 1) for y in (-1, 1) for z in (-1, 1)], dtype=float)
     # left, right, below, above, near, far: each round its four corners
     sides = [(1, 3, 2, 0), (4, 6, 7, 5), (0, 4, 5, 1), (3, 7, 6, 2), (0, 2, 6, 4), (5, 7, 3, 1)]
     faces = [face for a, b, c, d in sides for face in ((a, b, c), (a, c, d))]
-    points = np.asarray(centre, dtype=float) + signs * np.asarray(half, dtype=float)
+    points = vector(centre, "centre") + signs * np.asarray(half, dtype=float)
     return Mesh(points, faces, colour)
 
 
@@ -150,7 +150,7 @@ def sphere(
     """A ball of flat faces: ``segments`` round its axis, which goes up, and ``rings`` from pole to pole."""
     import numpy as np
 
-    from .meshes import Mesh
+    from .meshes import Mesh, vector
 
     _check_count("segments", segments, 3)
     _check_count("rings", rings, 2)
@@ -176,7 +176,7 @@ def sphere(
         faces += [np.stack([a, b, d], axis=1), np.stack([a, d, c], axis=1)]
     bottom = last - segments
     faces.append(np.stack([np.full_like(here, last), bottom + here, bottom + beside], axis=1))
-    return Mesh(np.asarray(centre, dtype=float) + radius * points, np.concatenate(faces), colour)
+    return Mesh(vector(centre, "centre") + radius * points, np.concatenate(faces), colour)
 
 
 def _check_count(name: str, count: int, least: int = 1) -> None:
