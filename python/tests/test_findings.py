@@ -8,7 +8,7 @@ from pathlib import Path
 from typing import Any
 
 import pytest
-from conftest import DATA, gallery_names
+from conftest import DATA, TOP, gallery_names
 
 from yuzuratchet import Scene
 from yuzuratchet.check import all_located, check_all, check_script, report, report_all
@@ -325,14 +325,9 @@ def test_states_that_are_set_twice() -> None:
 
 
 def test_examples_have_no_warnings() -> None:
-    """But for what recipes set: one sets all states, and the next all of them again."""
-    from conftest import TOP
-
     for path in (TOP / "python" / "examples").glob("*.txt"):
         data = path.read_bytes()
-        assert {it.rule for it in warnings_of(Text(data), *parse(data))} <= {
-            "state-set-twice"
-        }, path
+        assert warnings_of(Text(data), *parse(data)) == [], path
 
 
 # ---- the command, and its forms for machines
