@@ -3,13 +3,13 @@
 import numpy as np
 
 from yuzuratchet import Scene, run
-from yuzuratchet.meshes import box, mesh, shaded, shadow_volume
+from yuzuratchet.meshes import mesh
 from yuzuratchet.recipes import light_outside_shadows, mark_shadow_volumes
-from yuzuratchet.shapes import draw_triangles
+from yuzuratchet.shapes import box, draw_triangles
 
 LIGHT = (0.9, -1.0, 0.2)
-CUBE, FLOOR = box((-0.6, 0.9, 0), 0.9), box((0, -0.1, 0), (3.6, 0.1, 3.6))
-BODIES = [(*CUBE, "#ffb45a"), (*FLOOR, "#96aa96")]
+CUBE = box((-0.6, 0.9, 0), 0.9, "#ffb45a")
+FLOOR = box((0, -0.1, 0), (3.6, 0.1, 3.6), "#96aa96")
 
 
 def seen(points):
@@ -20,19 +20,19 @@ def seen(points):
     return np.column_stack([96 + 19 * x, 76 - 19 * y, (z + 16) / 32])
 
 
-def draw(points, faces, colours):
-    draw_triangles(context, mesh(seen(points), faces, colours))
+def draw(body):
+    draw_triangles(context, mesh(seen(body.points), body.faces, body.colours))
 
 
 scene = Scene(192, 144)
 context = scene.immediate
 context.clear_color("#181828")
-for points, faces, colour in BODIES:
-    draw(points, faces, shaded(colour, points, faces, LIGHT, direct=0))
+for body in (CUBE, FLOOR):
+    draw(body.shaded(LIGHT, direct=0))
 mark_shadow_volumes(context)
-draw(*shadow_volume(*CUBE, LIGHT, reach=6), "#000000")
+draw(CUBE.shadow_volume(LIGHT, reach=6).coloured("#000000"))
 light_outside_shadows(context)
-for points, faces, colour in BODIES:
-    draw(points, faces, shaded(colour, points, faces, LIGHT))
+for body in (CUBE, FLOOR):
+    draw(body.shaded(LIGHT))
 scene.save("lit_cube.txt")
 run(scene).save("lit_cube.png")

@@ -14,7 +14,7 @@ import pytest
 
 import yuzuratchet.program
 from yuzuratchet.errors import ProgramMissing
-from yuzuratchet.program import find_program
+from yuzuratchet.program import Running, find_program
 from yuzuratchet.suite import Expected, parse_expected
 
 TOP = Path(__file__).resolve().parents[2]
@@ -49,9 +49,11 @@ def stand_in_without_a_process(monkeypatch: pytest.MonkeyPatch) -> None:
     """Lets what stands in for the program run in this process, since starting Python takes longer than most scenes."""
     run = yuzuratchet.program._ended
 
-    def ended(words: list[str], seconds: float | None) -> subprocess.CompletedProcess[str]:
+    def ended(
+        words: list[str], seconds: float | None, running: Running
+    ) -> subprocess.CompletedProcess[str]:
         if words[0] != str(STAND_IN):
-            return run(words, seconds)
+            return run(words, seconds, running)
         answers, image = plain_device.evaluate(Path(words[1]).read_bytes())
         Path(words[2]).write_bytes(image)
         return subprocess.CompletedProcess(words, int("refused" in answers), answers, "")

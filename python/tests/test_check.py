@@ -1,4 +1,4 @@
-"""`check`: line and number are the program's, the word is the right one, and the likely slips have a sentence of their own."""
+"""`check`: line and number are the program's, the word is the right one, and likely slips have a sentence each."""
 
 from __future__ import annotations
 

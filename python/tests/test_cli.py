@@ -2,6 +2,7 @@
 
 from __future__ import annotations
 
+import os
 import subprocess
 import sys
 from pathlib import Path
@@ -11,7 +12,7 @@ from conftest import DATA, TOP
 
 import yuzuratchet
 from yuzuratchet.cli import main
-from yuzuratchet.images import load
+from yuzuratchet.images import decode, load
 
 SCENE = "target 4 4\ni clearc 1 2 3 4\n"
 TGA = bytes.fromhex("000002000000000000000000020001002028" + "0302010407060508")
@@ -38,7 +39,7 @@ def test_check(scene: Path, program: Path, capsys: pytest.CaptureFixture[str]) -
 def test_explain(scene: Path, program: Path, capsys: pytest.CaptureFixture[str]) -> None:
     assert main(["explain", str(scene), "1", "2", "--program", str(program)]) == 0
     assert capsys.readouterr().out.startswith(
-        f"{scene}: pixel (1, 2) holds colour 1 2 3 4, depth 16777215, stencil 0\n\nline "
+        f"{scene}: pixel (1, 2) holds colour 1 2 3 4, depth 16777215 (1), stencil 0\n\nline "
     )
 
 
@@ -51,7 +52,7 @@ def test_explain_tells_of_a_script_that_is_refused(
     ):
         path = tmp_path / "x.txt"
         path.write_text(text)
-        assert main(["explain", str(path), "0", "0", "--program", str(program)]) == 2
+        assert main(["explain", str(path), "0", "0", "--program", str(program)]) == 1
         assert f"{path}{where}; 'yuzuratchet check {path}' tells more" in capsys.readouterr().err
 
 
@@ -60,8 +61,8 @@ def test_diff(
 ) -> None:
     other, picture = tmp_path / "other.txt", tmp_path / "picture.png"
     other.write_text(
-        SCENE
-        + "i raster 1 0 0\ni vb 0 0 0 9 9 9 9 65536 0 0 9 9 9 9 0 131072 0 9 9 9 9\ni topology 4\ni draw 3 0\ni pixel 0 0\n"
+        SCENE + "i raster 1 0 0\ni vb 0 0 0 9 9 9 9 65536 0 0 9 9 9 9 0 131072 0 9 9 9 9\n"
+        "i topology 4\ni draw 3 0\ni pixel 0 0\n"
     )
     words = ["--program", str(program)]
     assert main(["diff", str(scene), str(scene), *words]) == 0
@@ -69,15 +70,64 @@ def test_diff(
     out = capsys.readouterr().out
     assert "+pixel 0 0 9 9 9 9 0 0\n" in out
     assert (
-        "1 of 16 pixels differ, in columns 0 to 0 and rows 0 to 0\n  (0, 0): 1 2 3 4 | 9 9 9 9\n"
+        "1 of 16 pixels differ, in columns 0 to 0 and rows 0 to 0, "
+        "at most by 8 in red, 7 in green, 6 in blue, 5 in alpha\n  (0, 0): 1 2 3 4 | 9 9 9 9\n"
         in out
     )
+    assert (
+        "depth: 1 of 16 pixels differ, in columns 0 to 0 and rows 0 to 0, at most by 16777215\n"
+        in out
+    )
+    assert "stencil" not in out
     assert load(picture).shape == (4, 4, 4)
     image = tmp_path / "image.tga"
     image.write_bytes(TGA)
     assert main(["diff", str(image), str(image)]) == 0
-    assert main(["diff", str(image), str(scene), *words]) == 2
+    assert main(["diff", str(image), str(scene), *words]) == 1
     assert "the sizes differ: 2 by 1 and 4 by 4 pixels" in capsys.readouterr().err
+
+
+def test_diff_of_a_refused_script(
+    scene: Path, tmp_path: Path, program: Path, capsys: pytest.CaptureFixture[str]
+) -> None:
+    other = tmp_path / "other.txt"
+    other.write_text("target 4 4\ni draw 3 0\n")
+    assert main(["diff", str(scene), str(other), "--program", str(program)]) == 1
+    assert f"{other}:2: refused with 7" in capsys.readouterr().err
+
+
+def test_diff_lets_pass_what_it_is_told_to(
+    scene: Path, tmp_path: Path, program: Path, capsys: pytest.CaptureFixture[str]
+) -> None:
+    other, words = tmp_path / "other.txt", ["--program", str(program)]
+    other.write_text("target 4 4\ni clearc 1 2 6 4\ni cleards 16777205 7\n")
+    pair = ["diff", str(scene), str(other), *words]
+    assert main(pair) == 1
+    out = capsys.readouterr().out
+    assert (
+        "depth: 16 of 16 pixels differ, in columns 0 to 3 and rows 0 to 3, at most by 10\n" in out
+    )
+    assert "stencil: 16 of 16 pixels differ" in out and "at most by 3 in blue\n" in out
+    assert main([*pair, "--tolerance", "2", "--colour-only"]) == 1
+    told = "16 of 16 pixels differ by more than 2, in columns 0 to 3 and rows 0 to 3, at most by 3"
+    assert capsys.readouterr().out.startswith(told)
+    assert main([*pair, "--tolerance", "3", "--colour-only"]) == 0
+    assert "are the same in each pixel but for what is let pass" in capsys.readouterr().out
+    assert main([*pair, "--tolerance", "3", "--depth-units", "10"]) == 1
+    assert capsys.readouterr().out.startswith("stencil: ")
+    other.write_text("target 4 4\ni clearc 1 2 3 4\ni cleards 16777205 0\n")
+    assert main([*pair, "--depth-units", "10"]) == 0
+    assert main([*pair, "--depth-units", "9"]) == 1
+
+
+def test_diff_tries_the_picture_first(
+    scene: Path, tmp_path: Path, capsys: pytest.CaptureFixture[str]
+) -> None:
+    for name, why in (("no/such/x.png", "No such file"), ("x.jpg", "its suffix is none of those")):
+        words = ["diff", str(scene), str(scene), str(tmp_path / name), "--program", "/no/such"]
+        assert main(words) == 2
+        assert why in capsys.readouterr().err
+    assert not (tmp_path / "x.jpg").exists()
 
 
 def test_diff_of_answers_alone(
@@ -101,6 +151,86 @@ def test_png(tmp_path: Path, capsys: pytest.CaptureFixture[str]) -> None:
     assert capsys.readouterr().out.splitlines()[-1] == f"{png}: 4 by 2 pixels"
 
 
+def test_png_of_a_script(
+    scene: Path, tmp_path: Path, program: Path, capsys: pytest.CaptureFixture[str]
+) -> None:
+    png = tmp_path / "x.png"
+    assert main(["png", str(scene), str(png), "--program", str(program)]) == 0
+    assert load(png).tolist() == [[[1, 2, 3, 255]] * 4] * 4
+    scene.write_text("target 4 4\ni draw 3 0\n")
+    assert main(["png", str(scene), str(png), "--program", str(program)]) == 1
+    assert f"{scene}:2:3: refusal 7: draw: no topology is set\n" in capsys.readouterr().err
+
+
+# a clear, a triangle on the upper left half, and one more clear while a query is open
+STEPS = (
+    "target 2 2\ni clearc 9 9 9 9\ni vb 0 0 5 1 2 3 4 131072 0 5 1 2 3 4 0 131072 5 1 2 3 4\n"
+    "i topology 4\ni begin 0\ni draw 3 0\ni clearc 7 7 7 7\ni end 0\ni query 0\n"
+)
+
+
+def drawn(tmp_path: Path, program: Path, *words: str, text: str = STEPS) -> list[list[list[int]]]:
+    script, image = tmp_path / "steps.txt", tmp_path / "steps.png"
+    script.write_text(text, encoding="ascii")
+    assert main(["draw", str(script), str(image), "--program", str(program), *words]) == 0
+    return load(image).tolist()  # type: ignore[no-any-return]
+
+
+def test_draw(tmp_path: Path, program: Path, capsys: pytest.CaptureFixture[str]) -> None:
+    assert drawn(tmp_path, program) == [[[7, 7, 7, 255]] * 2] * 2
+    told = capsys.readouterr()
+    assert told.out == "query 0 1\n" and told.err == f"{tmp_path / 'steps.png'}: 2 by 2 pixels\n"
+    assert drawn(tmp_path, program, "--keep-alpha", "--scale", "2") == [[[7, 7, 7, 7]] * 4] * 4
+
+
+def test_draw_up_to_a_line(
+    tmp_path: Path, program: Path, capsys: pytest.CaptureFixture[str]
+) -> None:
+    """A query that is open there is ended."""
+    clear, triangle = [9, 9, 9, 255], [1, 2, 3, 255]
+    assert drawn(tmp_path, program, "--at", "1") == [[[0, 0, 0, 255]] * 2] * 2
+    assert drawn(tmp_path, program, "--at", "5") == [[clear] * 2] * 2
+    assert drawn(tmp_path, program, "--at", "6") == [[triangle, clear], [clear, clear]]
+    assert capsys.readouterr().out == ""
+    script = tmp_path / "steps.txt"
+    words = ["draw", str(script), str(tmp_path / "x.png"), "--program", str(program)]
+    assert main([*words, "--at", "10"]) == 2
+    assert "line: 10 is not in 1 to 9" in capsys.readouterr().err
+    script.write_text(STEPS + "nonsense\n")  # (a fault behind the line hides nothing before it)
+    assert main([*words, "--at", "9"]) == 0 and main(words) == 1
+
+
+def test_draw_a_plane(tmp_path: Path, program: Path) -> None:
+    """The nearest depth is white, what nobody drew on black; the stencil's 0 is black."""
+    white, black = [255, 255, 255, 255], [0, 0, 0, 255]
+    assert drawn(tmp_path, program, "--plane", "depth") == [[white, black], [black, black]]
+    assert drawn(tmp_path, program, "--plane", "stencil") == [[black] * 2] * 2
+
+
+def test_draw_from_and_to_standard_streams(scene: Path, program: Path) -> None:
+    environment = {**os.environ, "PYTHONPATH": str(TOP / "python" / "src")}
+    words = [sys.executable, "-B", "-m", "yuzuratchet", "draw", "-", "-", "--program", str(program)]
+    text = SCENE.encode() + b"i pixel 0 0\n"
+    ran = subprocess.run(words, env=environment, input=text, capture_output=True, check=True)
+    assert decode(ran.stdout).tolist() == [[[1, 2, 3, 255]] * 4] * 4
+    assert ran.stderr == b"pixel 0 0 1 2 3 4 16777215 0\n"
+    text = SCENE.encode() + b"i pixel 4 0\n"
+    ran = subprocess.run(words, env=environment, input=text, capture_output=True, check=False)
+    assert (ran.returncode, ran.stdout) == (1, b"")
+    assert ran.stderr.startswith(b"yuzuratchet: <stdin>:3:9: refusal 15: x: 4 is not below")
+
+
+def test_another_program(scene: Path, tmp_path: Path, capsys: pytest.CaptureFixture[str]) -> None:
+    """What ends well and gives no image of the target is no tiledraw."""
+    copies = tmp_path / "copies"
+    copies.write_text('#!/bin/sh\nexec cp "$1" "$2"\n')
+    copies.chmod(0o755)
+    for program, why in (("/usr/bin/true", "gave no image"), (copies, "gave another image")):
+        assert main(["check", str(scene), "--program", str(program)]) == 2
+        err = capsys.readouterr().err
+        assert f"{program} ended with status 0 and {why}" in err and "is it tiledraw?" in err
+
+
 def test_an_empty_image_is_told(tmp_path: Path, capsys: pytest.CaptureFixture[str]) -> None:
     (tmp_path / "empty.tga").write_bytes(b"")
     assert main(["png", str(tmp_path / "empty.tga"), str(tmp_path / "x.png")]) == 2
@@ -110,7 +240,7 @@ def test_an_empty_image_is_told(tmp_path: Path, capsys: pytest.CaptureFixture[st
     )
 
 
-@pytest.mark.parametrize("command", ["check", "explain", "diff", "suite", "png"])
+@pytest.mark.parametrize("command", ["draw", "check", "explain", "diff", "suite", "png", "view"])
 def test_help(command: str, capsys: pytest.CaptureFixture[str]) -> None:
     with pytest.raises(SystemExit) as raised:
         main([command, "--help"])
@@ -137,8 +267,18 @@ def test_help(command: str, capsys: pytest.CaptureFixture[str]) -> None:
         ["suite"],
         ["suite", "/no/such/folder"],
         ["suite", ".", "--jobs", "0"],
+        ["suite", ".", "--write", "--junit", "x.xml"],
+        ["suite", ".", "--write", "--page", "x.html"],
+        ["suite", ".", "--planes"],
+        ["suite", ".", "--allow-faults"],
+        ["suite", ".", "--only", "no-such-*"],
         ["png", "/no/such/file", "x.png"],
-        ["png", "{scene}", "x.png"],
+        ["png", "{scene}", "x.jpg"],
+        ["draw", "{scene}"],
+        ["draw", "/no/such/file", "x.png"],
+        ["draw", "{scene}", "x.nothing"],
+        ["draw", "{scene}", "/no/such/folder/x.png"],
+        ["draw", "{scene}", "/dev/null/x.png"],
         ["png", "{scene}", "/no/such/folder/x.png"],
         ["check", "{scene}", "--program", "/no/such/program"],
         ["check", "{scene}", "--workers", "-1"],

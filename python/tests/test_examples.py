@@ -13,6 +13,7 @@ from conftest import TOP
 from yuzuratchet.cli import main
 from yuzuratchet.images import load
 from yuzuratchet.program import VARIABLE
+from yuzuratchet.suite import Suite
 
 EXAMPLES = TOP / "python" / "examples"
 SCENES = sorted(EXAMPLES.glob("*.py"))
@@ -36,8 +37,23 @@ def test_an_example_is_short(path: Path) -> None:
     assert len(path.read_text(encoding="utf-8").splitlines()) < 40
 
 
+NEW_USERS = ("cube_on_checker", "mirror", "two_lists")
+
+
+@pytest.mark.parametrize("name", NEW_USERS)
+def test_what_a_new_user_would_write_is_shorter_still(name: str) -> None:
+    assert len((EXAMPLES / f"{name}.py").read_text(encoding="utf-8").splitlines()) < 25
+
+
 def test_there_are_examples() -> None:
-    assert {path.stem for path in SCENES} >= {"lit_cube", "hidden_object", "overlaps"}
+    wanted = {"lit_cube", "hidden_object", "overlaps", *NEW_USERS}
+    assert {path.stem for path in SCENES} >= wanted
+
+
+def test_two_lists_counts_what_is_beside_the_wall() -> None:
+    """Of the square's columns 20 to 51 the wall hides those below 40: 12 by 32 pixels are left."""
+    stored = Suite.of_folder(EXAMPLES).stored()["two_lists.txt"]
+    assert stored.answers == f"query 0 {12 * 32}\n"
 
 
 def test_the_readme_has_the_example() -> None:

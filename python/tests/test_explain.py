@@ -2,8 +2,11 @@
 
 from __future__ import annotations
 
+import json
 import random
 import re
+import time
+from dataclasses import replace
 from pathlib import Path
 
 import compare_explained
@@ -12,10 +15,29 @@ import random_scenes
 from conftest import DATA, STAND_IN
 
 from yuzuratchet import ArgumentError, Scene, ScriptRefused, load_script, read_script
+from yuzuratchet.cli import main
 from yuzuratchet.explain import explain
-from yuzuratchet.explanation import Content, Outcome, heading, table
+from yuzuratchet.explanation import (
+    Content,
+    Outcome,
+    as_json,
+    changing,
+    heading,
+    table,
+    written_text,
+)
+from yuzuratchet.labels import Labels
 from yuzuratchet.shapes import draw_triangles, rectangle
-from yuzuratchet.states import CullMode, RasterizerState
+from yuzuratchet.states import (
+    BlendState,
+    ColorWriteEnable,
+    ComparisonFunc,
+    CullMode,
+    DepthStencilState,
+    LogicOp,
+    RasterizerState,
+    StencilFace,
+)
 
 
 def outcomes(scene: Scene, x: int, y: int, program: Path) -> list[Outcome]:
@@ -71,29 +93,154 @@ def test_strips_and_cuts(program: Path) -> None:
     assert [(it.covering.triangle, it.outcome) for it in found.steps] == [(1, Outcome.DRAWN)]
 
 
-def test_the_table(program: Path) -> None:
+def marked_scene() -> Scene:
+    """A clear, a triangle that the stencil test refuses, and a list that turns bits of two channels."""
     scene = read_script("target 1 1\ni clearc 1 2 3 4\ni ds 0 1 2 1 15 255 1 1 1 3 1 1 1 3 1\n")
     draw_triangles(scene.immediate, rectangle(0, 0, 1, 1, depth=0.5, colour=(9, 8, 7, 6)))
+    context = scene.deferred[0]
+    scene.label("the list")
+    context.om_set_blend(
+        BlendState(True, LogicOp.XOR, ColorWriteEnable.RED | ColorWriteEnable.BLUE)
+    )
+    draw_triangles(context, rectangle(0, 0, 1, 1, depth=1, colour=(255, 255, 255, 255)))
+    scene.immediate.execute(context.finish_command_list())
+    return scene
+
+
+def test_the_table(program: Path) -> None:
+    scene = marked_scene()
     found = explain(scene, 0, 0, program=program)
-    assert heading(found) == "pixel (0, 0) holds colour 1 2 3 4, depth 16777215, stencil 0"
-    assert [line.split("  ") for line in squeezed(table(found))] == [
-        ["line", "what", "outcome", "colour", "depth", "stencil"],
-        ["", "a new target", "0 0 0 0", "16777215", "0"],
-        ["2", "clearc", "cleared", "0 0 0 0 -> 1 2 3 4", "16777215", "0"],
+    assert heading(found) == "pixel (0, 0) holds colour 254 2 252 4, depth 1 (0.0000), stencil 0"
+    lines = table(found, scene.labels).splitlines()
+    assert [re.split(" {2,}", line.strip()) for line in lines] == [
+        ["line", "what", "outcome", "what changed"],
+        ["a new target", "colour 0 0 0 0"],
+        ["depth 16777215 (1)"],
+        ["stencil 0"],
+        ["2", "clearc", "cleared", "colour 0 0 0 0 -> 1 2 3 4"],
+        ["6", "draw, triangle 1 of 2:", "the stencil test fails: 1 EQUAL 0 in bits 15"],
+        ["9 8 7 6 at 8388608 (0.5000)"],
         [
-            "6",
-            "draw, triangle 1 of 2: 9 8 7 6 at 8388608",
-            "the stencil test fails: 1 EQUAL 0 in bits 15",
-            "1 2 3 4",
-            "16777215",
-            "0",
+            "10 by 12",
+            "the list: draw, triangle 1 of 2:",
+            "drawn by XOR into RED and BLUE alone",
+            "colour 1 2 3 4 -> 254 2 252 4",
         ],
+        ["255 255 255 255 at 1 (0.0000)", "depth 16777215 -> 1 (0.0000)"],
     ]
 
 
-def squeezed(text: str) -> list[str]:
-    """The lines of a table, with two spaces between columns."""
-    return [re.sub(" {2,}", "  ", line) for line in text.splitlines()]
+def test_only_what_changed_it(program: Path) -> None:
+    found = changing(explain(marked_scene(), 0, 0, program=program))
+    assert [it.item.number for it in found.steps] == [2, 10]
+
+
+def test_json(program: Path) -> None:
+    scene = marked_scene()
+    told = as_json(explain(scene, 0, 0, program=program), scene.labels)
+    assert json.loads(json.dumps(told)) == json.loads(json.dumps(told))
+    assert told["opening"] == {"colour": (0, 0, 0, 0), "depth": 16_777_215, "stencil": 0}
+    clear, refused, drawn = told["steps"]
+    assert (clear["line"], clear["word"], clear["outcome"]) == (2, "clearc", "cleared")
+    assert "triangle" not in clear and "label" not in clear and "executed_by" not in clear
+    assert refused["outcome"] == "stencil-failed" and refused["before"] == refused["after"]
+    assert refused["triangle"] == {"number": 1, "of": 2, "colour": (9, 8, 7, 6), "depth": 8_388_608}
+    assert (drawn["line"], drawn["executed_by"], drawn["label"]) == (10, 12, "the list")
+    assert drawn["text"] == "drawn by XOR into RED and BLUE alone"
+    assert drawn["after"] == told["content"]
+
+
+@pytest.mark.parametrize(
+    ("blend", "text"),
+    [
+        (BlendState(), ""),
+        (BlendState(True, LogicOp.NOR), " by NOR"),
+        (BlendState(False, LogicOp.NOR, ColorWriteEnable.NONE), ", writing no colour"),
+        (BlendState(write_mask=ColorWriteEnable.ALPHA), " into ALPHA alone"),
+    ],
+)
+def test_what_is_written_is_named(blend: BlendState, text: str) -> None:
+    assert written_text(blend) == text
+
+
+def test_a_table_has_120_columns(program: Path) -> None:
+    """Whatever numbers stand in it: a line of six digits, executed by one of six, and a long label."""
+    found = explain(marked_scene(), 0, 0, program=program)
+    step = found.steps[-1]
+    wide = replace(
+        step,
+        item=replace(step.item, number=123_456),
+        executed_by=654_321,
+        before=Content((200, 200, 200, 200), 16_777_214, 255),
+        after=Content((255, 255, 255, 255), 16_777_213, 254),
+    )
+    labels = Labels([(123_000, "a name of a good many letters, as long as one may be, or so")])
+    lines = table(replace(found, steps=(*found.steps, wide)), labels).splitlines()
+    assert max(map(len, lines)) <= 120 and any(it.endswith("stencil 255 -> 254") for it in lines)
+
+
+def test_what_is_asked_is_told(program: Path) -> None:
+    told: list[str] = []
+    explain(marked_scene(), 0, 0, program=program, told=told.append)
+    assert told[0] == "draws the scene" and len(told) == 4
+
+
+def test_the_command_tells_it_for_machines_too(
+    program: Path, tmp_path: Path, capsys: pytest.CaptureFixture[str]
+) -> None:
+    path = tmp_path / "scene.txt"
+    marked_scene().save(path)
+    words = ["explain", str(path), "0", "0", "--changes", "--program", str(program)]
+    assert main([*words, "--json"]) == 0
+    told = json.loads(capsys.readouterr().out)
+    assert [it["line"] for it in told["steps"]] == [2, 10] and told["steps"][1][
+        "label"
+    ] == "the list"
+    assert main(words) == 0
+    out = capsys.readouterr().out
+    assert "the list: draw, triangle 1 of 2:" in out and "stencil test" not in out
+
+
+def test_scissors_that_hold_the_pixel_and_that_do_not(program: Path) -> None:
+    """Each rectangle round the pixel is asked of the device."""
+    scene = Scene(8, 8)
+    context = scene.immediate
+    rectangles = [(left, top, left + 3, top + 2) for left in range(5) for top in range(6)]
+    context.rs_set_state(RasterizerState(scissor_enable=True))
+    for rectangle_of in rectangles:
+        context.rs_set_scissor(*rectangle_of)
+        draw_triangles(context, rectangle(0, 0, 8, 8))
+    found = explain(scene, 4, 3, program=program)
+    held = [it.outcome is not Outcome.OUTSIDE_SCISSOR for it in found.steps]
+    inside = [left <= 4 < right and top <= 3 < bottom for left, top, right, bottom in rectangles]
+    assert held == inside and any(held)
+
+
+def test_stencils_at_both_ends(program: Path) -> None:
+    """What a test did is told by 1 more or 1 less, which goes round behind 0 and 255."""
+    for stencil in (0, 1, 127, 128, 254, 255):
+        scene = Scene(1, 1)
+        context = scene.immediate
+        context.clear_depth_stencil(100, stencil)
+        face = StencilFace(stencil_func=ComparisonFunc.EQUAL)
+        for reference, depth in ((stencil ^ 1, 50), (stencil, 150), (stencil, 50)):
+            state = DepthStencilState(stencil_enable=True, front_face=face, back_face=face)
+            context.om_set_depth_stencil(state, reference)
+            draw_triangles(context, rectangle(0, 0, 1, 1, depth=depth))
+        wanted = [Outcome.STENCIL_FAILED, Outcome.DEPTH_FAILED, Outcome.DRAWN]
+        assert outcomes(scene, 0, 0, program)[1:] == wanted
+
+
+def test_a_long_list_takes_seconds_at_most(fast_program: Path) -> None:
+    """65,536 triangles on the pixel, each of which changes it or is refused."""
+    scene = Scene(4, 4)
+    corners = [corner for n in range(65_535 // 3) for corner in rectangle(0, 0, 4, 4, depth=n)[:3]]
+    for context in scene.deferred[:3]:
+        draw_triangles(context, corners)
+        scene.immediate.execute(context.finish_command_list())
+    begun = time.process_time()
+    found = explain(scene, 0, 0, program=fast_program)
+    assert len(found.steps) == 65_535 and time.process_time() - begun < 30
 
 
 def test_a_pixel_that_nothing_touched(program: Path) -> None:

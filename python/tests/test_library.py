@@ -12,7 +12,7 @@ from conftest import DATA, gallery_names
 
 import yuzuratchet.backends
 import yuzuratchet.library
-from yuzuratchet import LibraryMissing, Refusal, run
+from yuzuratchet import LibraryMissing, Refusal, run, run_many
 from yuzuratchet.errors import ArgumentError, ProgramFailed
 from yuzuratchet.library import VARIABLE, find_library, load_library, run_library
 from yuzuratchet.program import VARIABLE as PROGRAM_VARIABLE
@@ -80,6 +80,15 @@ def test_areas_that_are_too_small_are_taken_larger(
     assert run_library(TEXT.encode(), library=library) == whole
 
 
+def test_many_scenes(library: Path | str, expected: dict[str, Expected]) -> None:
+    names = [it for it in gallery_names() if not it.startswith(SLOW)]
+    scripts = ((DATA / name).read_bytes() for name in names)
+    several = run_many(scripts, workers=4, library=library, check=False)
+    for name, result in zip(names, several):
+        stored = Expected(result.text, hashlib.sha256(result.tga).hexdigest())
+        assert stored == expected[name]
+
+
 def test_calls_side_by_side(library: Path) -> None:
     script = (DATA / "shadow-volumes.txt").read_bytes()
     ran: list[Ran] = []
@@ -141,7 +150,7 @@ def test_a_status_that_draws_nothing(monkeypatch: pytest.MonkeyPatch) -> None:
 def test_what_draws_where_nothing_is_named(
     monkeypatch: pytest.MonkeyPatch, nothing_named: None
 ) -> None:
-    chosen = yuzuratchet.backends._chosen
+    chosen = yuzuratchet.backends.chosen
     monkeypatch.setattr(yuzuratchet.library, "find_library", lambda _=None: "x")
     monkeypatch.setattr(yuzuratchet.library, "load_library", lambda _: Fake(0))
     assert chosen(None, None) == "library"
@@ -160,6 +169,10 @@ def test_without_a_library_the_program_draws(
         raise LibraryMissing("none")
 
     monkeypatch.setattr(yuzuratchet.library, "find_library", missing)
-    assert yuzuratchet.backends._chosen(None, None) == "program"
+    monkeypatch.setattr(yuzuratchet.backends, "_told", [])
+    with pytest.warns(yuzuratchet.backends.NoLibraryWarning, match="20 times as fast") as told:
+        assert yuzuratchet.backends.chosen(None, None) == "program"
+        assert yuzuratchet.backends.chosen(None, None) == "program"
+    assert len(told) == 1  # (once)
     with pytest.raises(LibraryMissing):
         run(TEXT, backend="library")

@@ -11,9 +11,14 @@ from conftest import TOP
 from yuzuratchet import ComparisonFunc, Scene, depth_and_stencil, run
 from yuzuratchet.recipes import (
     count_overlaps,
+    count_seen,
     default_states,
+    draw_by_xor,
     draw_where_stencil,
+    draw_without_depth,
+    lay_decals,
     light_outside_shadows,
+    mark_stencil,
     mark_shadow_volumes,
     skip_where_hidden,
 )
@@ -48,6 +53,79 @@ def test_where_the_stencil_is_equal(program: Path) -> None:
     draw_where_stencil(context, 0)
     draw_triangles(context, rectangle(0, 0, 4, 1, colour=BLUE))
     assert run(scene, program=program).image[0, :, 2].tolist() == [255, 0, 0, 255]
+
+
+def test_marks_by_both_faces(program: Path) -> None:
+    """What lies behind the wall isn't marked, unless depth isn't looked at; nothing else is written."""
+    for depth, marked in ((True, [0, 7, 7, 7]), (False, [7, 7, 7, 7])):
+        scene = Scene(4, 1)
+        context = scene.immediate
+        draw_triangles(context, rectangle(0, 0, 1, 1, depth=0.2, colour=BLUE))
+        mark_stencil(context, 7, depth=depth)
+        draw_triangles(context, rectangle(0, 0, 2, 1, depth=0.5))
+        draw_triangles(context, reversed(rectangle(2, 0, 4, 1, depth=0.5)))
+        depths, stencil = depth_and_stencil(scene, program=program)
+        assert stencil[0].tolist() == marked
+        assert depths[0].tolist() == [3_355_443, *[16_777_215] * 3]
+        image = run(scene, program=program).image
+        assert image[0, :, 2].tolist() == [255, 0, 0, 0]
+
+
+def test_where_the_stencil_is_equal_and_nearer(program: Path) -> None:
+    scene = Scene(4, 1)
+    context = scene.immediate
+    mark_stencil(context, 1)
+    draw_triangles(context, rectangle(1, 0, 4, 1))
+    draw_where_stencil(context, 1, depth=True)
+    draw_triangles(context, rectangle(0, 0, 3, 1, depth=0.5, colour=BLUE))
+    draw_triangles(context, rectangle(0, 0, 4, 1, depth=0.6, colour=RED))
+    assert [tuple(it) for it in run(scene, program=program).image[0].tolist()] == [
+        (0, 0, 0, 0),
+        BLUE,
+        BLUE,
+        RED,
+    ]
+
+
+def test_without_depth_the_last_is_seen(program: Path) -> None:
+    scene = Scene(2, 1)
+    context = scene.immediate
+    draw_triangles(context, rectangle(0, 0, 2, 1, depth=0.1, colour=BLUE))
+    draw_without_depth(context)
+    draw_triangles(context, rectangle(0, 0, 1, 1, depth=0.9, colour=RED))
+    assert [tuple(it) for it in run(scene, program=program).image[0].tolist()] == [RED, BLUE]
+    assert depth_and_stencil(scene, program=program)[0].tolist() == [[1_677_722] * 2]
+
+
+def test_decals_lie_on_their_surface(program: Path) -> None:
+    """In the plane of a tilted floor, one over the other; without the bias nothing of them is nearer."""
+    scene = Scene(8, 8)
+    context = scene.immediate
+
+    def tilted(left: int, right: int, colour: object) -> None:
+        corners = [(left, 0), (right, 0), (left, 8), (right, 0), (right, 8), (left, 8)]
+        at = [(x, y, 1000 + 3 * x + 5 * y, colour) for x, y in corners]
+        draw_triangles(context, at)
+
+    tilted(0, 8, "#202020")
+    tilted(0, 2, RED)
+    lay_decals(context)
+    tilted(2, 6, RED)
+    tilted(4, 6, BLUE)
+    row = run(scene, program=program).image[3].tolist()
+    grey = (0x20, 0x20, 0x20, 255)
+    assert [tuple(it) for it in row] == [grey, grey, RED, RED, BLUE, BLUE, grey, grey]
+
+
+def test_xor_twice_is_nothing(program: Path) -> None:
+    scene = Scene(2, 1)
+    context = scene.immediate
+    context.clear_color("#0f0f0fff")
+    draw_by_xor(context)
+    draw_triangles(context, rectangle(0, 0, 2, 1, colour="#ff00ff00"))
+    draw_triangles(context, rectangle(1, 0, 2, 1, colour="#ff00ff00"))
+    image = run(scene, program=program).image[0].tolist()
+    assert image == [[0xF0, 0x0F, 0xF0, 255], [0x0F, 0x0F, 0x0F, 255]]
 
 
 def test_shadow_volume(program: Path) -> None:
@@ -100,6 +178,13 @@ def test_default_states() -> None:
     [
         count_overlaps,
         lambda context: draw_where_stencil(context, 3),
+        lambda context: draw_where_stencil(context, 3, depth=True),
+        lambda context: mark_stencil(context, 3),
+        lambda context: mark_stencil(context, 3, depth=False),
+        draw_without_depth,
+        lay_decals,
+        draw_by_xor,
+        count_seen,
         mark_shadow_volumes,
         light_outside_shadows,
         default_states,

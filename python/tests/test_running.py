@@ -4,19 +4,26 @@ from __future__ import annotations
 
 import re
 import stat
+from functools import partial
 from pathlib import Path
+from typing import Iterator
 
 import numpy as np
 import pytest
 from conftest import DATA, STAND_IN, TOP
 
 import yuzuratchet
-from yuzuratchet import PixelAnswer, QueryAnswer, Refusal, Scene, ScriptRefused, run
+from yuzuratchet import PixelAnswer, QueryAnswer, Refusal, Scene, ScriptRefused
+from yuzuratchet import read_script, run, run_many
+from yuzuratchet.backends import draw
 from yuzuratchet.errors import ArgumentError, ImageError, ProgramFailed, ProgramMissing
+from yuzuratchet.planes import planes_behind
 from yuzuratchet.program import VARIABLE, find_program, run_program
 from yuzuratchet.results import parse_answer
 from yuzuratchet.shapes import draw_triangles, rectangle
 
+# the image of a target of one pixel
+SMALL = "000002000000000000000000010001002028" + "00000000"
 TWO_TRIANGLES = (DATA / "rows" / "counted-triangles.txt").read_text(encoding="ascii")
 
 
@@ -89,7 +96,7 @@ def test_save(program: Path, tmp_path: Path) -> None:
 
 def test_depth_and_stencil_in_bands(program: Path, monkeypatch: pytest.MonkeyPatch) -> None:
     """Whatever the rows that are asked at once, each pixel has the depth that was drawn there."""
-    monkeypatch.setattr("yuzuratchet.results.PIXELS_AT_ONCE", 7)
+    monkeypatch.setattr("yuzuratchet.planes.PIXELS_AT_ONCE", 7)
     scene = Scene(3, 5)
     scene.immediate.pixel(0, 0)
     scene.immediate.clear_depth_stencil(10, 3)
@@ -106,6 +113,111 @@ def test_depth_and_stencil_of_a_refused_scene(program: Path) -> None:
     with pytest.raises(ScriptRefused) as raised:
         yuzuratchet.depth_and_stencil(scene, program=program)
     assert (raised.value.line, raised.value.number) == (3, 9)
+
+
+def test_depth_and_stencil_of_what_is_no_scene() -> None:
+    with pytest.raises(
+        TypeError, match="^scene: a Scene is wanted, and not str: read_script makes"
+    ):
+        yuzuratchet.depth_and_stencil("target 1 1\n")  # type: ignore[arg-type]
+
+
+def test_planes_of_a_text_without_a_line_feed(program: Path) -> None:
+    for text in (b"target 1 1", b"nonsense\n", b""):
+        with pytest.raises(ScriptRefused) as raised:
+            planes_behind(text, partial(draw, program=program))
+        assert raised.value.line == 1
+
+
+@pytest.mark.parametrize(
+    ("scene", "kind", "why"),
+    [
+        ("scene.txt", ValueError, "for the name of a file there is load_script"),
+        ("/no/such/file", ValueError, "run\\(load_script\\('/no/such/file'\\)\\)"),
+        (Path("scene.txt"), TypeError, "is the name of a file"),
+        (None, TypeError, "a Scene or the text of a script is wanted, and not None"),
+        (7, TypeError, "and not 7"),
+    ],
+)
+def test_what_is_no_scene(scene: object, kind: type[Exception], why: str) -> None:
+    with pytest.raises(kind, match=f"^scene: .*{why}") as raised:
+        run(scene, program=STAND_IN)  # type: ignore[arg-type]
+    assert isinstance(raised.value, yuzuratchet.YuzuratchetError)
+
+
+@pytest.mark.parametrize("seconds", [-1, 0, float("nan"), float("inf")])
+def test_how_many_seconds(seconds: float) -> None:
+    with pytest.raises(ArgumentError, match="^seconds: .* is no number above 0"):
+        run("target 1 1\n", seconds=seconds)
+
+
+@pytest.mark.parametrize("wish", [{"seconds": "1"}, {"seconds": True}, {"workers": 1.5}])
+def test_wishes_of_another_type(wish: dict[str, object]) -> None:
+    with pytest.raises(TypeError, match=f"^{next(iter(wish))}: "):
+        run("target 1 1\n", **wish)  # type: ignore[arg-type]
+
+
+def test_a_result_says_what_it_is(program: Path) -> None:
+    one = run("target 2 1\ni pixel 0 0\n", program=program)
+    assert repr(one) == "<Result: 2 by 1 pixels, 1 answer>"
+    assert repr(run("target 2 1\n", program=program)) == "<Result: 2 by 1 pixels, 0 answers>"
+    refused = run("target 2 1\ni draw 3 0\n", program=program, check=False)
+    assert repr(refused) == "<Result: 2 by 1 pixels, line 2 refused with 7, 0 answers>"
+    assert (
+        repr(run("", program=program, check=False))
+        == "<Result: line 1 refused with 102, 0 answers>"
+    )
+
+
+def test_many_scenes(program: Path) -> None:
+    """Results come in the order of the scenes, which may be scenes, texts and bytes."""
+    texts = [f"target 1 1\ni clearc {number} 0 0 9\n" for number in range(20)]
+    scenes: list[Scene | str | bytes] = [texts[0].encode(), read_script(texts[1]), *texts[2:]]
+    found = [it.image[0, 0, 0] for it in run_many(scenes, workers=3, program=program)]
+    assert found == list(range(20))
+    assert list(run_many([], program=program)) == []
+
+
+def test_a_refused_scene_among_many(program: Path) -> None:
+    scenes = ["target 1 1\n", "target 1 1\ni draw 3 0\n", "target 1 1\n"]
+    several = run_many(scenes, program=program)
+    assert next(several).refused is None
+    with pytest.raises(ScriptRefused, match="^scene 1: line 2 was refused with 7") as raised:
+        next(several)
+    assert (raised.value.scene, raised.value.line) == (1, 2)
+    assert [it.refused for it in run_many(scenes, program=program, check=False)] == [
+        None,
+        Refusal(2, 7),
+        None,
+    ]
+
+
+def test_scenes_are_made_as_they_are_wanted(program: Path) -> None:
+    made = []
+
+    def scenes() -> Iterator[str]:
+        for number in range(100):
+            made.append(number)
+            yield "target 1 1\n"
+
+    several = run_many(scenes(), workers=2, program=program)
+    next(several)
+    assert len(made) <= 5
+    several.close()  # type: ignore[attr-defined]
+
+
+@pytest.mark.parametrize("scenes", ["target 1 1\n", b"target 1 1\n", Scene(1, 1)])
+def test_one_scene_is_not_many(scenes: object) -> None:
+    with pytest.raises(
+        TypeError, match="^scenes: several scenes are wanted, as a list, and not one"
+    ):
+        run_many(scenes)  # type: ignore[arg-type]
+
+
+@pytest.mark.parametrize("workers", [0, -1])
+def test_how_many_at_once(workers: int) -> None:
+    with pytest.raises(ArgumentError, match="^workers: .* is not at least 1"):
+        run_many([], workers=workers)
 
 
 def test_the_program_is_found(monkeypatch: pytest.MonkeyPatch, tmp_path: Path) -> None:
@@ -179,16 +291,22 @@ def test_no_answer_lines(line: str) -> None:
 
 def test_another_program(tmp_path: Path) -> None:
     """What is no such program at all is told, whatever it prints."""
+    image = "".join(f"\\{it:03o}" for it in bytes.fromhex(SMALL))
     for text in ("echo hello", "printf 'refused 1 x\\n'", "printf '\\377\\n'"):
+        path = shell_script(tmp_path / "other", f"{text}; printf '{image}' > \"$2\"")
         with pytest.raises(ProgramFailed, match="no answer line"):
-            run("target 1 1\n", program=shell_script(tmp_path / "other", text))
-    silent = shell_script(tmp_path / "silent", "exit 0")
-    with pytest.raises(ImageError):
-        run("target 1 1\n", program=silent).image  # noqa: B018
+            run("target 1 1\n", program=path)
+    with pytest.raises(ProgramFailed, match="status 0 and gave no image: is it tiledraw"):
+        run("target 1 1\n", program=shell_script(tmp_path / "silent", "exit 0"))
+    for of, why in (("000002", "another image"), (SMALL[:-2], "a part of an image")):
+        bytes_of = "".join(f"\\{int(of[at : at + 2], 16):03o}" for at in range(0, len(of), 2))
+        path = shell_script(tmp_path / "shorter", f"printf '{bytes_of}' > \"$2\"")
+        with pytest.raises(ProgramFailed, match=f"status 0 and gave {why}"):
+            run("target 1 1\n", program=path)
     scene = Scene(1, 1)
     scene.immediate.pixel(0, 0)
     with pytest.raises(ProgramFailed, match="0 answers to 1 questions"):
-        run(scene, program=silent)
+        run(scene, program=shell_script(tmp_path / "mute", f"printf '{image}' > \"$2\""))
     with pytest.raises(ProgramFailed, match="status 1, which its answers belie"):
         run(scene, program=shell_script(tmp_path / "failing", "exit 1"))
 

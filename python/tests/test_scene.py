@@ -2,6 +2,7 @@
 
 from __future__ import annotations
 
+from pathlib import Path
 from typing import Callable
 
 import pytest
@@ -19,6 +20,7 @@ from yuzuratchet import (
     Scene,
     StencilFace,
     StencilOp,
+    load_script,
 )
 from yuzuratchet.limits import BUFFER_LENGTH, DEEPEST, FARTHEST_PIXEL, LIST_COMMANDS, TARGET_SIDE
 
@@ -333,6 +335,7 @@ def test_a_list_that_is_not_finished(strict: bool) -> None:
     [
         (lambda it: it.draw(-1), "count"),
         (lambda it: it.draw(1.5), "draw"),
+        (lambda it: it.ia_set_vertices([7]), "vertices"),
         (lambda it: it.draw_indexed(3, base=2**31), "base"),
         (lambda it: it.ia_set_topology(3), "topology"),
         (lambda it: it.ia_set_vertices([(1, 2, 3)]), "vertices"),
@@ -380,7 +383,9 @@ def test_scenes_of_lines() -> None:
 def test_lines() -> None:
     line = Line("i", "scissor", (1, 2, 3, 4))
     assert line.named() == {"left": 1, "top": 2, "right": 3, "bottom": 4}
-    assert Line("d0", "vb", (1, 2, 3, 4, 5, 6, 7) * 2).rows == [(1, 2, 3, 4, 5, 6, 7)] * 2
+    rows = Line("d0", "vb", (*range(1, 8), *range(11, 18))).rows
+    assert list(rows) == [(1, 2, 3, 4, 5, 6, 7), (11, 12, 13, 14, 15, 16, 17)] and len(rows) == 2
+    assert rows[-1] == rows[1] and rows[1:] == [rows[1]]
     assert str(Line("i", "exec", (7, 12, 1))) == "i exec d7 12 1"
     for actor, word in (("d8", "draw"), ("i", "finish"), ("d0", "pixel"), ("i", "Draw")):
         with pytest.raises(ArgumentError):
@@ -391,3 +396,130 @@ def test_saved_scripts_end_lines_with_a_line_feed_alone(tmp_path) -> None:  # ty
     scene = drawable()
     scene.save(tmp_path / "scene.txt")
     assert (tmp_path / "scene.txt").read_bytes() == scene.script().encode("ascii")
+
+
+@pytest.mark.parametrize("sides", [(16.0, 16), (16, "16"), (True, 16), (16, None)])
+def test_sides_are_whole_numbers(sides: tuple[object, object]) -> None:
+    for strict in (True, False):
+        with pytest.raises(TypeError, match="^(width|height): takes whole numbers"):
+            Scene(*sides, strict=strict)  # type: ignore[arg-type]
+
+
+def test_flags_are_no_numbers() -> None:
+    context = drawable().immediate
+    for call in (lambda: context.draw(True), lambda: context.pixel(0, False)):
+        with pytest.raises(TypeError, match="takes whole numbers, and not (True|False)"):
+            call()
+    context.set_predication((3, 1))  # type: ignore[arg-type]
+    assert str(context.scene.lines[-1]) == "i predicate 3 1"
+
+
+def test_a_list_of_another_scene() -> None:
+    one, other = drawable(), drawable()
+    lists = [scene.deferred[0].finish_command_list() for scene in (one, other)]
+    with pytest.raises(ArgumentError, match="^command_list: it is a list of another scene"):
+        one.immediate.execute(lists[1])
+    one.immediate.execute(lists[0])
+    assert lists[0] == CommandList(0, 0)
+    for other_kind in (None, 0, "d0"):
+        with pytest.raises(TypeError, match="^command_list: a CommandList is wanted"):
+            one.immediate.execute(other_kind)  # type: ignore[arg-type]
+
+
+def test_they_say_what_they_are() -> None:
+    scene = drawable()
+    scene.immediate.pixel(0, 0)
+    assert repr(scene) == "<Scene: 4 by 4 pixels, 4 lines, 1 question>"
+    assert repr(scene.immediate) == f"<ImmediateContext i of {scene!r}: 4 lines>"
+    context = scene.deferred[3]
+    context.clear_color("#000000")
+    assert repr(context).startswith("<DeferredContext d3 of <Scene: ") and repr(context).endswith(
+        ": 1 line>"
+    )
+    found = context.finish_command_list()
+    assert repr(found) == "<CommandList 0 of d3: 2 lines>" and repr(context).endswith(": 0 lines>")
+
+
+def test_labels() -> None:
+    scene = Scene(4, 4)
+    scene.immediate.flush()
+    scene.label("floor")
+    scene.immediate.flush()
+    with scene.label("cube"):
+        scene.immediate.flush()
+        scene.immediate.flush()
+    scene.immediate.flush()
+    scene.label(None)
+    scene.immediate.flush()
+    names = [scene.labels.of(line) for line in range(1, 8)]
+    assert names == [None, None, "floor", "cube", "cube", "floor", None]
+    assert "floor" not in scene.script()
+    for name, kind in (
+        (7, TypeError),
+        ("", ValueError),
+        ("a\nb", ValueError),
+        ("x" * 81, ValueError),
+    ):
+        with pytest.raises(kind, match="^name: "):
+            scene.label(name)  # type: ignore[arg-type]
+
+
+def test_labels_lie_beside_the_script(tmp_path: Path) -> None:
+    scene = drawable()
+    path = tmp_path / "scene.txt"
+    scene.save(path)
+    assert [it.name for it in tmp_path.iterdir()] == ["scene.txt"]
+    scene.label("the triangle")
+    scene.immediate.draw(3)
+    scene.save(path)
+    read = load_script(path)
+    assert list(read.labels) == [(5, "the triangle")] and read.script() == scene.script()
+    path.write_text(scene.script() + "i flush\n")  # (of another script they say nothing)
+    assert not load_script(path).labels
+    for text in ("", "{", "[]", '{"script": 1}'):
+        (tmp_path / "scene.labels.json").write_text(text)
+        assert not load_script(path).labels
+
+
+def test_many_vertices_are_set_fast() -> None:
+    """21,000 triangles of tuples: a tenth of a second on a quiet machine."""
+    import time
+
+    given = [(n % 64 + 0.5, n % 48, n % 100 / 100, "#ff8000") for n in range(63_000)]
+    times = []
+    for _ in range(5):
+        scene, begun = Scene(64, 48), time.process_time()
+        scene.immediate.ia_set_vertices(given)
+        times.append(time.process_time() - begun)
+    assert min(times) < 0.3, times
+
+
+def test_states_of_another_kind() -> None:
+    context = drawable().immediate
+    for call in (context.rs_set_state, context.om_set_depth_stencil, context.om_set_blend):
+        for state in (None, 3, CullMode.NONE, StencilFace()):
+            with pytest.raises(TypeError, match="^state: a [A-Za-z]+State is wanted, and not "):
+                call(state)
+
+
+def test_no_predicates() -> None:
+    for predicate in (3, (1, True, 2), "ab", [0, True]):
+        with pytest.raises(TypeError, match=r"^predicate: \(query, value\) is wanted, and not "):
+            drawable().immediate.set_predication(predicate)  # type: ignore[arg-type]
+
+
+def test_the_text_of_a_line_is_made_once(monkeypatch: pytest.MonkeyPatch) -> None:
+    """However often the script is asked for, the work grows with its lines alone."""
+    made: list[str] = []
+    text = Line._text.func  # type: ignore[attr-defined]
+
+    def counted(line: Line) -> str:
+        made.append(line.word)
+        return str(text(line))
+
+    monkeypatch.setattr(Line._text, "func", counted)
+    scene = drawable()
+    for _ in range(50):
+        scene.immediate.draw(3)
+        scene.script()
+    assert len(made) == len(scene.lines) == 53

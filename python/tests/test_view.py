@@ -5,18 +5,23 @@ from __future__ import annotations
 import base64
 import gzip
 import json
+import random
 import re
+from html.parser import HTMLParser
 from pathlib import Path
 
 import make_page
+import numpy as np
 import pytest
 from conftest import DATA, TOP
 
-from yuzuratchet import page
+from yuzuratchet import DepthStencilState, Scene, page, run
 from yuzuratchet.cli import main
 from yuzuratchet.device import DEVICE
 from yuzuratchet.errors import PageMissing
+from yuzuratchet.images import decode
 from yuzuratchet.messages import FAULTS, REFUSALS
+from yuzuratchet.shapes import draw_triangles, rectangle
 from yuzuratchet.words import WORDS
 
 MODULE = b"\0asm\1\0\0\0"
@@ -156,3 +161,177 @@ def test_another_file_is_no_page(tmp_path: Path) -> None:
     path.write_text("<title>x</title>")
     words = ["view", str(DATA / "fan.txt"), "-o", str(tmp_path / "z.html"), "--page", str(path)]
     assert main(words) == 2 and not (tmp_path / "z.html").exists()
+
+
+def test_a_missing_page_is_told_before_the_script_is_read(
+    tmp_path: Path, capsys: pytest.CaptureFixture[str]
+) -> None:
+    for page_file in (tmp_path / "none.html", Path(__file__)):
+        words = ["view", str(tmp_path / "no-such-script.txt"), "--page", str(page_file)]
+        assert main(words) == 2
+        err = capsys.readouterr().err
+        assert (
+            "no-such-script" not in err and "With --static a page is written that needs none" in err
+        )
+
+
+def test_labels_are_put_into_the_page(built_file: Path, tmp_path: Path) -> None:
+    scene = Scene(2, 2)
+    scene.label("floor")
+    scene.immediate.flush()
+    script, out = tmp_path / "scene.txt", tmp_path / "out.html"
+    scene.save(script)
+    assert main(["view", str(script), "-o", str(out), "--page", str(built_file)]) == 0
+    opening = json.loads(element(out.read_text(encoding="utf-8"), "opening"))
+    assert opening["labels"] == [[2, "floor"]]
+
+
+# ---- the page that only shows
+
+
+class Read(HTMLParser):
+    """What stands in a page: its tags, its texts, and the source of its picture."""
+
+    def __init__(self, text: str) -> None:
+        super().__init__()
+        self.tags: list[str] = []
+        self.open: list[str] = []
+        self.texts: list[tuple[str, str]] = []
+        self.picture: dict[str, str | None] = {}
+        self.marked: list[str] = []
+        self.feed(text)
+
+    def handle_starttag(self, tag: str, attrs: list[tuple[str, str | None]]) -> None:
+        self.tags.append(tag)
+        if tag == "img":
+            self.picture = dict(attrs)
+        if tag not in ("meta", "img"):
+            self.open.append(f"{tag}.{dict(attrs).get('class', '')}")
+
+    def handle_endtag(self, tag: str) -> None:
+        assert self.open.pop().split(".")[0] == tag
+
+    def handle_data(self, data: str) -> None:
+        self.texts.append((self.open[-1] if self.open else "", data))
+
+    @property
+    def pixels(self) -> np.ndarray:  # type: ignore[type-arg]
+        source = self.picture["src"]
+        assert source and source.startswith("data:image/png;base64,")
+        return decode(base64.b64decode(source.partition(",")[2]))
+
+
+def shown(script: bytes, program: Path, *words: str, folder: Path) -> Read:
+    """The page that only shows a script."""
+    path, out = folder / "scene.txt", folder / "page.html"
+    path.write_bytes(script)
+    words = ("view", str(path), "--static", "-o", str(out), "--program", str(program), *words)
+    assert main(words) == 0
+    text = out.read_text(encoding="utf-8")
+    assert len(text.encode()) < 100_000
+    read = Read(text)
+    assert not read.open and not {"script", "link", "iframe"} & set(read.tags)
+    return read
+
+
+def test_a_static_page(program: Path, tmp_path: Path) -> None:
+    """The picture in whole squares, answers, script, and the table of a pixel."""
+    script = (DATA / "rows" / "counted-triangles.txt").read_bytes()
+    read = shown(script, program, "--pixel", "0,0", "--pixel", "1,1", folder=tmp_path)
+    result = run(script, program=program)
+    wanted = result.image.copy()
+    wanted[..., 3] = 255
+    assert (read.pixels == wanted).all()
+    width = int(read.picture["width"] or 0)
+    assert width % wanted.shape[1] == 0 and width > 100
+    text = "".join(data for _, data in read.texts)
+    assert result.text in text and "image-rendering: pixelated" in text
+    assert "pixel (0, 0) holds colour" in text and "pixel (1, 1) holds colour" in text
+    for line in script.decode().splitlines():
+        assert line[:80] in text
+
+
+def test_a_static_page_of_a_refused_script(program: Path, tmp_path: Path) -> None:
+    script = b"target 4 4\ni clearc 1 2 3 4\ni pixel 0 0\ni draw 3 0\ni clearc 9 9 9 9\n"
+    read = shown(script, program, "--pixel", "2,2", folder=tmp_path)
+    assert read.pixels.tolist() == [[[1, 2, 3, 255]] * 4] * 4  # (the lines before it)
+    text = "".join(data for _, data in read.texts)
+    assert "5 lines; line 4 is refused (7)" in text and "as line 3 leaves it" in text
+    assert "scene.txt:4:3: refusal 7: draw: no topology is set" in text
+    assert (
+        "what to do" in text
+        and "refused 4 7" in text
+        and "pixel (2, 2) holds colour 1 2 3 4" in text
+    )
+    assert ("span.refused", "i draw 3 0") in read.texts
+
+
+def test_a_static_page_of_a_script_with_a_fault(program: Path, tmp_path: Path) -> None:
+    read = shown(b"target 2 1\ni clearc 1 2 3 4\ni <b>&\n", program, folder=tmp_path)
+    assert read.pixels.tolist() == [[[1, 2, 3, 255]] * 2]
+    assert ("span.refused", "i <b>&") in read.texts
+    assert not shown(b"nonsense\n", program, folder=tmp_path).picture
+
+
+def test_a_static_page_of_much_is_small(fast_program: Path, tmp_path: Path) -> None:
+    """A picture without any order, many answers, long lines and a long history."""
+    chance = random.Random(1)
+    scene = Scene(160, 120)
+    corners = []
+    for y in range(120):
+        for x in range(160):
+            colour = tuple(chance.randrange(256) for _ in range(4))
+            corners += rectangle(x, y, x + 1, y + 1, colour=colour)
+    draw_triangles(scene.immediate, corners)
+    for y in range(60):
+        scene.immediate.pixels(0, y, 20, y + 1)
+        scene.label(f"row {y}")
+    scene.immediate.om_set_depth_stencil(DepthStencilState(depth_enable=False))
+    for _ in range(500):
+        draw_triangles(scene.immediate, rectangle(0, 0, 1, 1, colour=[chance.randrange(256)] * 4))
+    script = scene.script().encode()
+    read = shown(script, fast_program, "--pixel", "0,0", "--pixel", "3,3", folder=tmp_path)
+    text = "".join(data for _, data in read.texts)
+    assert "lines more" in text and "shown at 1/" in text
+
+
+def test_each_script_of_the_gallery_is_shown(fast_program: Path, tmp_path: Path) -> None:
+    for path in sorted(DATA.glob("*.txt")):
+        if not path.stem.startswith(("width-", "large")):
+            shown(path.read_bytes(), fast_program, folder=tmp_path)
+
+
+def test_labels_stand_on_a_static_page(program: Path, tmp_path: Path) -> None:
+    scene = Scene(2, 2)
+    with scene.label("the <floor>"):
+        draw_triangles(scene.immediate, rectangle(0, 0, 2, 2))
+    scene.immediate.flush()
+    scene.save(tmp_path / "scene.txt")
+    read = shown(scene.script().encode(), program, "--pixel", "1,1", folder=tmp_path)
+    assert [data for of, data in read.texts if of == "span.label"] == ["the <floor>", "-"]
+    assert any("the <floor>: draw, triangle" in data for _, data in read.texts)
+
+
+@pytest.mark.parametrize(
+    "words", [["--pixel", "2,0"], ["--pixel", "x"], ["--pixel", "1"], ["--pixel", "-1,0"]]
+)
+def test_no_such_pixels(
+    words: list[str], program: Path, tmp_path: Path, capsys: pytest.CaptureFixture[str]
+) -> None:
+    path = tmp_path / "scene.txt"
+    path.write_text("target 2 2\n")
+    call = [
+        "view",
+        str(path),
+        "--static",
+        "-o",
+        str(tmp_path / "x.html"),
+        "--program",
+        str(program),
+    ]
+    try:
+        status = main([*call, *words])
+    except SystemExit as error:
+        status = error.code  # type: ignore[assignment]
+    assert status == 2 and capsys.readouterr().err
+    assert main(["view", str(path), "--pixel", "0,0"]) == 2

@@ -20,11 +20,20 @@ from .errors import (
     ProgramMissing,
     ScriptFault,
     ScriptRefused,
+    WrongType,
     YuzuratchetError,
 )
 from .line import Line
 from .reader import load_script, read_script
-from .results import PixelAnswer, QueryAnswer, Refusal, Result, depth_and_stencil, run
+from .results import (
+    PixelAnswer,
+    QueryAnswer,
+    Refusal,
+    Result,
+    depth_and_stencil,
+    run,
+    run_many,
+)
 from .scene import CommandList, DeferredContext, ImmediateContext, Scene
 from .states import (
     BlendState,
@@ -70,9 +79,11 @@ __all__ = [
     "ScriptRefused",
     "StencilFace",
     "StencilOp",
+    "WrongType",
     "YuzuratchetError",
     "depth_and_stencil",
     "load_script",
     "read_script",
     "run",
+    "run_many",
 ]

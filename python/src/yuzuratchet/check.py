@@ -2,114 +2,105 @@
 
 The program alone decides which line is to blame, and by which number. Which word of the line it is
 comes from the table of words (:mod:`yuzuratchet.faults`), or from the rules of what is refused
-(:mod:`yuzuratchet.session`). Where these don't tell the same number, the whole line is shown.
+(:mod:`yuzuratchet.session`). Where these don't tell the same number, the whole line is shown. What
+follows behind the first is found by :mod:`yuzuratchet.survey`, warnings by :mod:`yuzuratchet.lint`.
 """
 
 from __future__ import annotations
 
 import textwrap
-from dataclasses import dataclass
 from pathlib import Path
 
 from .backends import draw
-from .errors import CallRefused, ScriptFault
-from .messages import message_of
-from .reader import lines_of, parse
-from .session import Session
+from .findings import Finding as Finding
+from .findings import Place, Text, letters, of_number
+from .labels import Labels
+from .survey import all_findings
 
-FIRST_FAULT = 101
 EXCERPT = 92
 WIDTH = 100
-
-
-@dataclass(frozen=True)
-class Finding:
-    """A fault or a refusal, and the bytes of its line that are to blame.
-
-    ``line`` counts from 1, and is 0 where memory was refused before any line, and one more than the
-    last line where the end is refused. ``start`` and ``end`` count bytes from 0; they are equal
-    where something is missing. ``is_located`` says that the place is that of a word.
-    """
-
-    line: int
-    number: int
-    start: int
-    end: int
-    message: str
-    is_located: bool
-
-    @property
-    def kind(self) -> str:
-        """What the number is."""
-        return "fault" if self.number >= FIRST_FAULT else "refusal"
 
 
 def check_script(
     text: bytes, *, program: str | Path | None = None, workers: int | None = None
 ) -> Finding | None:
-    """What the device finds in a script, or None where it draws it.
+    """What the device finds first in a script, or None where it draws it.
 
     Raises :class:`~yuzuratchet.errors.ProgramMissing` and
     :class:`~yuzuratchet.errors.ProgramFailed`.
     """
+    return next(iter(check_all(text, program=program, workers=workers)), None)
+
+
+def check_all(
+    text: bytes, *, program: str | Path | None = None, workers: int | None = None
+) -> list[Finding]:
+    """What the device finds first in a script, and what it would find behind that once it is mended.
+
+    All of them are faults, or all are refusals.
+    """
     refused = draw(text, program=program, workers=workers).refused
-    return located(text, *refused) if refused else None
+    return all_located(text, *refused) if refused else []
 
 
 def located(text: bytes, line: int, number: int) -> Finding:
     """The place that goes with a line and a number that the program told."""
-    found = _told(text)
-    if found is not None and (found.line, found.number) == (line, number):
+    return all_located(text, line, number)[0]
+
+
+def all_located(text: bytes, line: int, number: int) -> list[Finding]:
+    """The same, with what is found behind it."""
+    parts = Text(text)
+    found = all_findings(parts)
+    if found and (found[0].line, found[0].number) == (line, number):
         return found
-    pieces = [it.text for it in lines_of(text)]
-    shown = pieces[line - 1] if 0 < line <= len(pieces) else b""
-    return Finding(line, number, 0, len(shown), message_of(number).when, False)
+    return [of_number(parts, line, number)]
 
 
-def _told(text: bytes) -> Finding | None:
-    """What the package's own tables tell of a script."""
-    try:
-        width, height, lines = parse(text)
-    except ScriptFault as fault:
-        return Finding(fault.line, fault.number, fault.start, fault.end, fault.message, True)
-    try:
-        Session(width, height).take_all(lines)
-    except CallRefused as refusal:
-        return _of_refusal(text, refusal)
-    return None
+def report(finding: Finding, name: str, text: bytes, label: str | None = None) -> str:
+    """``FILE:LINE:COLUMN: message``, the word underlined, what the number means and what to do.
+
+    ``label`` is the name of the line, if it has one.
+    """
+    parts = [*reported(finding, name, Text(text), label)]
+    message = finding.explained
+    if message:
+        parts.append(_wrapped(f"{finding.number}: ", message.when))
+        parts.append(_wrapped("what to do (docs/SCRIPT.md): ", message.advice))
+    return "\n".join(parts)
 
 
-def _of_refusal(text: bytes, refusal: CallRefused) -> Finding:
-    """The word of a refused line that is to blame; in the first line no actor stands before it."""
-    number = refusal.line or 1
-    lines = lines_of(text)
-    message = f"{refusal.argument}: {refusal.message}"
-    if number > len(lines):
-        return Finding(number, refusal.number, 0, 0, message, True)
-    words = lines[number - 1].words
-    place = 1 if refusal.place is None else refusal.place + (1 if number == 1 else 2)
-    start = sum(len(word) + 1 for word in words[:place])
-    return Finding(number, refusal.number, start, start + len(words[place]), message, True)
+def reported(finding: Finding, name: str, text: Text, label: str | None = None) -> list[str]:
+    """The same without what the number means."""
+    kind = f"{finding.kind} {finding.rule or finding.number}"
+    of = f" (in {label})" if label else ""
+    where = f"{name}:{finding.line}:{text.column(finding)}"
+    lines = [f"{where}: {kind}: {finding.message}{of}", *_underlined(text, finding)]
+    if finding.also:
+        also = finding.also
+        lines.append(f"  {name}:{also.line}:{text.column(also)}: it stands here")
+        lines += _underlined(text, also)
+    return lines
 
 
-def report(finding: Finding, name: str, text: bytes) -> str:
-    """``FILE:LINE:COLUMN: message``, the word underlined, what the number means and what to do."""
-    pieces = [it.text for it in lines_of(text)]
-    line = pieces[finding.line - 1] if 0 < finding.line <= len(pieces) else b""
-    before = _letters(line[: finding.start])
-    where = f"{name}:{finding.line}:{len(before) + 1}"
-    head = f"{where}: {finding.kind} {finding.number}: {finding.message}"
-    shown = _excerpt(
-        before, _letters(line[finding.start : finding.end]), _letters(line[finding.end :])
-    )
-    message = message_of(finding.number)
-    parts = [head, *shown, _wrapped(f"{finding.number}: ", message.when)]
-    return "\n".join([*parts, _wrapped("what to do (docs/SCRIPT.md): ", message.advice)])
+def report_all(findings: list[Finding], name: str, text: bytes, labels: Labels = Labels()) -> str:
+    """The reports of all findings; what a number means is told where it stands first."""
+    parts, told = Text(text), set()
+    found = []
+    for it in findings:
+        if it.rule or it.number in told:
+            found.append("\n".join(reported(it, name, parts, labels.of(it.line))))
+        else:
+            found.append(report(it, name, text, labels.of(it.line)))
+        told.add(it.number)
+    return "\n".join(found)
 
 
-def _letters(text: bytes) -> str:
-    """Bytes as an editor counts them: one column a letter."""
-    return text.decode("utf-8", "replace")
+def _underlined(text: Text, place: Place | Finding) -> list[str]:
+    """The line, and a mark below what is to blame."""
+    line = text.line(place.line)
+    pieces = line[: place.start], line[place.start : place.end], line[place.end :]
+    return _excerpt(*map(letters, pieces))
 
 
 def _excerpt(before: str, word: str, after: str) -> list[str]:

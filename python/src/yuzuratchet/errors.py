@@ -19,21 +19,34 @@ class ArgumentError(YuzuratchetError, ValueError):
         self.message = message
 
 
+class WrongType(ArgumentError, TypeError):
+    """An argument of a type that can't be taken."""
+
+
 class CallRefused(YuzuratchetError, ValueError):
     """A call that the device refuses.
 
     ``number`` is the refusal's number, which :data:`yuzuratchet.messages.REFUSALS` explains, and
     ``argument`` the name of the argument that is to blame, or the call's own word where none is.
     ``place`` counts the argument among those of the line, from 0, and is None where none is to
-    blame. ``line`` is the number of the line, where a whole script was taken.
+    blame. ``line`` is the number of the line, where a whole script was taken. ``of`` is another line
+    that has to do with it, and the place of the argument there: the index that is no vertex.
     """
 
-    def __init__(self, number: int, argument: str, message: str, place: int | None = None) -> None:
+    def __init__(
+        self,
+        number: int,
+        argument: str,
+        message: str,
+        place: int | None = None,
+        of: tuple[int, int] | None = None,
+    ) -> None:
         super().__init__(f"{argument}: {message} (refusal {number})")
         self.number = number
         self.argument = argument
         self.place = place
         self.message = message
+        self.of = of
         self.line: int | None = None
 
 
@@ -58,16 +71,28 @@ class ScriptRefused(YuzuratchetError):
     """The program refused a line of a script, or found a fault in it.
 
     ``line`` and ``number`` are those of its last answer line, and ``answers`` are the answers
-    before it.
+    before it. ``scene`` counts the scene from 0, where many were drawn.
     """
 
     def __init__(
-        self, line: int, number: int, meaning: str, answers: tuple[object, ...] = ()
+        self,
+        line: int,
+        number: int,
+        meaning: str,
+        answers: tuple[object, ...] = (),
+        scene: int | None = None,
     ) -> None:
-        super().__init__(f"line {line} was refused with {number}: {meaning}")
+        which = "" if scene is None else f"scene {scene}: "
+        super().__init__(f"{which}line {line} was refused with {number}: {meaning}")
         self.line = line
         self.number = number
+        self.meaning = meaning
         self.answers = answers
+        self.scene = scene
+
+    def of_scene(self, scene: int) -> ScriptRefused:
+        """The same, of a scene among many."""
+        return ScriptRefused(self.line, self.number, self.meaning, self.answers, scene)
 
 
 class ProgramMissing(YuzuratchetError):
@@ -78,12 +103,20 @@ class LibraryMissing(YuzuratchetError):
     """The library isn't built, isn't where it was said to be, or is another."""
 
 
+class PackageMissing(YuzuratchetError):
+    """A package of Python's that something wants isn't installed."""
+
+
 class PageMissing(YuzuratchetError):
     """The page isn't built, or isn't where it was said to be."""
 
 
 class ProgramFailed(YuzuratchetError):
     """The program ended as it never should: by a signal, with another status, or too late."""
+
+
+class ProgramStopped(ProgramFailed):
+    """A run of the program was ended by whoever started it."""
 
 
 class ImageError(YuzuratchetError, ValueError):

@@ -12,7 +12,8 @@ from typing import Mapping, NoReturn
 
 from .errors import ScriptFault
 from .line import Line
-from .words import ACTORS, DEFERRED, TARGET, WORDS, Word
+from .states import names_of
+from .words import ACTORS, DEFERRED, TARGET, WORDS, Argument, Word
 
 FORM = re.compile(rb"[!-~]+(?: [!-~]+)*")
 NUMBER = re.compile(rb"0|-?[1-9][0-9]*")
@@ -21,7 +22,10 @@ NUMBERS = re.compile(rb"(?:0|-?[1-9][0-9]{0,18})(?: (?:0|-?[1-9][0-9]{0,18}))*")
 
 LINE_FORM, FIRST_LINE, ACTOR, COMMAND, ARGUMENT_COUNT, ARGUMENT, NO_SUCH_LIST = range(101, 108)
 
+EMPTY = "the script is empty"
+COMMAS = "; one space stands between numbers, and no comma"
 COMMENT = "; a script has no comments"
+BYTE_ORDER_MARK = b"\xef\xbb\xbf"
 
 
 class LineReader:
@@ -50,6 +54,11 @@ class LineReader:
         """Raises a fault where the bytes of the line are none of a script's line."""
         if self.has_line_feed and FORM.fullmatch(self.text):
             return
+        if self.number == 1 and self.text.startswith(BYTE_ORDER_MARK):
+            message = (
+                "the file begins with a byte-order mark; it is to be saved as UTF-8 without one"
+            )
+            self.fail_at(LINE_FORM, 0, len(BYTE_ORDER_MARK), message)
         for at, byte in enumerate(self.text):
             if not 0x20 <= byte <= 0x7E:
                 self.fail_at(LINE_FORM, at, at + width_of(self.text, at), self.strange(at))
@@ -60,7 +69,9 @@ class LineReader:
             self.fail_at(LINE_FORM, 0, spaces, "the line begins with a space")
         if b"  " in self.text.rstrip(b" "):
             first = self.text.index(b"  ")
-            self.fail_at(LINE_FORM, first, first + 2, "two spaces stand together")
+            is_comment = is_comment_sign(self.text[first:].lstrip(b" "))
+            message = "two spaces stand together" + COMMENT * is_comment
+            self.fail_at(LINE_FORM, first, first + 2, message)
         if self.text.endswith(b" "):
             last = len(self.text.rstrip(b" "))
             self.fail_at(LINE_FORM, last, len(self.text), "the line ends with a space")
@@ -103,13 +114,15 @@ class LineReader:
         place = first + most if given > most else len(self.words)
         message = f"{word.name} takes {word.count_text}, and {given} stand here"
         is_comment = place < len(self.words) and is_comment_sign(self.words[place])
-        self.fail(ARGUMENT_COUNT, place, message + COMMENT * is_comment)
+        has_commas = any(b"," in it for it in self.words[first:]) and not is_comment
+        self.fail(ARGUMENT_COUNT, place, message + COMMENT * is_comment + COMMAS * has_commas)
 
     def check_argument(self, word: Word, first: int, at: int) -> None:
         """Raises a fault where an argument is no number, or out of its range."""
         argument, text = word.argument(at), self.words[first + at]
         if not NUMBER.fullmatch(text):
-            message = f"{self.shown(first + at)} is no number of a script{why_no_number(text)}"
+            why = value_of_name(argument, text) or why_no_number(text)
+            message = f"{self.shown(first + at)} is no number of a script{why}"
         elif len(text) > 19 or not argument.takes(int(text)):
             message = (
                 f"{argument.name} is {argument.range}, and {self.shown(first + at)} stands here"
@@ -148,13 +161,33 @@ def why_no_number(text: bytes) -> str:
         return ": it has no fraction (a pixel is 65536, the farthest depth 16777215)"
     if re.fullmatch(rb"0[xX][0-9a-fA-F]+", text):
         return ": it is decimal"
+    if b"," in text:
+        return COMMAS
+    return ""
+
+
+def value_of_name(argument: Argument, text: bytes) -> str:
+    """The number of a name that stands where a number should, as ``TRIANGLELIST`` or ``true``."""
+    written = text.decode("ascii", "replace").upper()
+    known = [it for it in names_of(argument) if written == it or written.endswith(f"_{it}")]
+    if known:  # (the longest is meant: LESS_EQUAL, and not EQUAL)
+        name = max(known, key=len)
+        return f": {name} is {names_of(argument)[name]}"
+    if (argument.least, argument.most) == (0, 1) and written in ("TRUE", "FALSE"):
+        return f": {written.lower()} is {int(written == 'TRUE')}"
     return ""
 
 
 def likely(word: bytes, known: list[str]) -> str:
     """The known word that was probably meant, as a question."""
     close = difflib.get_close_matches(word.decode("ascii", "replace"), known, n=1)
-    return f"; is {close[0]!r} meant?" if close else ""
+    return in_lower_case(word, known) or (f"; is {close[0]!r} meant?" if close else "")
+
+
+def in_lower_case(word: bytes, known: list[str]) -> str:
+    """A sentence for a known word that stands in upper case."""
+    lower = word.decode("ascii", "replace").lower()
+    return f"; words are in lower case: {lower!r}" if lower in known else ""
 
 
 def parsed_target(line: LineReader) -> tuple[int, int]:
@@ -163,7 +196,9 @@ def parsed_target(line: LineReader) -> tuple[int, int]:
     if line.words[0] != TARGET.name.encode():
         is_comment = is_comment_sign(line.words[0])
         message = f"the first line begins with 'target', and not with {line.shown(0)}"
-        line.fail(FIRST_LINE, 0, message + COMMENT * is_comment)
+        line.fail(
+            FIRST_LINE, 0, message + COMMENT * is_comment + in_lower_case(line.words[0], ["target"])
+        )
     width, height = line.arguments(TARGET, 1)
     return width, height
 
@@ -189,6 +224,7 @@ def fail_actor(line: LineReader) -> NoReturn:
         message = "'target' stands in the first line alone"
     elif line.words[0].decode("ascii") in WORDS:
         message = f"an actor stands before {line.shown(0)}: i, or d0 to d7"
+    message += in_lower_case(line.words[0], [*ACTORS])
     line.fail(ACTOR, 0, message + COMMENT * is_comment_sign(line.words[0]))
 
 

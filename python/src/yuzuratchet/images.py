@@ -8,6 +8,8 @@ opaque, unless its alpha is asked for.
 from __future__ import annotations
 
 import io
+import math
+from numbers import Real
 from pathlib import Path
 from typing import Any, Final
 
@@ -15,9 +17,15 @@ import numpy as np
 import numpy.typing as npt
 from PIL import Image, UnidentifiedImageError
 
-from .errors import ImageError
+from .errors import ArgumentError, ImageError, WrongType
 
 Pixels = npt.NDArray[np.uint8]
+
+KINDS: Final = {".png": "PNG", ".tga": "TGA", ".tif": "TIFF", ".tiff": "TIFF"}
+"""Kinds of files that keep each pixel with its alpha, by their suffixes."""
+
+LONGEST_SIDE: Final = 65_535
+"""How many pixels a side of a saved image has at most."""
 
 NOTEBOOK_SIDE: Final = 256
 """How long the longer side of an image is at least where a notebook shows it, in whole squares."""
@@ -80,17 +88,38 @@ def opaque(pixels: Pixels) -> Pixels:
 
 
 def scaled(pixels: Pixels, scale: float) -> Pixels:
-    """The pixels so many times as large each way: squares, or means (weighted by alpha)."""
+    """The pixels so many times as large each way: squares, or means (weighted by alpha).
+
+    Raises :class:`~yuzuratchet.errors.ArgumentError` where no image can have that size.
+    """
+    if isinstance(scale, bool) or not isinstance(scale, Real):
+        raise WrongType("scale", f"a number is wanted, and not {scale!r}")
+    if not (scale > 0 and math.isfinite(scale)):
+        raise ArgumentError("scale", f"{scale!r} is no number above 0")
     height, width = pixels.shape[:2]
     size = max(1, round(width * scale)), max(1, round(height * scale))
+    if max(size) > LONGEST_SIDE:
+        raise ArgumentError("scale", f"{max(size)} pixels a side are more than {LONGEST_SIDE}")
     how = Image.Resampling.NEAREST if scale >= 1 else Image.Resampling.BOX
     return np.asarray(Image.fromarray(pixels).resize(size, how))
 
 
+def kind_of(path: str | Path) -> str:
+    """The kind of file by its suffix; raises :class:`~yuzuratchet.errors.ImageError` where it has
+    none that keeps each pixel."""
+    suffix = Path(path).suffix.lower()
+    if suffix not in KINDS:
+        known = ", ".join(KINDS)
+        why = "is none of those that keep each pixel as it is" if suffix else "is missing"
+        raise ImageError(f"{path} can't be written: its suffix {why} ({known})")
+    return KINDS[suffix]
+
+
 def save(pixels: Pixels, path: str | Path, *, keep_alpha: bool = False, scale: float = 1) -> None:
-    """Saves the pixels, opaque unless alpha is kept; the suffix says the kind of file."""
+    """Saves the pixels, opaque unless alpha is kept; the suffix says the kind of file.
+
+    Raises :class:`~yuzuratchet.errors.ImageError` for a suffix that is none of :data:`KINDS`.
+    """
+    kind = kind_of(path)
     shown = pixels if keep_alpha else opaque(pixels)
-    try:
-        Image.fromarray(scaled(shown, scale) if scale != 1 else shown).save(path)
-    except (ValueError, KeyError) as error:
-        raise ImageError(f"{path} can't be written: {error}") from error
+    Image.fromarray(scaled(shown, scale)).save(path, kind)

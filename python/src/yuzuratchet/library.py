@@ -13,8 +13,8 @@ from typing import Final
 
 from .device import DEVICE
 from .errors import LibraryMissing, ProgramFailed
-from .limits import TARGET_SIDE
 from .program import Ran, named_file
+from .targa import HEADER_SIZE, image_size, target_sides
 
 NAME: Final = "yuzuratchet"
 VARIABLE: Final = "YUZURATCHET_LIBRARY"
@@ -34,8 +34,6 @@ STATUSES: Final = {
     STATUS["overlap"]: "two areas overlap",
 }
 
-HEADER_SIZE: Final[int] = DEVICE["image"]["header_size"]
-PIXEL_SIZE: Final[int] = DEVICE["image"]["pixel_size"]
 LINE_SIZE: Final[int] = DEVICE["answers"]["longest_line"]
 
 HOW_TO_BUILD: Final = f"""\
@@ -135,8 +133,5 @@ def run_library(script: bytes, *, library: str | Path | None = None) -> Ran:
 
 def _image_size(script: bytes) -> int:
     """The size of the image by the first line; where that says nothing, the report will."""
-    words = script[:64].split(b"\n", 1)[0].split(b" ")
-    sides = [int(it) if it.isdigit() and len(it) <= 4 else 0 for it in words[1:]]
-    if words[0] != b"target" or len(sides) != 2 or max(sides) > TARGET_SIDE:
-        return HEADER_SIZE
-    return HEADER_SIZE + PIXEL_SIZE * sides[0] * sides[1]
+    sides = target_sides(script)
+    return image_size(*sides) if sides else HEADER_SIZE

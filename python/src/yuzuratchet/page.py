@@ -17,6 +17,7 @@ from typing import Final
 
 from .device import DEVICE
 from .errors import PageMissing
+from .labels import Labels
 from .limits import LIMITS
 from .messages import FAULTS, REFUSALS
 from .program import named_file, repository
@@ -88,8 +89,8 @@ def build_page(sources: Path, module: bytes, gallery: list[Entry], opening: str)
     return page
 
 
-def with_script(page: str, name: str, text: str) -> str:
-    """A built page that shows this script first, under its name.
+def with_script(page: str, name: str, text: str, labels: Labels = Labels()) -> str:
+    """A built page that shows this script first, under its name, with the names of its lines.
 
     Raises :class:`~yuzuratchet.errors.PageMissing` where the text is no built page.
     """
@@ -98,7 +99,10 @@ def with_script(page: str, name: str, text: str) -> str:
         raise PageMissing(f"this is no built page.\n{HOW_TO_BUILD}")
     title = f"<title>{html.escape(name)} - Yuzuratchet</title>"
     page = re.sub(r"<title>.*?</title>", lambda _: title, page, count=1)
-    return opening.sub(lambda _: _json("opening", {"name": name, "text": text}), page)
+    shown: dict[str, object] = {"name": name, "text": text}
+    if labels:
+        shown["labels"] = [*labels]
+    return opening.sub(lambda _: _json("opening", shown), page)
 
 
 def message_table() -> dict[str, dict[str, str]]:

@@ -2,17 +2,22 @@
 
 from __future__ import annotations
 
+import math
 import os
 import re
 import shutil
+import signal
 import subprocess
 import tempfile
+import threading
+from contextlib import suppress
 from dataclasses import dataclass
 from pathlib import Path
 from typing import Final
 
-from .errors import ArgumentError, ProgramFailed, ProgramMissing
+from .errors import ArgumentError, ProgramFailed, ProgramMissing, ProgramStopped, WrongType
 from .limits import WORKERS
+from .targa import misfit, target_sides
 
 NAME: Final = "tiledraw"
 VARIABLE: Final = "YUZURATCHET_PROGRAM"
@@ -84,44 +89,98 @@ class Ran:
         return (int(found[1]), int(found[2])) if found else None
 
 
+class Running:
+    """Runs of the program that go on now, in any threads: :meth:`end` ends them, and lets no other begin."""
+
+    def __init__(self) -> None:
+        self._lock = threading.Lock()
+        self._processes: set[subprocess.Popen[str]] = set()
+        self.is_ended = False
+
+    def end(self) -> None:
+        """Ends the runs; each raises :class:`~yuzuratchet.errors.ProgramStopped` in its thread."""
+        with self._lock:
+            self.is_ended = True
+            for process in self._processes:
+                _kill(process)
+
+    def add(self, process: subprocess.Popen[str]) -> None:
+        """Takes a process that has started, and ends it where all are ended already."""
+        with self._lock:
+            self._processes.add(process)
+            if self.is_ended:
+                _kill(process)
+
+    def remove(self, process: subprocess.Popen[str]) -> None:
+        """Lets go of a process that has ended."""
+        with self._lock:
+            self._processes.discard(process)
+
+    def check(self) -> None:
+        """Raises :class:`~yuzuratchet.errors.ProgramStopped` where the runs are ended."""
+        if self.is_ended:
+            raise ProgramStopped("the program was stopped")
+
+
 def run_program(
     script: bytes,
     *,
     workers: int | None = None,
     program: str | Path | None = None,
     seconds: float | None = None,
+    running: Running | None = None,
 ) -> Ran:
     """Runs the program on the bytes of a script, in a folder of its own.
 
     ``workers``, 0 to 15, is how many threads draw beside the program's own; ``seconds`` ends a run
-    that takes longer. Raises :class:`~yuzuratchet.errors.ProgramMissing` and
-    :class:`~yuzuratchet.errors.ProgramFailed`.
+    that takes longer, and ``running`` is who may end it. Raises
+    :class:`~yuzuratchet.errors.ProgramMissing` and :class:`~yuzuratchet.errors.ProgramFailed`.
     """
-    if workers is not None and not 0 <= workers <= WORKERS:
-        raise ArgumentError("workers", f"{workers} is not in 0 to {WORKERS}")
-    found = find_program(program)
+    check_wishes(workers, seconds)
+    found, running = find_program(program), running or Running()
+    running.check()
     with tempfile.TemporaryDirectory(prefix="yuzuratchet-") as room:
         source, image = Path(room, "script.txt"), Path(room, "image.tga")
         source.write_bytes(script)
         words = [str(found), str(source), str(image)]
         words += [] if workers is None else ["--workers", str(workers)]
-        ended = _ended(words, seconds)
+        ended = _ended(words, seconds, running)
         ran = Ran(ended.returncode, ended.stdout, image.read_bytes() if image.exists() else b"")
-    if bool(ran.refused) != (ran.status == 1):
-        raise ProgramFailed(f"{found} ended with status {ran.status}, which its answers belie")
+    _check_ran(script, ran, found)
     return ran
 
 
-def _ended(words: list[str], seconds: float | None) -> subprocess.CompletedProcess[str]:
+def check_wishes(workers: int | None, seconds: float | None) -> None:
+    """Raises :class:`~yuzuratchet.errors.ArgumentError` where no run can be had so."""
+    if workers is not None and (isinstance(workers, bool) or not isinstance(workers, int)):
+        raise WrongType("workers", f"a whole number is wanted, and not {workers!r}")
+    if workers is not None and not 0 <= workers <= WORKERS:
+        raise ArgumentError("workers", f"{workers} is not in 0 to {WORKERS}")
+    if seconds is None:
+        return
+    if isinstance(seconds, bool) or not isinstance(seconds, (int, float)):
+        raise WrongType("seconds", f"a number is wanted, and not {seconds!r}")
+    if not (seconds > 0 and math.isfinite(seconds)):
+        raise ArgumentError("seconds", f"{seconds!r} is no number above 0")
+
+
+def _check_ran(script: bytes, ran: Ran, found: Path) -> None:
+    """Raises :class:`~yuzuratchet.errors.ProgramFailed` where the program gave what tiledraw never does."""
+    if bool(ran.refused) != (ran.status == 1):
+        raise ProgramFailed(f"{found} ended with status {ran.status}, which its answers belie")
+    if ran.refused:
+        return
+    wrong = misfit(ran.image, target_sides(script))
+    if wrong:
+        raise ProgramFailed(f"{found} ended with status 0 and gave {wrong}: is it {NAME}?")
+
+
+def _ended(
+    words: list[str], seconds: float | None, running: Running
+) -> subprocess.CompletedProcess[str]:
+    """Runs the program to its end."""
     try:
-        ran = subprocess.run(
-            words,
-            capture_output=True,
-            encoding="utf-8",
-            errors="replace",
-            timeout=seconds,
-            check=False,
-        )
+        ran = _communicated(words, seconds, running)
     except subprocess.TimeoutExpired as error:
         raise ProgramFailed(f"{words[0]} did not end within {seconds:g} seconds") from error
     except OSError as error:
@@ -134,3 +193,39 @@ def _ended(words: list[str], seconds: float | None) -> subprocess.CompletedProce
             f"{words[0]} ended with {how}: {ran.stderr.strip() or 'it said nothing'}"
         )
     return ran
+
+
+def _kill(process: subprocess.Popen[str]) -> None:
+    """Ends a process and what it started, in the session that is its own."""
+    if process.poll() is None:
+        with suppress(ProcessLookupError, PermissionError):
+            os.killpg(process.pid, signal.SIGKILL)
+
+
+def _communicated(
+    words: list[str], seconds: float | None, running: Running
+) -> subprocess.CompletedProcess[str]:
+    """What a process wrote; it is ended on every way out of here.
+
+    It has a session of its own, so that Ctrl-C reaches this process alone, which ends it in order.
+    """
+    pipe = subprocess.PIPE
+    with subprocess.Popen(
+        words,
+        stdin=subprocess.DEVNULL,
+        stdout=pipe,
+        stderr=pipe,
+        encoding="utf-8",
+        errors="replace",
+        start_new_session=True,
+    ) as process:
+        running.add(process)
+        try:
+            out, err = process.communicate(timeout=seconds)
+        except BaseException:
+            _kill(process)
+            raise
+        finally:
+            running.remove(process)
+    running.check()
+    return subprocess.CompletedProcess(words, process.returncode, out, err)

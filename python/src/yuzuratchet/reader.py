@@ -6,7 +6,8 @@ from collections import Counter
 from pathlib import Path
 
 from .errors import ScriptFault
-from .faults import FIRST_LINE, LineReader, parsed_line, parsed_target
+from .faults import EMPTY, FIRST_LINE, LineReader, parsed_line, parsed_target
+from .labels import Labels
 from .line import Line
 from .scene import Scene
 
@@ -26,7 +27,7 @@ def parse(text: str | bytes) -> tuple[int, int, list[Line]]:
     """
     lines = lines_of(text if isinstance(text, bytes) else text.encode("utf-8"))
     if not lines:
-        raise ScriptFault(1, FIRST_LINE, 0, 0, "the script is empty")
+        raise ScriptFault(1, FIRST_LINE, 0, 0, EMPTY)
     width, height = parsed_target(lines[0])
     found, finished = [], Counter[str]()
     for line in lines[1:]:
@@ -51,5 +52,8 @@ def read_script(text: str | bytes, *, strict: bool = False) -> Scene:
 
 
 def load_script(path: str | Path, *, strict: bool = False) -> Scene:
-    """The scene of a script's file, as :func:`read_script`."""
-    return read_script(Path(path).read_bytes(), strict=strict)
+    """The scene of a script's file, as :func:`read_script`, with the names that lie beside it."""
+    text = Path(path).read_bytes()
+    scene = read_script(text, strict=strict)
+    scene.labels = Labels.read(Path(path), text)
+    return scene

@@ -31,10 +31,14 @@ Vertex = tuple[int, ...]
 
 @dataclass(frozen=True)
 class State:
-    """The eight kinds of state, at first the defaults. Vertices are rows of the ``vb`` line."""
+    """The eight kinds of state, at first the defaults. Vertices are rows of the ``vb`` line.
+
+    ``indices_line`` is the number of the ``ib`` line.
+    """
 
     vertices: Sequence[Vertex] = ()
     indices: Sequence[int] = ()
+    indices_line: int = field(default=0, compare=False)
     topology: PrimitiveTopology | None = None
     rasterizer: RasterizerState = RasterizerState()
     scissor: tuple[int, ...] = (0, 0, 0, 0)
@@ -152,11 +156,11 @@ class Recorder:
         refuse_vertices(line.arguments)
         self._set(line, vertices=line.rows)
 
-    def _take_ib(self, _: int, line: Line) -> None:
+    def _take_ib(self, number: int, line: Line) -> None:
         given = len(line.arguments)
         message = f"{given} are given, and a buffer takes {BUFFER_LENGTH}"
         refuse_if(given > BUFFER_LENGTH, 4, "indices", message, BUFFER_LENGTH)
-        self._set(line, indices=line.arguments)
+        self._set(line, indices=line.arguments, indices_line=number)
 
     def _take_topology(self, _: int, line: Line) -> None:
         self._set(line, topology=PrimitiveTopology(line.arguments[0]))
@@ -228,7 +232,8 @@ class Recorder:
             index = next(it for it in used if not 0 <= it + base < length)
             place = start + places.index(index)
             message = f"index {index} at place {place} with {base} added is no vertex"
-            raise CallRefused(6, "base", f"{message}: {length} are set", 2)
+            of = (self.state.indices_line, place)
+            raise CallRefused(6, "base", f"{message}: {length} are set", 2, of)
 
     def _take_begin(self, number: int, line: Line) -> None:
         query = line.arguments[0]

@@ -1,21 +1,30 @@
-"""What a suite's run is told by: JUnit's XML for a build server, and a page of what differs."""
+"""What a suite's run is told by: lines, JUnit's XML for a build server, and a page of what differs."""
 
 from __future__ import annotations
 
 import base64
 import difflib
 import html
+from dataclasses import dataclass
 from pathlib import Path
 from string import Template
 from xml.etree import ElementTree
 
-from .difference import compare, marked
+from . import interrupts
+from .difference import marked
 from .errors import ImageError
 from .images import Pixels, decode, encode, load, opaque
+from .planes import PLANES
 from .suite import Outcome, Suite, Verdict
+from .suite_run import SuiteRun
+
+Pictures = list[tuple[str, Pixels]]
+"""Images with their captions."""
 
 ANSWER_LINES = 40
 LEAST_WIDTH = 240
+CUT_SHORT = "the whole suite"
+"""The case of the XML that is an error where the run was cut short."""
 
 PAGE = Template(
     """<!DOCTYPE html>
@@ -44,10 +53,52 @@ $sections
 )
 
 
-def summary(outcomes: list[Outcome]) -> str:
-    """How many scripts agree, in a line."""
-    agree = sum(it.verdict is Verdict.AGREES for it in outcomes)
-    return f"{agree} of {len(outcomes)} scripts agree"
+@dataclass(frozen=True)
+class Report:
+    """What there is to tell of a suite's run; ``name`` is that of its folder."""
+
+    suite: Suite
+    run: SuiteRun
+    name: str
+
+    @property
+    def differing(self) -> list[Outcome]:
+        """What doesn't agree."""
+        return [it for it in self.run.outcomes if it.verdict is not Verdict.AGREES]
+
+    @property
+    def summary(self) -> str:
+        """How many scripts agree, in a line, and what cut the run short."""
+        drawn = len(self.run.outcomes)
+        agree = f"{drawn - len(self.differing)} of {drawn} scripts agree"
+        return f"{agree}; {self.cut_text}" if self.run.cut else agree
+
+    @property
+    def cut_text(self) -> str:
+        """What cut the run short, and how much of it is missing."""
+        if self.run.cut is None:
+            return ""
+        left, every = len(self.run.left), len(self.run.left) + len(self.run.outcomes)
+        return f"cut short by {interrupts.name_of(self.run.cut)}: {left} of {every} were not drawn"
+
+    def details(self, outcome: Outcome) -> str:
+        """What there is to say of a script that doesn't agree."""
+        parts = [outcome.message, self.image_text(outcome)]
+        parts += [f"{name}: its digest is another" for name in outcome.differs if name in PLANES]
+        if "answers" in outcome.differs:
+            parts.append(answers_difference(outcome))
+        return "\n".join(part for part in parts if part)
+
+    def image_text(self, outcome: Outcome) -> str:
+        """In which pixels an image differs, and by how much, or why that can't be told."""
+        if "image" not in outcome.differs:
+            return ""
+        try:
+            difference = self.suite.image_difference(outcome)
+        except ImageError as error:
+            return str(error)
+        other = f"{self.suite.picture(outcome.name)} isn't the image whose digest is stored"
+        return difference.text if difference else other
 
 
 def answers_difference(outcome: Outcome) -> str:
@@ -62,91 +113,100 @@ def answers_difference(outcome: Outcome) -> str:
     return "\n".join(lines[:ANSWER_LINES] + ([f"... and {more} lines more"] if more > 0 else []))
 
 
-def image_text(suite: Suite, outcome: Outcome) -> str:
-    """In which pixels an image differs, where it is stored, or why that can't be told."""
-    if not (outcome.expected and outcome.drawn) or outcome.expected.digest == outcome.drawn.digest:
-        return ""
-    if not outcome.image:
-        return "no image was drawn"
-    picture = suite.picture(outcome.name)
-    if picture is None:
-        return "the image that was expected isn't stored; its digest is another"
-    try:
-        difference = compare(load(picture), decode(outcome.image, outcome.name))
-    except ImageError as error:
-        return str(error)
-    return difference.text if difference else f"{picture} isn't the image whose digest is stored"
-
-
-def details(suite: Suite, outcome: Outcome) -> str:
-    """What there is to say of a script that doesn't agree."""
-    parts = [outcome.message, image_text(suite, outcome)]
-    if outcome.verdict in (Verdict.ANSWERS_DIFFER, Verdict.BOTH_DIFFER):
-        parts.append(answers_difference(outcome))
-    return "\n".join(part for part in parts if part)
-
-
 # ---- JUnit
 
 
-def write_junit(suite: Suite, outcomes: list[Outcome], name: str, path: Path) -> None:
-    """Writes the outcomes as the XML that build servers read from JUnit."""
-    failures = [it for it in outcomes if it.verdict not in (Verdict.AGREES, Verdict.FAILED)]
-    errors = [it for it in outcomes if it.verdict is Verdict.FAILED]
-    counts = {"tests": len(outcomes), "failures": len(failures), "errors": len(errors)}
+def write_junit(report: Report, path: Path) -> None:
+    """Writes the outcomes as the XML that build servers read from JUnit.
+
+    Where the run was cut short, what was not drawn is skipped, and one more case is an error.
+    """
+    run, name = report.run, report.name
+    failed = [it for it in run.outcomes if it.verdict is Verdict.FAILED]
+    counts = {
+        "tests": len(run.outcomes) + len(run.left) + bool(run.cut),
+        "failures": len(report.differing) - len(failed),
+        "errors": len(failed) + bool(run.cut),
+        "skipped": len(run.left),
+    }
     attributes = {"name": name, **{key: str(value) for key, value in counts.items()}}
     root = ElementTree.Element("testsuites", attributes)
-    took = {"time": f"{sum(it.seconds for it in outcomes):.3f}"}
+    took = {"time": f"{sum(it.seconds for it in run.outcomes):.3f}"}
     element = ElementTree.SubElement(root, "testsuite", {**attributes, **took})
-    for outcome in outcomes:
-        case = {"classname": name, "name": outcome.name, "time": f"{outcome.seconds:.3f}"}
-        child = ElementTree.SubElement(element, "testcase", case)
+    for outcome in run.outcomes:
+        case = _case(element, name, outcome.name, outcome.seconds)
         if outcome.verdict is not Verdict.AGREES:
-            kind = "error" if outcome in errors else "failure"
-            told = ElementTree.SubElement(child, kind, {"message": outcome.verdict.value})
-            told.text = details(suite, outcome)
+            kind = "error" if outcome in failed else "failure"
+            told = ElementTree.SubElement(case, kind, {"message": outcome.text})
+            told.text = report.details(outcome)
+    for left in run.left:
+        case = _case(element, name, left, 0)
+        ElementTree.SubElement(case, "skipped", {"message": report.cut_text})
+    if run.cut:
+        case = _case(element, name, CUT_SHORT, 0)
+        ElementTree.SubElement(case, "error", {"message": report.cut_text})
     ElementTree.indent(root)
     ElementTree.ElementTree(root).write(path, encoding="utf-8", xml_declaration=True)
+
+
+def _case(suite: ElementTree.Element, of: str, name: str, seconds: float) -> ElementTree.Element:
+    attributes = {"classname": of, "name": name, "time": f"{seconds:.3f}"}
+    return ElementTree.SubElement(suite, "testcase", attributes)
 
 
 # ---- the page
 
 
-def write_page(suite: Suite, outcomes: list[Outcome], name: str, path: Path) -> None:
+def write_page(report: Report, path: Path) -> None:
     """Writes one page with what doesn't agree: its images, what differs marked, and its answers."""
-    differ = [it for it in outcomes if it.verdict is not Verdict.AGREES]
-    page = PAGE.substitute(
-        title=html.escape(f"Suite {name}"),
-        state="differs" if differ else "same",
-        summary=html.escape(summary(outcomes)),
-        sections="\n".join(section(suite, outcome) for outcome in differ),
+    differing = report.differing
+    is_well = not differing and not report.run.cut
+    sections = [section(report, outcome) for outcome in differing]
+    path.write_text(
+        page(f"Suite {report.name}", report.summary, is_well, sections), encoding="utf-8"
     )
-    path.write_text(page, encoding="utf-8")
 
 
-def section(suite: Suite, outcome: Outcome) -> str:
+def page(title: str, summary: str, is_well: bool, sections: list[str]) -> str:
+    """A page of sections, which are HTML already."""
+    return PAGE.substitute(
+        title=html.escape(title),
+        state="same" if is_well else "differs",
+        summary=html.escape(summary),
+        sections="\n".join(sections),
+    )
+
+
+def section(report: Report, outcome: Outcome) -> str:
     """A script that doesn't agree."""
-    parts = [f"<h2>{html.escape(outcome.name)}: {html.escape(outcome.verdict.value)}</h2>"]
-    text = details(suite, outcome)
+    title = f"{outcome.name}: {outcome.text}"
+    return section_of(title, report.details(outcome), pictures(report.suite, outcome))
+
+
+def section_of(title: str, text: str, shown: Pictures) -> str:
+    """A section of a page: its title, a text, and pictures."""
+    parts = [f"<h2>{html.escape(title)}</h2>"]
     parts += [f"<pre>{html.escape(text)}</pre>"] if text else []
-    return "\n".join(parts + figures(suite, outcome))
+    return "\n".join(parts + [figure(caption, pixels) for caption, pixels in shown])
 
 
-def figures(suite: Suite, outcome: Outcome) -> list[str]:
-    """The image that was expected, the one that was drawn, and where they differ."""
+def pictures(suite: Suite, outcome: Outcome) -> Pictures:
+    """The image that was expected, the one that was drawn, and where they differ, as far as they are
+    known."""
     if not outcome.image:
         return []
     picture = suite.picture(outcome.name)
+    found = []
     try:
         drawn = decode(outcome.image, outcome.name)
-        if picture is None or outcome.expected is None:
-            return [figure("drawn", drawn)]
-        expected = load(picture)
-        found = [figure("expected", expected), figure("drawn", drawn)]
-        difference = compare(expected, drawn)
-        return found + ([figure("what differs", marked(drawn, difference))] if difference else [])
-    except ImageError as error:
-        return [f"<p>{html.escape(str(error))}</p>"]
+        found.append(("drawn", drawn))
+        if picture is not None and outcome.expected is not None:
+            found.insert(0, ("expected", load(picture)))
+            difference = suite.image_difference(outcome)
+            found += [("what differs", marked(drawn, difference))] if difference else []
+    except ImageError:
+        pass  # (the text says why)
+    return found
 
 
 def figure(caption: str, pixels: Pixels) -> str:

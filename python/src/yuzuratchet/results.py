@@ -2,23 +2,26 @@
 
 from __future__ import annotations
 
+import os
 import re
+from collections import deque
+from concurrent.futures import Future, ThreadPoolExecutor
 from dataclasses import dataclass
-from functools import cached_property
-from pathlib import Path
-from typing import TYPE_CHECKING, Any, Union
+from functools import cached_property, partial
+from itertools import count, islice
+from pathlib import Path, PurePath
+from typing import TYPE_CHECKING, Callable, Iterable, Iterator, Union
 
 from .backends import Backend, draw
-from .errors import ImageError, ProgramFailed, ScriptRefused
+from .errors import ArgumentError, ImageError, ProgramFailed, ScriptRefused, WrongType
 from .messages import message_of
 from .program import Ran
 from .scene import Scene
+from .targa import target_sides
 
 if TYPE_CHECKING:  # (numpy is asked for by whoever looks at an array)
-    import numpy as np
-    import numpy.typing as npt
-
     from .images import Pixels
+    from .planes import Depths, Planes, Stencils
 
 
 @dataclass(frozen=True)
@@ -55,8 +58,6 @@ class Refusal:
 
 Answer = Union[QueryAnswer, PixelAnswer]
 
-PIXELS_AT_ONCE = 2**20
-
 ANSWER = re.compile(r"(?P<query>query)(?: [0-9]+){2}|pixel(?: [0-9]+){8}")
 
 
@@ -73,9 +74,14 @@ def parse_answer(line: str) -> Answer:
 
 
 class Result:
-    """The answers, in the order of the questions, and the image of a script."""
+    """The answers, in the order of the questions, and the image of a script.
 
-    def __init__(self, ran: Ran) -> None:
+    A notebook shows it as its image.
+    """
+
+    def __init__(
+        self, ran: Ran, script: bytes = b"", draw: Callable[[bytes], Ran] | None = None
+    ) -> None:
         refused = ran.refused
         self.refused = Refusal(*refused) if refused else None
         """The refusal that ended the script, or None."""
@@ -86,6 +92,17 @@ class Result:
         """The image's file; empty where a line was refused."""
         self.text = ran.answers
         """The answer lines as they were written."""
+        self.script = script
+        """The bytes of the script that was drawn."""
+        self._draw = draw
+
+    def __repr__(self) -> str:
+        sides = target_sides(self.script)
+        size = f" {sides[0]} by {sides[1]} pixels" if sides else ""
+        told = counted(len(self.answers), "answer")
+        if self.refused:
+            told = f"line {self.refused.line} refused with {self.refused.number}, {told}"
+        return f"<Result:{size}{',' if size else ''} {told}>"
 
     @cached_property
     def image(self) -> Pixels:
@@ -100,6 +117,18 @@ class Result:
             raise ImageError(f"there is no image, since line {line} was refused with {number}")
         return decode(self.tga)
 
+    @cached_property
+    def planes(self) -> Planes:
+        """Depth and stencil of the whole target, for which the script is drawn once more.
+
+        Raises :class:`~yuzuratchet.errors.ImageError` where a line was refused.
+        """
+        from .planes import planes_behind
+
+        if self.refused or self._draw is None:
+            raise ImageError("there is neither depth nor stencil, since nothing was drawn")
+        return planes_behind(self.script, self._draw)
+
     def save(self, path: str | Path, *, keep_alpha: bool = False, scale: float = 1) -> None:
         """Saves the image, as ``result.save("x.png")``; opaque unless alpha is kept."""
         from .images import save
@@ -113,11 +142,28 @@ class Result:
         return None if self.refused else notebook_png(self.image)
 
 
+def counted(number: int, thing: str) -> str:
+    """``1 line``, ``2 lines``."""
+    return f"{number} {thing}{'' if number == 1 else 's'}"
+
+
 def script_bytes(scene: Scene | str | bytes) -> bytes:
-    """The script of a scene, or the text of one."""
+    """The script of a scene, or the text of one.
+
+    Raises :class:`~yuzuratchet.errors.ArgumentError` where it is neither, as the name of a file.
+    """
     if isinstance(scene, Scene):
         return scene.script().encode("ascii")
-    return scene.encode("utf-8") if isinstance(scene, str) else scene
+    if isinstance(scene, bytes):
+        return scene
+    if isinstance(scene, str):
+        if scene and "\n" not in scene and not scene.startswith("target"):
+            hint = "is no script; for the name of a file there is load_script"
+            raise ArgumentError("scene", f"{scene!r} {hint}: run(load_script({scene!r}))")
+        return scene.encode("utf-8")
+    if isinstance(scene, PurePath):
+        raise WrongType("scene", f"{scene!r} is the name of a file: run(load_script(..)) draws it")
+    raise WrongType("scene", f"a Scene or the text of a script is wanted, and not {scene!r}")
 
 
 def run(
@@ -140,15 +186,16 @@ def run(
     longer. Both ask for the program. Raises :class:`~yuzuratchet.errors.ScriptRefused` where a line
     was refused, unless ``check`` is False.
     """
-    ran = draw(
-        script_bytes(scene),
+    script = script_bytes(scene)
+    drawing = partial(
+        draw,
         backend=backend,
         library=library,
         workers=workers,
         program=program,
         seconds=seconds,
     )
-    result = Result(ran)
+    result = Result(drawing(script), script, drawing)
     refused, given = result.refused, len(result.answers)
     if isinstance(scene, Scene) and not refused and given != scene.questions:
         raise ProgramFailed(f"the program told {given} answers to {scene.questions} questions")
@@ -157,33 +204,72 @@ def run(
     return result
 
 
+def run_many(
+    scenes: Iterable[Scene | str | bytes],
+    *,
+    workers: int | None = None,
+    backend: Backend | None = None,
+    library: str | Path | None = None,
+    program: str | Path | None = None,
+    check: bool = True,
+) -> Iterator[Result]:
+    """Draws scenes side by side, and gives their results in the order of the scenes.
+
+    ``workers`` is how many are drawn at once, each on one thread: as many as there are processors
+    where it isn't said. A few more than that are drawn ahead of the result that is taken, so that
+    scenes may be made as they are wanted. The rest is as with :func:`run`: the library is what
+    makes many small scenes fast. An error is raised at its scene's turn, and ends the others.
+    """
+    if isinstance(scenes, (Scene, str, bytes)):
+        raise WrongType("scenes", "several scenes are wanted, as a list, and not one")
+    if workers is not None and (isinstance(workers, bool) or not isinstance(workers, int)):
+        raise WrongType("workers", f"a whole number is wanted, and not {workers!r}")
+    if workers is not None and workers < 1:
+        raise ArgumentError("workers", f"{workers} is not at least 1")
+    one = partial(run, backend=backend, library=library, program=program, check=check)
+    return _each(one, scenes, workers or os.cpu_count() or 1)
+
+
+def _each(
+    one: partial[Result], scenes: Iterable[Scene | str | bytes], workers: int
+) -> Iterator[Result]:
+    """The results of some scenes, of which so many are drawn at once."""
+    waiting: deque[Future[Result]] = deque()
+    left = iter(scenes)
+    with ThreadPoolExecutor(max_workers=workers) as pool:
+        try:
+            waiting.extend(pool.submit(one, it) for it in islice(left, 2 * workers))
+            for number in count():
+                if not waiting:
+                    return
+                try:
+                    yield waiting.popleft().result()
+                except ScriptRefused as refused:
+                    raise refused.of_scene(number) from refused
+                waiting.extend(pool.submit(one, it) for it in islice(left, 1))
+        finally:
+            pool.shutdown(wait=True, cancel_futures=True)
+
+
 def depth_and_stencil(
     scene: Scene, *, workers: int | None = None, program: str | Path | None = None
-) -> tuple[npt.NDArray[np.uint32], npt.NDArray[np.uint8]]:
+) -> tuple[Depths, Stencils]:
     """Depth (stored, 0 to 16,777,215) and stencil of the whole target, each of height and width.
 
     The scene is drawn with a question for each pixel behind it, once for each million pixels, which
     takes some two seconds each. Raises as :func:`run` does.
     """
-    import numpy as np
-
-    rows = max(1, PIXELS_AT_ONCE // max(1, scene.width))
-    bands = []
-    for top in range(0, max(1, scene.height), rows):
-        bottom = min(scene.height, top + rows)
-        text = _asked_rows(scene, range(top, bottom), workers=workers, program=program)
-        numbers = np.fromstring(text.replace("pixel ", ""), dtype=np.int64, sep=" ")
-        bands.append(numbers.reshape(bottom - top, scene.width, 8)[..., 6:])
-    both = np.concatenate(bands)
-    return both[..., 0].astype(np.uint32), both[..., 1].astype(np.uint8)
+    planes = planes_of(scene, workers=workers, program=program)
+    return planes.depth, planes.stencil
 
 
-def _asked_rows(scene: Scene, rows: range, **how: Any) -> str:
-    """The answer lines for each pixel of some rows, behind those of the scene."""
-    asked = [f"i pixel {x} {y}\n" for y in rows for x in range(scene.width)]
-    ran = draw(script_bytes(scene) + "".join(asked).encode("ascii"), **how)
-    if ran.refused:
-        line, number = ran.refused
-        # (what the end of the scene is refused for is told at the first question)
-        raise ScriptRefused(min(line, len(scene.lines) + 2), number, message_of(number).when)
-    return ran.answers.split("\n", scene.questions)[-1]
+def planes_of(
+    scene: Scene, *, workers: int | None = None, program: str | Path | None = None
+) -> Planes:
+    """The same as :class:`~yuzuratchet.planes.Planes`, which have pictures and digests."""
+    from .planes import planes_behind
+
+    if not isinstance(scene, Scene):
+        hint = "read_script makes one of a text, load_script of a file"
+        raise WrongType("scene", f"a Scene is wanted, and not {type(scene).__name__}: {hint}")
+    return planes_behind(script_bytes(scene), partial(draw, workers=workers, program=program))

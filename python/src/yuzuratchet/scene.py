@@ -21,27 +21,52 @@ Units of coordinates, depths and colours stand in :mod:`yuzuratchet.units`.
 from __future__ import annotations
 
 from contextlib import contextmanager
-from dataclasses import dataclass
+from dataclasses import dataclass, field
 from pathlib import Path
-from typing import Any, Iterable, Iterator, Sequence, Union
+from types import TracebackType
+from typing import Iterable, Iterator, TypeVar
 
-from .errors import ArgumentError
-from .line import Line
+from .errors import ArgumentError, CallRefused, WrongType
+from .labels import Labels
+from .line import Line, whole_numbers
 from .session import Session
 from .states import BlendState, DepthStencilState, PrimitiveTopology, RasterizerState
-from .units import Colour, Number, rgba, stored_depth, subpixels
+from .units import Colour, Number, rgba, stored_depth
+from .vertices import Vertex, vertex_line, where_outside
 from .words import DEFERRED, IMMEDIATE, TARGET
 
-Vertex = Union[tuple[Number, Number, Number, Colour], Sequence[Any]]
-"""``(x, y, depth, colour)``: pixels from the upper left, y downwards, then depth and colour."""
 
-
-@dataclass(frozen=True)
+@dataclass(frozen=True, repr=False)
 class CommandList:
-    """A list that a deferred context finished: the context's number, and its own, both from 0."""
+    """A list that a deferred context finished: the context's number, and its own, both from 0.
+
+    ``scene`` is the one that it is a list of, and ``lines`` how many lines it has, the one that
+    finished it included.
+    """
 
     context: int
     number: int
+    scene: Scene | None = field(default=None, compare=False)
+    lines: int = field(default=0, compare=False)
+
+    def __repr__(self) -> str:
+        return (
+            f"<CommandList {self.number} of {DEFERRED[self.context]}: {_count(self.lines, 'line')}>"
+        )
+
+
+def _count(number: int, thing: str) -> str:
+    return f"{number} {thing}{'' if number == 1 else 's'}"
+
+
+StateKind = TypeVar("StateKind", RasterizerState, DepthStencilState, BlendState)
+
+
+def _of_kind(kind: type[StateKind], state: StateKind) -> StateKind:
+    """The state, if it is one of the kind that a call takes."""
+    if not isinstance(state, kind):
+        raise WrongType("state", f"a {kind.__name__} is wanted, and not {state!r}")
+    return state
 
 
 class Context:
@@ -56,6 +81,10 @@ class Context:
         self.scene = scene
         self.actor = actor
 
+    def __repr__(self) -> str:
+        lines = _count(self.scene.recorded[self.actor], "line")
+        return f"<{type(self).__name__} {self.actor} of {self.scene!r}: {lines}>"
+
     def _add(self, word: str, *arguments: int) -> None:
         self.scene.add(self.actor, word, *arguments)
 
@@ -65,17 +94,19 @@ class Context:
         x and y are pixels (int, float or Fraction) from -4,096 to 4,096, depth 0.0 to 1.0 or the
         stored integer. A triangle has the colour of its first vertex.
         """
-        numbers: list[int] = []
-        for number, vertex in enumerate(vertices):
-            try:
-                numbers += vertex_numbers(vertex)
-            except ArgumentError as error:
-                raise ArgumentError(error.argument, f"{error.message} (vertex {number})") from error
-        self._add("vb", *numbers)
+        line = vertex_line(self.actor, vertices)
+        try:
+            self.scene.add_line(line)
+        except CallRefused as refused:
+            if refused.number != 3 or refused.place is None:
+                raise
+            where = where_outside(refused.place, line.arguments)
+            raise CallRefused(3, refused.argument, where, refused.place) from refused
 
     def ia_set_indices(self, indices: Iterable[int]) -> None:
         """Sets the indices, at most 65,536, each 0 to 65,535; numpy arrays are taken."""
-        self._add("ib", *indices)
+        given = indices.tolist() if hasattr(indices, "tolist") else indices
+        self._add("ib", *given)
 
     def ia_set_topology(self, topology: PrimitiveTopology) -> None:
         """Says how vertices make triangles; nothing can be drawn before."""
@@ -83,7 +114,7 @@ class Context:
 
     def rs_set_state(self, state: RasterizerState) -> None:
         """Says which triangles are drawn, and whether the scissor rectangle acts."""
-        self._add("raster", *state.numbers())
+        self._add("raster", *_of_kind(RasterizerState, state).numbers())
 
     def rs_set_scissor(self, left: int, top: int, right: int, bottom: int) -> None:
         """Sets the scissor rectangle, in pixels; right and bottom are the first ones outside."""
@@ -91,11 +122,11 @@ class Context:
 
     def om_set_depth_stencil(self, state: DepthStencilState, stencil_ref: int = 0) -> None:
         """Says how depth and stencil are tested and changed; the reference is 0 to 255."""
-        self._add("ds", *state.numbers(), stencil_ref)
+        self._add("ds", *_of_kind(DepthStencilState, state).numbers(), stencil_ref)
 
     def om_set_blend(self, state: BlendState) -> None:
         """Says what is written of a triangle's colour."""
-        self._add("blend", *state.numbers())
+        self._add("blend", *_of_kind(BlendState, state).numbers())
 
     def set_predication(self, predicate: tuple[int, bool] | None) -> None:
         """Leaves out draws and clears where the query's result is the value; None ends that.
@@ -106,8 +137,10 @@ class Context:
         if predicate is None:
             self._add("predicate")
         else:
+            if not isinstance(predicate, tuple) or len(predicate) != 2:
+                raise WrongType("predicate", f"(query, value) is wanted, and not {predicate!r}")
             query, value = predicate
-            self._add("predicate", query, bool(value))
+            self._add("predicate", query, int(bool(value)))
 
     def draw(self, count: int, start: int = 0) -> None:
         """Draws ``count`` vertices from place ``start`` on."""
@@ -141,22 +174,15 @@ class Context:
         self.end(query)
 
 
-def vertex_numbers(vertex: Vertex) -> tuple[int, ...]:
-    """The seven numbers of a vertex in a script."""
-    if len(vertex) != 4:
-        raise ArgumentError("vertices", f"{vertex!r} is not (x, y, depth, colour)")
-    x, y, depth, colour = vertex
-    return (subpixels(x, "x"), subpixels(y, "y"), stored_depth(depth), *rgba(colour))
-
-
 class DeferredContext(Context):
     """A context that records lists, which the immediate context executes."""
 
     def finish_command_list(self, restore: bool = False) -> CommandList:
         """Ends the list and gives it; with ``restore`` the next one begins with the state kept."""
-        self._add("finish", bool(restore))
+        lines = self.scene.recorded[self.actor] + 1
+        self._add("finish", int(bool(restore)))
         number = DEFERRED.index(self.actor)
-        return CommandList(number, self.scene.finished[self.actor] - 1)
+        return CommandList(number, self.scene.finished[self.actor] - 1, self.scene, lines)
 
 
 class ImmediateContext(Context):
@@ -172,7 +198,11 @@ class ImmediateContext(Context):
 
     def execute(self, command_list: CommandList, restore: bool = False) -> None:
         """Executes a list; with ``restore`` the context's state stays, else the default is set."""
-        self._add("exec", command_list.context, command_list.number, bool(restore))
+        if not isinstance(command_list, CommandList):
+            raise WrongType("command_list", f"a CommandList is wanted, and not {command_list!r}")
+        if command_list.scene not in (None, self.scene):
+            raise ArgumentError("command_list", "it is a list of another scene")
+        self._add("exec", command_list.context, command_list.number, int(bool(restore)))
 
     def get_data(self, query: int) -> int:
         """Asks how many pixels the last begin and end of a query counted."""
@@ -201,14 +231,24 @@ class Scene:
     """
 
     def __init__(self, width: int, height: int, *, strict: bool = True) -> None:
-        TARGET.check((width, height))
-        self.width, self.height, self.strict = width, height, strict
+        (self.width,), (self.height,) = (
+            whole_numbers(name, (side,)) for name, side in (("width", width), ("height", height))
+        )
+        TARGET.check((self.width, self.height))
+        self.strict = strict
         self.questions = 0
         self.finished = dict.fromkeys(DEFERRED, 0)
+        self.recorded = dict.fromkeys((IMMEDIATE, *DEFERRED), 0)
+        """How many lines each context has, of a deferred one in the list that it records."""
+        self.labels = Labels()
         self._lines: list[Line] = []
         self.immediate = ImmediateContext(self, IMMEDIATE)
         self.deferred = tuple(DeferredContext(self, actor) for actor in DEFERRED)
-        self._rules = Session(width, height) if strict else None
+        self._rules = Session(self.width, self.height) if strict else None
+
+    def __repr__(self) -> str:
+        lines, questions = _count(len(self._lines), "line"), _count(self.questions, "question")
+        return f"<Scene: {self.width} by {self.height} pixels, {lines}, {questions}>"
 
     @classmethod
     def from_lines(
@@ -234,11 +274,28 @@ class Scene:
         if line.word == "exec":
             self._check_list(line)
         if self._rules is not None:
-            self._rules.take(len(self._lines) + 2, line)
+            self._rules.take(self._next_line, line)
         self._lines.append(line)
         self.questions += line.word in ("query", "pixel")
+        self.recorded[line.actor] += 1
         if line.word == "finish":
             self.finished[line.actor] += 1
+            self.recorded[line.actor] = 0
+
+    def label(self, name: str | None) -> LabelledBlock:
+        """Names the calls that follow, up to the next label, as ``scene.label("floor")``.
+
+        ``explain``, ``check`` and the page show the names, which are no part of the script: they
+        are saved beside it. With ``with scene.label("floor"):`` the name ends with the block.
+        """
+        before = self.labels.of(self._next_line)
+        self.labels.add(self._next_line, name)
+        return LabelledBlock(self, before)
+
+    @property
+    def _next_line(self) -> int:
+        """The number of the next line; the target's is 1."""
+        return len(self._lines) + 2
 
     def _check_list(self, line: Line) -> None:
         context, number, _ = line.arguments
@@ -252,5 +309,26 @@ class Scene:
         return "".join(f"{line}\n" for line in lines)
 
     def save(self, path: str | Path) -> None:
-        """Writes the script to a file."""
-        Path(path).write_text(self.script(), encoding="ascii", newline="\n")
+        """Writes the script to a file, and the names of its lines beside it, where it has some."""
+        script = self.script().encode("ascii")
+        Path(path).write_bytes(script)
+        if self.labels:
+            self.labels.write(Path(path), script)
+
+
+class LabelledBlock:
+    """A label that holds in a ``with`` block; behind it the one before holds again."""
+
+    def __init__(self, scene: Scene, before: str | None) -> None:
+        self.scene, self.before = scene, before
+
+    def __enter__(self) -> Scene:
+        return self.scene
+
+    def __exit__(
+        self,
+        kind: type[BaseException] | None,
+        error: BaseException | None,
+        at: TracebackType | None,
+    ) -> None:
+        self.scene.label(self.before)

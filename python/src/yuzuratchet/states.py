@@ -11,6 +11,7 @@ from enum import IntEnum, IntFlag
 from typing import Any
 
 from .errors import ArgumentError
+from .words import Argument
 
 
 class PrimitiveTopology(IntEnum):
@@ -87,6 +88,23 @@ class ColorWriteEnable(IntFlag):
     BLUE = 4
     ALPHA = 8
     ALL = 15
+
+
+def names_of(argument: Argument) -> dict[str, int]:
+    """The names of the values of a script's argument."""
+    kind = _KINDS.get(argument.name) or next(
+        (kind for end, kind in _ENDS.items() if argument.name.endswith(end)), None
+    )
+    return {name: int(it) for name, it in kind.__members__.items()} if kind else {}
+
+
+_KINDS: dict[str, type[IntEnum] | type[IntFlag]] = {
+    "topology": PrimitiveTopology,
+    "cull_mode": CullMode,
+    "logic_op": LogicOp,
+    "write_mask": ColorWriteEnable,
+}
+_ENDS: dict[str, type[IntEnum]] = {"_func": ComparisonFunc, "_op": StencilOp}
 
 
 def _as_kind(kind: type, value: Any, name: str) -> Any:

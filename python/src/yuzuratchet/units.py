@@ -22,23 +22,30 @@ from fractions import Fraction
 from numbers import Integral, Rational, Real
 from typing import Iterable, Sequence, Union
 
-from .errors import ArgumentError
+from .errors import ArgumentError, WrongType
 from .limits import DEEPEST, SUBPIXELS
 
 Number = Union[int, float, Fraction]
 Colour = Union[str, Sequence[int]]
 ScriptColour = tuple[int, int, int, int]
 
+UNSURE = 1e-6
+"""How near to a half a depth may lie that is left to exact fractions."""
+
 HEX_COLOUR = re.compile(r"#([0-9a-fA-F]{6})([0-9a-fA-F]{2})?")
 
 
 def _exact(value: object, name: str) -> Fraction:
     """The value as an exact fraction; numpy's numbers are taken, strings and infinities are not."""
+    if isinstance(value, bool):
+        raise WrongType(name, f"a number is wanted, and not {value}")
     if isinstance(value, Rational):
         return Fraction(int(value.numerator), int(value.denominator))
-    if isinstance(value, Real) and math.isfinite(value):
-        return Fraction(float(value))
-    raise ArgumentError(name, f"{value!r} is no finite number")
+    if not isinstance(value, Real):
+        raise WrongType(name, f"{value!r} is no finite number")
+    if not math.isfinite(value):
+        raise ArgumentError(name, f"{value!r} is no finite number")
+    return Fraction(float(value))
 
 
 def subpixels(pixels: Number, name: str = "coordinate") -> int:
@@ -47,6 +54,8 @@ def subpixels(pixels: Number, name: str = "coordinate") -> int:
     >>> subpixels(1.5)
     98304
     """
+    if type(pixels) is int:
+        return pixels * SUBPIXELS
     if isinstance(pixels, float) and math.isfinite(pixels):
         return round(pixels * SUBPIXELS)  # (exact, since the factor is a power of two)
     return round(_exact(pixels, name) * SUBPIXELS)
@@ -58,7 +67,12 @@ def stored_depth(depth: Number, name: str = "depth") -> int:
     >>> stored_depth(0.5), stored_depth(7)
     (8388608, 7)
     """
-    if isinstance(depth, Integral):
+    if isinstance(depth, float) and 0 <= depth <= 1:
+        scaled = depth * DEEPEST + 0.5
+        below = math.floor(scaled)
+        if UNSURE < scaled - below < 1 - UNSURE:
+            return below
+    elif isinstance(depth, Integral) and not isinstance(depth, bool):
         return int(depth)
     exact = _exact(depth, name)
     if not 0 <= exact <= 1:
@@ -84,9 +98,19 @@ def rgba(colour: Colour, name: str = "colour") -> ScriptColour:
 
 
 def _channels(colour: Iterable[int], name: str) -> list[int]:
-    channels = list(colour)
+    try:
+        channels = list(colour)
+    except TypeError as error:
+        raise WrongType(name, f"{colour!r} is no colour: a str, or 3 or 4 numbers") from error
     if len(channels) not in (3, 4):
         raise ArgumentError(name, f"{len(channels)} numbers are given, and a colour has 3 or 4")
-    if any(not isinstance(it, Integral) or not 0 <= int(it) <= 255 for it in channels):
+    if not all(map(_is_channel, channels)):
         raise ArgumentError(name, f"{tuple(channels)!r} are not whole numbers from 0 to 255")
     return [int(it) for it in channels] + [255] * (4 - len(channels))
+
+
+def _is_channel(value: object) -> bool:
+    if type(value) is int:
+        return 0 <= value <= 255
+    is_whole = isinstance(value, Integral) and not isinstance(value, bool)
+    return is_whole and 0 <= int(value) <= 255  # type: ignore[call-overload]
