@@ -20,18 +20,24 @@ static uint8_t *bytes_of(const char *name, size_t *size) {
     return bytes;
 }
 
+/* Says why a script isn't drawn. */
+static void tell(uint32_t status, const struct yuzuratchet_report *report) {
+    fprintf(stderr, "example: %s\n", yuzuratchet_status_text(status));
+    if (status == YUZURATCHET_REFUSED)
+        fprintf(stderr, "line %llu: %s\n", (unsigned long long)report->refused_line, yuzuratchet_refusal_text(report->refusal));
+}
+
 int main(int count, char **words) {
     if (count != 3) return fprintf(stderr, "usage: example SCRIPT OUT.tga\n"), 2;
     size_t size;
     uint8_t *script = bytes_of(words[1], &size);
     if (script == NULL) return fprintf(stderr, "example: cannot read script\n"), 3;
-    struct yuzuratchet_report report;
-    uint32_t status = yuzuratchet_sizes(script, size, &report);
-    size_t lines_size = report.lines_size + 1, image_size = report.image_size + 1;
+    const size_t lines_size = yuzuratchet_lines_bound(script, size), image_size = yuzuratchet_image_bound(script, size);
     uint8_t *lines = malloc(lines_size), *image = malloc(image_size);
-    if (status <= YUZURATCHET_REFUSED && lines != NULL && image != NULL)
-        status = yuzuratchet_draw(script, size, lines, lines_size, image, image_size, &report);
-    if (status > YUZURATCHET_REFUSED) return fprintf(stderr, "example: status %u\n", (unsigned)status), 3;
+    struct yuzuratchet_report report;
+    const uint32_t status = yuzuratchet_draw(script, size, lines, lines_size, image, image_size, &report);
+    if (status != YUZURATCHET_DONE) tell(status, &report);
+    if (status > YUZURATCHET_REFUSED) return 3;
     fwrite(lines, 1, report.lines_size, stdout);
     if (status == YUZURATCHET_DONE) {
         FILE *out = fopen(words[2], "wb");

@@ -12,12 +12,27 @@
  * Threads. A call starts none and shares nothing with others: calls on different areas may run side by side.
  *
  * An area that doesn't fit is refused by its name, as enum yuzuratchet_status has them, before anything is read or written.
+ *
+ * Processors. The library wants x86-64-v2 (SSE4.2, POPCNT). On others the loader refuses the shared object in a sentence, where
+ * it is glibc's from 2.33 on; a program with the archive in it may end there by an illegal instruction.
+ *
+ * What stays. A script that one version takes has the same lines and the same image in all later ones. While the name of
+ * the shared object ends in .so.0, a program that was built with an earlier version runs with a later one: no call, status
+ * or part of the report goes or changes its number or place. A later version may have more calls, and more statuses behind
+ * the last: take a status that you don't know as one that wrote nothing.
  */
 #ifndef YUZURATCHET_H
 #define YUZURATCHET_H
 
 #include <stddef.h>
 #include <stdint.h>
+
+/* The version of this header. That of the library with which a program runs is told by yuzuratchet_version. */
+#define YUZURATCHET_VERSION_MAJOR 0
+#define YUZURATCHET_VERSION_MINOR 3
+#define YUZURATCHET_VERSION_PATCH 0
+#define YUZURATCHET_VERSION \
+    (10000 * YUZURATCHET_VERSION_MAJOR + 100 * YUZURATCHET_VERSION_MINOR + YUZURATCHET_VERSION_PATCH)
 
 #ifdef __cplusplus
 extern "C" {
@@ -43,7 +58,9 @@ enum yuzuratchet_status {
     /* A size is 2^63 or more, or an area runs past the last address. */
     YUZURATCHET_SIZE_TOO_LARGE = 7,
     /* Two areas overlap. */
-    YUZURATCHET_OVERLAP = 8
+    YUZURATCHET_OVERLAP = 8,
+    /* The report's address is none of a struct yuzuratchet_report: no multiple of 8. */
+    YUZURATCHET_MISALIGNED = 9
 };
 
 /* What a call tells: 32 bytes, with no gaps. */
@@ -69,11 +86,27 @@ uint32_t yuzuratchet_draw(const uint8_t *script, size_t script_size, uint8_t *li
                           size_t image_size, struct yuzuratchet_report *report);
 
 /*
- * Tells how a script ends and how many bytes its answer lines and its image have, and writes the report alone. It takes the
- * script's lines as yuzuratchet_draw does, and so takes as long. Returns the status: done, refused or no memory, or why an
- * area doesn't fit.
+ * How many bytes the answer lines and the image of a script have at most: areas of these sizes hold whatever yuzuratchet_draw
+ * writes of it. Nothing is drawn. The lines are bounded by the questions of the script, and the image by its first line, whose
+ * size it has where the script is drawn. Neither is 0, for no script. Of `script` all `script_size` bytes are read.
+ */
+uint64_t yuzuratchet_lines_bound(const uint8_t *script, size_t script_size);
+uint64_t yuzuratchet_image_bound(const uint8_t *script, size_t script_size);
+
+/*
+ * Tells how a script ends and how many bytes its answer lines and its image have, to the byte, and writes the report alone. It
+ * draws the script as yuzuratchet_draw does and so takes as long: for areas that are large enough ask for the bounds above.
+ * Returns the status: done, refused or no memory, or why an area doesn't fit.
  */
 uint32_t yuzuratchet_sizes(const uint8_t *script, size_t script_size, struct yuzuratchet_report *report);
+
+/*
+ * What a status means, when a line is refused with a number, and what to do about that: texts for people, in English, with no
+ * full stop at the end. They stay where they are, and are never null: a number without a meaning has a text that says so.
+ */
+const char *yuzuratchet_status_text(uint32_t status);
+const char *yuzuratchet_refusal_text(uint32_t refusal);
+const char *yuzuratchet_refusal_advice(uint32_t refusal);
 
 /* Three functions over one store of memory, which keep to what C says of malloc, realloc and free. */
 struct yuzuratchet_memory {
@@ -88,7 +121,7 @@ struct yuzuratchet_memory {
  */
 void yuzuratchet_use_memory(const struct yuzuratchet_memory *memory);
 
-/* The version of this library: 10,000 times the first number, 100 times the second and the third, 300 for 0.3.0. */
+/* The version of the library that runs, spelled as YUZURATCHET_VERSION is: 300 is 0.3.0. */
 uint32_t yuzuratchet_version(void);
 
 #ifdef __cplusplus

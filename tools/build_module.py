@@ -19,7 +19,9 @@ import tempfile
 import package_path
 from install_library import CRATE, LIBRARY, NotBuilt, run
 
-EXPORTS = ("yuzuratchet_draw", "yuzuratchet_sizes", "yuzuratchet_version", "malloc", "free", "__heap_base")
+EXPORTS = ("yuzuratchet_draw", "yuzuratchet_sizes", "yuzuratchet_lines_bound", "yuzuratchet_image_bound", "yuzuratchet_version", "malloc", "free",
+           "__heap_base")
+SOURCES = ("yuzuratchet.c", "bounds.c", "module/heap.c", "module/wide.c")
 TARGET = ("--target=wasm64-unknown-unknown", "-O3", "-msimd128", "-mbulk-memory", "-msign-ext", "-mnontrapping-fptoint", "-mllvm", "-expand-div-rem-bits=64")
 STACK = 8 << 20
 # stands before the toolchain's clang, and keeps what it is given to compile
@@ -84,7 +86,7 @@ def build(out):
         program.write_text(for_module(program.read_text()))
         run([clang, *TARGET, "-x", "ir", program, "-c", "-o", folder / "program.o"])
         objects = [folder / "program.o"]
-        for source in (LIBRARY / "yuzuratchet.c", LIBRARY / "module" / "heap.c", LIBRARY / "module" / "wide.c"):
+        for source in (LIBRARY / name for name in SOURCES):
             objects.append(folder / f"{source.stem}.o")
             words = ["-std=c11", "-ffreestanding", "-nostdinc", "-isystem", LIBRARY / "module" / "include", "-Wall", "-Wextra", "-Werror"]
             run([clang, *TARGET, *words, "-c", source, "-o", objects[-1]])

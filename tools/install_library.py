@@ -1,21 +1,29 @@
 #!/usr/bin/env python3
 """Builds the C library of the device, and installs it into a folder.
 
-    tools/install_library.py PREFIX [--stage FOLDER]
+    tools/install_library.py PREFIX [--stage FOLDER] [--libdir NAME]
+    tools/install_library.py PREFIX --uninstall
 
-Into PREFIX go include/yuzuratchet.h, lib/libyuzuratchet.a, lib/libyuzuratchet.so and lib/pkgconfig/yuzuratchet.pc, so that a program is
-built by
+Into PREFIX go the header, an archive, a shared object with its links, a file for pkg-config, a package for CMake and manual pages. A program
+is built by
 
     cc program.c $(PKG_CONFIG_PATH=PREFIX/lib/pkgconfig pkg-config --cflags --libs yuzuratchet)
 
+or, in CMake with PREFIX in CMAKE_PREFIX_PATH, by
+
+    find_package(Yuzuratchet)
+    target_link_libraries(program Yuzuratchet::Yuzuratchet)     # or Yuzuratchet::Static
+
 The crate yuzuratchet is built by `rt lib`, which proves what it has not proved on this checkout yet: a minute or two behind a gate run or
 a check, and up to an hour and a half on a fresh clone. The C files in library/ are compiled by $CC, or cc. With --stage the files go
-into that folder in place of the root, as packagers want it.
+into that folder in place of the root, as packagers want it. --uninstall takes away what an installation of this version has put there.
 """
 
 import argparse
+import json
 import os
 import pathlib
+import re
 import shlex
 import shutil
 import subprocess
@@ -24,23 +32,19 @@ import tempfile
 
 import package_path
 from yuzuratchet import __version__
+from yuzuratchet.messages import FAULTS, REFUSALS
 
 LIBRARY = package_path.TOP / "library"
 CRATE = package_path.TOP / "crates" / "yuzuratchet"
-SOURCES = ("yuzuratchet", "memory")
+SOURCES = ("yuzuratchet", "bounds", "memory", "texts")
 FLAGS = ("-std=c11", "-O2", "-fPIC", "-Wall", "-Wextra", "-Werror")
-# what a program may call; all other names stay within the library
-CALLS = ("yuzuratchet_draw", "yuzuratchet_sizes", "yuzuratchet_version", "yuzuratchet_use_memory")
-PKG_CONFIG = """prefix={prefix}
-includedir=${{prefix}}/include
-libdir=${{prefix}}/lib
-
-Name: yuzuratchet
-Description: A software Direct3D 11 device: scripts of recorded calls in, answer lines and images out
-Version: {version}
-Cflags: -I${{includedir}}
-Libs: -L${{libdir}} -lyuzuratchet
-"""
+MAP = LIBRARY / "yuzuratchet.map"
+MANUAL = LIBRARY / "yuzuratchet.h.3"
+# the number is that of what stays compatible, and not that of the version
+SONAME = "libyuzuratchet.so.0"
+SHARED = f"libyuzuratchet.so.{__version__}"
+LINKING = (f"-Wl,-soname,{SONAME}", f"-Wl,--version-script={MAP}", "-Wl,-z,noexecstack,-z,defs,-z,relro,-z,now", "-Wl,-z,x86-64-v2")
+LINKS = {SONAME: SHARED, "libyuzuratchet.so": SONAME}
 
 
 class NotBuilt(Exception):
@@ -59,6 +63,9 @@ def run(words, **how):
     return ran.stdout
 
 
+# ---- building
+
+
 def proved_archive():
     """The static library of the crate, as `rt lib` builds it."""
     if shutil.which("rt") is None:
@@ -72,56 +79,130 @@ def compiler():
     return shlex.split(os.environ.get("CC", "")) or ["cc"]
 
 
+def calls():
+    """What a program may call, as the map of versions lists it; all other names stay within the library."""
+    return re.findall(r"^ +(yuzuratchet_\w+);$", MAP.read_text(encoding="ascii"), re.M)
+
+
+def refusals():
+    """The texts of refused lines, as texts.c takes them."""
+    rows = sorted({**FAULTS, **REFUSALS}.items())
+    # (a string of JSON in ASCII is one of C, since these texts have neither tabs nor letters of other alphabets)
+    return "".join(f"REFUSAL({number}, {json.dumps(it.when)}, {json.dumps(it.advice)})\n" for number, it in rows)
+
+
 def whole_object(archive, folder):
     """One object of the proved code and of the C files, whose only names are those that a program may call."""
     run(["ar", "x", archive], cwd=folder)
     proved = folder / "proved.o"
     (folder / run(["ar", "t", archive]).split()[0]).rename(proved)
+    (folder / "refusals.inc").write_text(refusals(), encoding="ascii")
     objects = [proved]
     for name in SOURCES:
         made = folder / f"{name}.o"
-        run([*compiler(), *FLAGS, "-c", LIBRARY / f"{name}.c", "-o", made])
+        run([*compiler(), *FLAGS, f"-I{folder}", "-c", LIBRARY / f"{name}.c", "-o", made])
         objects.append(made)
     joined, whole = folder / "joined.o", folder / "whole.o"
     run(["ld", "-r", "-o", joined, *objects])
-    run(["objcopy", *[f"--keep-global-symbol={name}" for name in CALLS], joined, whole])
+    run(["objcopy", *[f"--keep-global-symbol={name}" for name in calls()], joined, whole])
     return whole
 
 
 def build(folder, archive=None):
-    """Builds libyuzuratchet.a and libyuzuratchet.so into a folder."""
+    """Builds the archive and the shared object into a folder, of the proved archive or of another one."""
     folder = pathlib.Path(folder)
     archive = archive or proved_archive()
     with tempfile.TemporaryDirectory() as parts:
         whole = whole_object(archive, pathlib.Path(parts))
-        static, shared = folder / "libyuzuratchet.a", folder / "libyuzuratchet.so"
+        static = folder / "libyuzuratchet.a"
         static.unlink(missing_ok=True)
-        run(["ar", "rcs", static, whole])
-        run([*compiler(), "-shared", "-Wl,-soname,libyuzuratchet.so.0", "-Wl,-z,noexecstack", "-o", shared, whole])
+        run(["ar", "rcsD", static, whole])
+        run([*compiler(), "-shared", *LINKING, "-o", folder / SHARED, whole])
 
 
-def install(prefix, stage=None):
-    """Builds the library and puts it below a prefix, or below a stage that stands for the root."""
+# ---- installing
+
+
+def written(prefix, libdir):
+    """The files for other tools that are written from templates: {where: text}."""
+    cmake = f"{libdir}/cmake/Yuzuratchet"
+    values = {
+        "prefix": prefix, "libdir": libdir, "version": __version__, "soname": SONAME, "shared": SHARED,
+        "up": "/".join([".."] * len(pathlib.PurePath(cmake).parts)),
+    }
+    templates = {
+        f"{libdir}/pkgconfig/yuzuratchet.pc": "yuzuratchet.pc.in",
+        f"{cmake}/YuzuratchetConfig.cmake": "YuzuratchetConfig.cmake.in",
+        f"{cmake}/YuzuratchetConfigVersion.cmake": "YuzuratchetConfigVersion.cmake.in",
+    }
+    found = {where: filled((LIBRARY / name).read_text(encoding="ascii"), values) for where, name in templates.items()}
+    # (`man yuzuratchet_draw` shows the page of the header)
+    return {**found, **{f"share/man/man3/{name}.3": f".so man3/{MANUAL.name}\n" for name in calls()}}
+
+
+def filled(template, values):
+    """A text in which @NAME@ stands for a value, since $ means something in these files."""
+    return re.sub(r"@([a-z]+)@", lambda found: str(values[found[1]]), template)
+
+
+def installed_files(prefix, libdir):
+    """All that an installation puts below the prefix."""
+    built = [f"{libdir}/{name}" for name in ("libyuzuratchet.a", SHARED, *LINKS)]
+    return ["include/yuzuratchet.h", f"share/man/man3/{MANUAL.name}", *built, *written(prefix, libdir)]
+
+
+def root_of(prefix, stage):
+    """The folder that stands for a prefix: the prefix, or where it lies below a stage."""
     prefix = pathlib.Path(os.path.abspath(prefix))
-    to = pathlib.Path(os.path.abspath(stage) + str(prefix)) if stage else prefix
-    for name in ("include", "lib/pkgconfig"):
-        (to / name).mkdir(parents=True, exist_ok=True)
-    build(to / "lib")
+    return prefix, pathlib.Path(os.path.abspath(stage) + str(prefix)) if stage else prefix
+
+
+def install(prefix, stage=None, libdir="lib", archive=None):
+    """Builds the library and puts it below a prefix, or below a stage that stands for the root."""
+    prefix, to = root_of(prefix, stage)
+    for name in installed_files(prefix, libdir):
+        (to / name).parent.mkdir(parents=True, exist_ok=True)
+    build(to / libdir, archive)
     shutil.copy(LIBRARY / "yuzuratchet.h", to / "include")
-    numbered = to / "lib" / "libyuzuratchet.so.0"
-    numbered.unlink(missing_ok=True)
-    numbered.symlink_to("libyuzuratchet.so")
-    (to / "lib" / "pkgconfig" / "yuzuratchet.pc").write_text(PKG_CONFIG.format(prefix=prefix, version=__version__))
+    shutil.copy(MANUAL, to / "share" / "man" / "man3")
+    for name, target in LINKS.items():
+        (to / libdir / name).unlink(missing_ok=True)
+        (to / libdir / name).symlink_to(target)
+    for where, text in written(prefix, libdir).items():
+        (to / where).write_text(text, encoding="ascii")
     return to
 
 
-def main():
+def uninstall(prefix, stage=None, libdir="lib"):
+    """Takes away what an installation put there, and folders that are empty without it; gives how many files were there."""
+    prefix, to = root_of(prefix, stage)
+    names = [to / name for name in installed_files(prefix, libdir)]
+    there = [it for it in names if it.is_symlink() or it.exists()]
+    for it in there:
+        it.unlink()
+    folders = {parent for it in there for parent in it.parents if to in parent.parents}
+    for folder in sorted(folders, key=lambda it: len(it.parts), reverse=True):
+        if not any(folder.iterdir()):
+            folder.rmdir()
+    return len(there)
+
+
+def parsed():
     parser = argparse.ArgumentParser(description=__doc__, formatter_class=argparse.RawDescriptionHelpFormatter)
     parser.add_argument("prefix", metavar="PREFIX", help="the folder to install into, as /usr/local")
     parser.add_argument("--stage", metavar="FOLDER", help="a folder that stands for the root")
-    words = parser.parse_args()
+    parser.add_argument("--libdir", metavar="NAME", default="lib", help="where libraries lie below PREFIX, as lib/x86_64-linux-gnu (lib)")
+    parser.add_argument("--uninstall", action="store_true", help="takes an installation of this version away")
+    return parser.parse_args()
+
+
+def main():
+    words = parsed()
     try:
-        print(f"installed into {install(words.prefix, words.stage)}")
+        if words.uninstall:
+            print(f"{uninstall(words.prefix, words.stage, words.libdir)} files taken away")
+        else:
+            print(f"installed into {install(words.prefix, words.stage, words.libdir)}")
     except (NotBuilt, OSError) as error:
         sys.exit(f"install_library.py: {error}")
 

@@ -5,15 +5,19 @@
 
 It installs the library into a folder of its own (or takes the one in FOLDER), and then
 
+- looks at what is installed: links, names and versions of the shared object, manual pages, the files for pkg-config and CMake, with which
+  programs are built and run, and takes it away again;
 - builds the example and the tests in library/tests by gcc and by clang, against the archive and against the shared object, and runs them,
-  under valgrind and the address sanitizer too;
+  under valgrind and the address sanitizer too, and a static program by musl;
 - draws all scripts of the gallery, worked rows and refused calls through C, and holds answers and digests against crates/gallery/stdout;
-- draws random scenes (10,000) through C and holds each byte against the built program or, where there is none, against plain_device.py;
+- draws random scenes through C and holds each byte against the built program (10,000 scenes) or, where there is none, against
+  plain_device.py (400);
 - refuses each request for memory in turn in drawings of the gallery's shorter scripts;
 - prints what a call costs, beside a process;
 - runs python/tests/test_library.py over the installed library, and tools/test_page.py.
 
-A line is printed for each: `ok NAME`, `WRONG NAME: why`, or `skipped NAME: why`. The status is 0 where none is wrong.
+A line is printed for each: `ok NAME`, `FAILED NAME: why`, `skipped NAME: why`, or `fails as known NAME (why): ..` where it is in the list KNOWN of
+this file. The last line counts them. The status is 0 where none failed and one passed.
 """
 
 import argparse
@@ -21,28 +25,30 @@ import hashlib
 import os
 import pathlib
 import random
+import re
 import resource
 import shutil
 import subprocess
 import sys
 import tempfile
-import time
 
 import install_library
 import package_path
 import plain_device
 import random_scenes
+from results import Results, check, told
 from yuzuratchet import __version__
 from yuzuratchet.arguments import whole_number
 from yuzuratchet.errors import ProgramMissing
 from yuzuratchet.library import VARIABLE
+from yuzuratchet.messages import FAULTS, REFUSALS
 from yuzuratchet.program import find_program
 
 TESTS = install_library.LIBRARY / "tests"
 DATA = package_path.TOP / "crates" / "gallery" / "data"
 INDEX = DATA / "index"
 STORED = package_path.TOP / "crates" / "gallery" / "stdout"
-FLAGS = ("-std=c11", "-D_POSIX_C_SOURCE=199309L", "-O1", "-g", "-pthread", "-Wall", "-Wextra", "-Werror")
+FLAGS = ("-std=c11", "-D_POSIX_C_SOURCE=200809L", "-O1", "-g", "-pthread", "-Wall", "-Wextra", "-Werror")
 SANITIZED = ("-fsanitize=address,undefined", "-fno-sanitize-recover=all")
 VALGRIND = ("valgrind", "--quiet", "--error-exitcode=9", "--leak-check=full", "--errors-for-leak-kinds=all")
 SECONDS = 1200
@@ -52,38 +58,128 @@ REFUSED_IN = ("decals.txt", "two-faced-count.txt", "eight-contexts.txt")
 # that is done with each compiler in one script, and under valgrind in some
 FIRST = "lists.txt"
 SLOWLY = ("clear.txt", "lists.txt", "default-state.txt")
+# kilobytes of the stack of a thread on which a call has to do, and of one on which it is seen how much it takes
+STACK, WIDE_STACK = 96, 1024
+ON_A_SMALL_STACK = ("clear.txt", "lists.txt", "eight-contexts.txt", "shadow-volumes.txt")
+# what fails today. A name leaves this list with the change that mends it
+KNOWN = {
+    "small stack": "a slab of words is built on the stack (crates/binmem) and copied from there",
+    "misaligned reports": "misfit_of (crates/yuzuratchet/src/areas.rs) looks at no alignment yet",
+}
+SCENES_BY_PROGRAM, SCENES_BY_PLAIN_DEVICE = 10000, 400
+PROJECT = """cmake_minimum_required(VERSION 3.13)
+project(uses LANGUAGES C)
+find_package(Yuzuratchet {wanted} REQUIRED)
+add_executable(shared "{source}")
+target_link_libraries(shared Yuzuratchet::Yuzuratchet)
+add_executable(static "{source}")
+target_link_libraries(static Yuzuratchet::Static)
+"""
 
 
-class Wrong(Exception):
-    """What a test found, in a sentence."""
+def output(words, text=b"", **environment):
+    """What a program prints, which ends with status 0."""
+    words, more = [str(word) for word in words], {**os.environ, **environment}
+    ran = subprocess.run(words, input=text, capture_output=True, timeout=SECONDS, env=more, check=False)
+    how = f"with status {ran.returncode}" if ran.returncode >= 0 else f"by signal {-ran.returncode}"
+    last = (ran.stderr or ran.stdout).decode(errors="replace").splitlines()[-3:]
+    check(ran.returncode == 0, f"`{pathlib.Path(words[0]).name}` ended {how}: {' | '.join(last)}")
+    return ran.stdout
 
 
-class Tests:
-    """Runs tests one by one, and tells of each."""
+class LibraryTests:
+    """The tests of one installed library."""
 
-    def __init__(self, prefix, folder, scenes):
-        self.prefix, self.folder, self.scenes, self.wrong = prefix, folder, scenes, 0
+    def __init__(self, prefix, folder):
+        self.prefix, self.folder = prefix, folder
+        self.archive, self.shared = prefix / "lib" / "libyuzuratchet.a", prefix / "lib" / install_library.SHARED
+        self.header = prefix / "include" / "yuzuratchet.h"
 
-    def run(self, name, test, *arguments):
-        begun = time.monotonic()
-        try:
-            more = test(*arguments)
-        except (Wrong, install_library.NotBuilt, OSError, subprocess.SubprocessError) as error:
-            self.wrong += 1
-            print(f"WRONG {name}: {error}", flush=True)
-            return False
-        print(f"ok {name} ({time.monotonic() - begun:.1f} s){f': {more}' if more else ''}", flush=True)
-        return True
+    # ---- what is installed
 
-    def skip(self, name, why):
-        print(f"skipped {name}: {why}", flush=True)
+    def layout(self):
+        """The shared object has the version's name, and links lead to it; all of it can be taken away again."""
+        links = {name: os.readlink(self.prefix / "lib" / name) for name in install_library.LINKS}
+        check(links == install_library.LINKS and self.shared.is_file() and not self.shared.is_symlink(), f"the links are {links}")
+        copy = self.folder / "copy"
+        shutil.copytree(self.prefix, copy, symlinks=True)
+        (copy / "lib" / "another").write_text("a file of somebody else's")
+        count = install_library.uninstall(copy)
+        left = [str(it.relative_to(copy)) for it in copy.rglob("*")]
+        check(sorted(left) == ["lib", "lib/another"], f"{left} is left behind")
+        return f"{count} files"
+
+    def names(self):
+        """Header, manual and map name the same calls, of which each has its version and no other name is seen."""
+        calls = sorted(install_library.calls())
+        header, manual = self.header.read_text(encoding="ascii"), install_library.MANUAL.read_text(encoding="ascii")
+        declared = sorted(set(re.findall(r"^[a-z][\w ]* \*?(yuzuratchet_\w+)\(", header, re.M)))
+        check(declared == calls, f"the header declares {declared}, and the map has {calls}")
+        described = sorted(set(re.findall(r"^\.F[no] (yuzuratchet_\w+)", manual, re.M)))
+        check(described == calls, f"the manual describes {described}")
+        statuses = re.findall(r"^    (YUZURATCHET_\w+) = \d+,?$", header, re.M)
+        missing = [it for it in statuses if f".It Dv {it} " not in manual and f", Dv {it} " not in manual]
+        check(len(statuses) == 10 and not missing, f"the manual lacks {missing}")
+        seen = [line.split() for line in output(["nm", "-g", "--defined-only", self.archive]).decode().splitlines()]
+        check(sorted(it[2] for it in seen if len(it) == 3) == calls, f"the archive has the names {seen}")
+
+    def versions(self):
+        """Symbols of the shared object have versions, and the loader is told of the processor that is wanted."""
+        exported = output(["nm", "-D", "--defined-only", "--with-symbol-versions", self.shared]).decode()
+        found = dict(re.findall(r" T (\w+)@@(\w+\.\d+)$", exported, re.M))
+        check(sorted(found) == sorted(install_library.calls()), f"versions have {sorted(found)}")
+        told_of = output(["readelf", "-d", "-n", self.shared]).decode()
+        check(f"[{install_library.SONAME}]" in told_of and "x86-64-v2" in told_of, "soname or processor isn't told")
+
+    def manual(self):
+        """The pages have no fault that mandoc knows of, and the example of the header's page is a program."""
+        if shutil.which("mandoc"):
+            found = subprocess.run(["mandoc", "-T", "lint", install_library.MANUAL], capture_output=True, text=True, check=False).stdout
+            faults = [line for line in found.splitlines() if "mandoc.db" not in line]
+            check(not faults, " | ".join(faults))
+        page = install_library.MANUAL.read_text(encoding="ascii")
+        text = re.search(r"\.Sh EXAMPLES\n\.Bd -literal\n(.*?)\.Ed\n", page, re.S)[1].replace(r"\e", "\\")
+        source = self.folder / "manual.c"
+        source.write_text(text, encoding="ascii")
+        printed = output([self.built("cc", "manual", source)])
+        check(printed == b"pixel 1 1 255 128 0 255 16777215 0\n", f"it prints {printed}")
+        return "" if shutil.which("mandoc") else "the command mandoc is missing, so its faults weren't looked for"
+
+    def package_config(self, compiler):
+        """The line of the README."""
+        environment = {**os.environ, "PKG_CONFIG_PATH": str(self.prefix / "lib" / "pkgconfig")}
+        flags = subprocess.run(["pkg-config", "--cflags", "--libs", "yuzuratchet"], env=environment, capture_output=True, text=True, check=True).stdout.split()
+        install_library.run([compiler, install_library.LIBRARY / "example.c", *flags, "-o", self.folder / "configured"])
+        self.draws_first(self.folder / "configured", LD_LIBRARY_PATH=str(self.prefix / "lib"))
+
+    def cmake(self):
+        """A project of ten lines finds the package, and builds with both libraries; one that wants a later version doesn't find it."""
+        for wanted in ("", "0.1", __version__):
+            self.configured(wanted)
+            output(["cmake", "--build", self.folder / "cmake"])
+            for name in ("shared", "static"):
+                self.draws_first(self.folder / "cmake" / name)
+        for wanted in ("0.99", "1.0"):
+            try:
+                self.configured(wanted)
+            except AssertionError:
+                continue
+            raise AssertionError(f"version {wanted} is found")
+
+    def configured(self, wanted):
+        project = self.folder / "project"
+        shutil.rmtree(self.folder / "cmake", ignore_errors=True)
+        project.mkdir(exist_ok=True)
+        text = PROJECT.format(wanted=wanted, source=install_library.LIBRARY / "example.c")
+        (project / "CMakeLists.txt").write_text(text, encoding="utf-8")
+        output(["cmake", "-S", project, "-B", self.folder / "cmake", f"-DCMAKE_PREFIX_PATH={self.prefix}"])
 
     # ---- building
 
     def built(self, compiler, name, source, *flags, static=True):
         """A program over the library, by its name."""
         out = self.folder / name
-        library = [self.prefix / "lib" / "libyuzuratchet.a"] if static else [f"-L{self.prefix}/lib", "-lyuzuratchet", f"-Wl,-rpath,{self.prefix}/lib"]
+        library = [self.archive] if static else [f"-L{self.prefix}/lib", "-lyuzuratchet", f"-Wl,-rpath,{self.prefix}/lib"]
         install_library.run([compiler, *FLAGS, *flags, f"-I{self.prefix}/include", source, *library, "-o", out])
         return out
 
@@ -93,42 +189,72 @@ class Tests:
             self.built(compiler, f"{compiler}-{source.stem}-shared", source, static=False)
             self.built(compiler, f"{compiler}-{source.stem}-sanitized", source, *SANITIZED)
 
+    def header_in_cpp(self, compiler):
+        install_library.run([compiler, "-x", "c++", "-std=c++11", "-Wall", "-Wextra", "-Werror", "-fsyntax-only", self.header])
+
     # ---- running
 
-    def output(self, words, text=b""):
-        """What a program prints, which ends with status 0."""
-        ran = subprocess.run([str(word) for word in words], input=text, capture_output=True, timeout=SECONDS, check=False)
-        if ran.returncode != 0:
-            last = (ran.stderr or ran.stdout).decode(errors="replace").splitlines()[-3:]
-            raise Wrong(f"`{pathlib.Path(str(words[0])).name}` ended with status {ran.returncode}: {' | '.join(last)}")
-        return ran.stdout
+    def ends_well(self, name):
+        output([self.folder / name])
 
     def refusals(self, compiler, kind="", before=()):
-        told = self.output([*before, self.folder / f"{compiler}-refusals{kind}"]).decode()
-        first, second, third = map(int, __version__.split("."))
-        if told != f"version {10000 * first + 100 * second + third}\n":
-            raise Wrong(f"the library says {told.strip()}, and the package is {__version__}")
+        printed = output([*before, self.folder / f"{compiler}-refusals{kind}"]).decode()
+        check(printed == f"version {version_number()}\n", f"the library says {printed.strip()}, and the package is {__version__}")
+
+    def texts(self, compiler):
+        """Texts are those of the package; each status has its own."""
+        lines = output([self.folder / f"{compiler}-texts"]).decode().splitlines()
+        check(lines.pop() == f"header {version_number()} library {version_number()}", "header, library and package have other versions")
+        found = {tuple(it[:2]): it[2] for it in (line.split(" ", 2) for line in lines)}
+        messages = {**FAULTS, **REFUSALS}
+        for (kind, number), text in found.items():
+            message = messages.get(int(number))
+            if kind == "status":
+                check(int(number) < 10 or text == "no call ends with this status", f"status {number}: {text}")
+            elif message is None:
+                check(text in ("no line is refused with this number", "look into docs/SCRIPT.md"), f"{kind} {number}: {text}")
+            else:
+                check(text == (message.when if kind == "refusal" else message.advice), f"{kind} {number}: {text}")
+        statuses = {text for (kind, _), text in found.items() if kind == "status"}
+        check(len(statuses) == 11, f"{len(statuses)} texts of statuses")
+        return f"{len(messages)} refusals, 10 statuses"
+
+    def small_stack(self, compiler):
+        """A call does on the stack of a small thread; how much it takes is seen on a large one."""
+        most = 0
+        for name in ON_A_SMALL_STACK:
+            text = (DATA / name).read_bytes()
+            most = max(most, int(output([self.folder / f"{compiler}-stack", str(WIDE_STACK)], text)))
+            check(most <= 1024 * STACK, f"{name} takes {most} bytes of stack, and a thread of {STACK} KB is to do")
+            output([self.folder / f"{compiler}-stack", str(STACK)], text)
+        return f"{most} bytes at most"
+
+    def draws_first(self, program, before=(), **environment):
+        """What the example draws, against the plain evaluation."""
+        image = self.folder / "example.tga"
+        lines = output([*before, program, DATA / FIRST, image], **environment)
+        check((lines.decode(), image.read_bytes()) == plain_device.evaluate((DATA / FIRST).read_bytes()), f"{FIRST} has other answers or another image")
 
     def example(self, compiler, before=()):
-        image = self.folder / "example.tga"
-        name = "lists.txt"
-        lines = self.output([*before, self.folder / f"{compiler}-example", DATA / name, image])
-        if (lines.decode(), image.read_bytes()) != plain_device.evaluate((DATA / name).read_bytes()):
-            raise Wrong(f"{name} has other answers or another image")
+        """The example draws, and says why it doesn't."""
+        program = self.folder / f"{compiler}-example"
+        self.draws_first(program, before)
+        script = self.folder / "refused.txt"
+        script.write_text("target 1 1\ni draw 3 0\n", encoding="ascii")
+        ran = subprocess.run([*before, program, script, self.folder / "refused.tga"], capture_output=True, text=True, check=False)
+        check((ran.returncode, ran.stdout) == (1, "refused 2 7\n") and f"line 2: {REFUSALS[7].when}\n" in ran.stderr, f"{ran}")
 
-    def package_config(self, compiler):
-        """The line of the README."""
-        environment = {**os.environ, "PKG_CONFIG_PATH": str(self.prefix / "lib" / "pkgconfig")}
-        flags = subprocess.run(["pkg-config", "--cflags", "--libs", "yuzuratchet"], env=environment, capture_output=True, text=True, check=True).stdout.split()
-        install_library.run([compiler, install_library.LIBRARY / "example.c", *flags, "-o", self.folder / "configured"])
-
-    def header_in_cpp(self, compiler):
-        install_library.run([compiler, "-x", "c++", "-std=c++11", "-Wall", "-Wextra", "-Werror", "-fsyntax-only", self.prefix / "include" / "yuzuratchet.h"])
+    def musl(self):
+        """A static program over musl, whose threads have small stacks."""
+        program = self.folder / "musl-example"
+        install_library.run(["musl-gcc", "-static", "-O1", f"-I{self.prefix}/include", install_library.LIBRARY / "example.c", self.archive, "-o", program])
+        self.draws_first(program)
+        return f"{program.stat().st_size} bytes"
 
     def memory(self, compiler, names, kind="", before=()):
         requests = 0
-        for name in names:
-            requests += int(self.output([*before, self.folder / f"{compiler}-memory{kind}"], (DATA / name).read_bytes()).split()[0])
+        for name in told(names, len(names), "scripts"):
+            requests += int(output([*before, self.folder / f"{compiler}-memory{kind}"], (DATA / name).read_bytes()).split()[0])
         return f"{requests} requests in {len(names)} script{'s' if len(names) > 1 else ''}"
 
     # ---- drawing
@@ -141,8 +267,7 @@ class Tests:
                     batch.stdin.write(b"%d\n" % len(script) + script)
                     batch.stdin.flush()
                     head = batch.stdout.readline().split()
-                    if not head:
-                        raise Wrong("the library ended, or its process did")
+                    check(head, "the library ended, or its process did")
                     yield batch.stdout.read(int(head[1])).decode(), batch.stdout.read(int(head[2]))
             finally:
                 batch.stdin.close()
@@ -150,20 +275,19 @@ class Tests:
 
     def gallery(self, compiler):
         names = INDEX.read_text(encoding="ascii").splitlines()
-        told = []
+        found = []
         for name, (answers, image) in zip(names, self.drawn(compiler, ((DATA / name).read_bytes() for name in names))):
-            told.append(f"{name}\n{answers}image {hashlib.sha256(image).hexdigest()}\n")
-        if "".join(told) != STORED.read_text(encoding="ascii"):
-            raise Wrong("answers or digests differ from crates/gallery/stdout")
+            found.append(f"{name}\n{answers}image {hashlib.sha256(image).hexdigest()}\n")
+        check("".join(found) == STORED.read_text(encoding="ascii"), "answers or digests differ from crates/gallery/stdout")
         return f"{len(names)} scripts"
 
-    def random_scenes(self, compiler, program):
+    def random_scenes(self, compiler, program, scenes):
         chance, refused = random.Random(39), 0
-        texts = (random_scenes.random_scene(chance, number).script().encode() for number in range(self.scenes))
+        texts = (random_scenes.random_scene(chance, number).script().encode() for number in range(scenes))
         script, image = self.folder / "scene.txt", self.folder / "scene.tga"
 
         def kept():
-            for text in texts:
+            for text in told(texts, scenes, "scenes"):
                 script.write_bytes(text)
                 yield text
 
@@ -176,12 +300,12 @@ class Tests:
                 wanted = ran.stdout.decode(), image.read_bytes()
             if (answers, pixels) != wanted:
                 shutil.copy(script, "differs.txt")
-                raise Wrong(f"scene {number} differs: it is in differs.txt")
+                raise AssertionError(f"scene {number} differs: it is in differs.txt")
             refused += "refused" in answers
-        return f"{self.scenes} scenes against {'plain_device.py' if program is None else 'the program'}, of which {refused} end in a refusal"
+        return f"{scenes} scenes against {'plain_device.py' if program is None else 'the program'}, of which {refused} end in a refusal"
 
     def costs(self, compiler, program):
-        library = float(self.output([self.folder / f"{compiler}-calls"]))
+        library = float(output([self.folder / f"{compiler}-calls"]))
         if program is None:
             return f"{library:.0f} microseconds of processor time a call"
         script, image = self.folder / "small.txt", self.folder / "small.tga"
@@ -191,6 +315,12 @@ class Tests:
             subprocess.run([program, script, image], stdout=subprocess.DEVNULL, check=True)
         process = (children_seconds() - begun) / count * 1e6
         return f"{library:.0f} microseconds of processor time a call, {process:.0f} a process"
+
+
+def version_number():
+    """The package's version as the library spells it."""
+    first, second, third = map(int, __version__.split("."))
+    return 10000 * first + 100 * second + third
 
 
 def is_short(name):
@@ -213,79 +343,108 @@ def program_or_none():
         return None
 
 
-def test_compiler(tests, compiler):
+def test_if(results, command, name, test, *arguments):
+    """Runs a test that wants a command, or skips it."""
+    if shutil.which(command):
+        results.test(name, test, *arguments)
+    else:
+        results.skip(name, f"the command {command} is missing")
+
+
+def test_installed(results, tests, compiler):
+    """What is installed, and how it is found."""
+    results.test("layout", tests.layout)
+    results.test("names", tests.names)
+    results.test("symbol versions", tests.versions)
+    results.test("manual", tests.manual)
+    test_if(results, "pkg-config", "pkg-config", tests.package_config, compiler)
+    test_if(results, "cmake", "CMake", tests.cmake)
+    for name in ("g++", "clang++"):
+        test_if(results, name, f"{name} reads the header", tests.header_in_cpp, name)
+
+
+def test_compiler(results, tests, compiler):
     """All that is tried with one compiler."""
-    if not tests.run(f"{compiler} builds example and tests, with -Wall -Wextra -Werror", tests.build_all, compiler):
+    if not results.test(f"{compiler} builds example and tests, with -Wall -Wextra -Werror", tests.build_all, compiler):
         return False
     for kind in ("", "-shared", "-sanitized"):
-        tests.run(f"{compiler} refusals{kind}", tests.refusals, compiler, kind)
-        tests.run(f"{compiler} threads{kind}", tests.output, [tests.folder / f"{compiler}-threads{kind}"])
-        tests.run(f"{compiler} memory{kind}", tests.memory, compiler, [FIRST], kind)
-    tests.run(f"{compiler} example", tests.example, compiler)
-    tests.run(f"{compiler} numbers of 128 bits", tests.output, [tests.folder / f"{compiler}-wide-sanitized"])
+        results.test(f"{compiler} refusals{kind}", tests.refusals, compiler, kind)
+        results.test(f"{compiler} bounds{kind}", tests.ends_well, f"{compiler}-bounds{kind}")
+        results.test(f"{compiler} threads{kind}", tests.ends_well, f"{compiler}-threads{kind}")
+        results.test(f"{compiler} memory{kind}", tests.memory, compiler, [FIRST], kind)
+    results.test(f"{compiler} example", tests.example, compiler)
+    results.test(f"{compiler} numbers of 128 bits", tests.ends_well, f"{compiler}-wide-sanitized")
     return True
 
 
-def test_drawing(tests, compiler):
-    """What takes longer, with one compiler alone."""
+def test_drawing(results, tests, compiler, scenes):
+    """What takes longer, or is the same with each compiler."""
     program = program_or_none()
-    tests.run("gallery", tests.gallery, compiler)
-    tests.run("memory", tests.memory, compiler, [*filter(is_short, INDEX.read_text(encoding="ascii").splitlines()), *REFUSED_IN])
-    if shutil.which("valgrind"):
-        tests.run("refusals under valgrind", tests.refusals, compiler, "", VALGRIND)
-        tests.run("example under valgrind", tests.example, compiler, VALGRIND)
-        tests.run("memory under valgrind", tests.memory, compiler, SLOWLY, "", VALGRIND)
-    else:
-        tests.skip("valgrind", "the command is missing")
-    tests.run("random scenes", tests.random_scenes, compiler, program)
-    tests.run("costs", tests.costs, compiler, program)
+    if scenes is None:
+        scenes = SCENES_BY_PROGRAM if program else SCENES_BY_PLAIN_DEVICE
+    results.test("texts", tests.texts, compiler)
+    results.test("misaligned reports", tests.ends_well, f"{compiler}-misaligned")
+    results.test("small stack", tests.small_stack, compiler)
+    test_if(results, "musl-gcc", "musl", tests.musl)
+    results.test("gallery", tests.gallery, compiler)
+    results.test("memory", tests.memory, compiler, [*filter(is_short, INDEX.read_text(encoding="ascii").splitlines()), *REFUSED_IN])
+    test_if(results, "valgrind", "refusals under valgrind", tests.refusals, compiler, "", VALGRIND)
+    test_if(results, "valgrind", "example under valgrind", tests.draws_first, tests.folder / f"{compiler}-example", VALGRIND)
+    test_if(results, "valgrind", "memory under valgrind", tests.memory, compiler, SLOWLY, "", VALGRIND)
+    results.test("random scenes", tests.random_scenes, compiler, program, scenes)
+    results.test("costs", tests.costs, compiler, program)
     if program is None:
-        tests.skip("the program's bytes and its cost", "crates/tiledraw isn't built, so plain_device.py stood in")
+        results.skip("the program's bytes and its cost", "crates/tiledraw isn't built, so plain_device.py stood in")
 
 
-def test_above(tests):
-    """The Python package over the library, and the page, which have tests of their own."""
-    shared = tests.prefix / "lib" / "libyuzuratchet.so"
+def test_above(results, shared):
+    """The Python package over the library, and the page: each has tests of its own, whose last line is repeated."""
     package = ["sh", package_path.TOP / "python" / "run-tests.sh", "-q", "-k", "test_library"]
-    for words, more in ((package, {VARIABLE: str(shared)}), ([sys.executable, package_path.TOP / "tools" / "test_page.py"], {})):
-        ran = subprocess.run(words, env={**os.environ, **more}, check=False)
-        tests.wrong += ran.returncode != 0
+    page = [sys.executable, package_path.TOP / "tools" / "test_page.py"]
+    results.test("the package over the library", above, package, {VARIABLE: str(shared)})
+    results.test("the page", above, page, {})
 
 
-def test_all(prefix, folder, scenes):
-    tests = Tests(prefix, folder, scenes)
-    if not (prefix / "lib" / "libyuzuratchet.a").exists() and not tests.run("install", install_library.install, prefix):
-        return tests.wrong
+def above(words, more):
+    """Runs tests that tell of themselves, and gives their last line."""
+    last = ""
+    with subprocess.Popen([str(word) for word in words], env={**os.environ, **more}, stdout=subprocess.PIPE, text=True) as ran:
+        for line in ran.stdout:
+            print(line, end="", flush=True)
+            last = line.strip(" =\n") or last
+    check(ran.returncode == 0, last)
+    return last
+
+
+def test_all(results, prefix, folder, scenes):
+    if not (prefix / "lib" / "libyuzuratchet.a").exists() and not results.test("install", install_library.install, prefix):
+        return
+    tests = LibraryTests(prefix, folder)
     compilers = [name for name in ("gcc", "clang") if shutil.which(name)]
     for name in {"gcc", "clang"}.difference(compilers):
-        tests.skip(name, "the command is missing")
-    working = [name for name in compilers if test_compiler(tests, name)]
-    for name, test in (("g++", tests.header_in_cpp), ("clang++", tests.header_in_cpp)):
-        if shutil.which(name):
-            tests.run(f"{name} reads the header", test, name)
-        else:
-            tests.skip(f"{name} reads the header", "the command is missing")
-    if working and shutil.which("pkg-config"):
-        tests.run("pkg-config", tests.package_config, working[0])
-    else:
-        tests.skip("pkg-config", "the command or a C compiler is missing")
+        results.skip(name, "the command is missing")
+    if not compilers:
+        return
+    test_installed(results, tests, compilers[0])
+    working = [name for name in compilers if test_compiler(results, tests, name)]
     if working:
-        test_drawing(tests, working[0])
-    test_above(tests)
-    return tests.wrong
+        test_drawing(results, tests, working[0], scenes)
+    test_above(results, tests.shared)
 
 
 def main():
     parser = argparse.ArgumentParser(description=__doc__, formatter_class=argparse.RawDescriptionHelpFormatter)
-    parser.add_argument("--scenes", metavar="N", type=whole_number(0), default=10000, help="how many random scenes (10000)")
+    many = f"how many random scenes ({SCENES_BY_PROGRAM}, or {SCENES_BY_PLAIN_DEVICE} where no program is built)"
+    parser.add_argument("--scenes", metavar="N", type=whole_number(0), help=many)
     parser.add_argument("--prefix", metavar="FOLDER", type=pathlib.Path, help="where the library is installed, or is to be")
     words = parser.parse_args()
+    results = Results(KNOWN, [install_library.NotBuilt])
     with tempfile.TemporaryDirectory() as folder:
         folder = pathlib.Path(folder)
         prefix = words.prefix.absolute() if words.prefix else folder / "prefix"
-        wrong = test_all(prefix, folder, words.scenes)
-    print(f"{wrong} wrong")
-    return 1 if wrong else 0
+        test_all(results, prefix, folder, words.scenes)
+    print(results.last_line)
+    return results.status
 
 
 if __name__ == "__main__":

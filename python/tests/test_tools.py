@@ -22,7 +22,7 @@ TOOLS = sorted(
     for path in (TOP / folder).glob("*.py")
     if os.access(path, os.X_OK)
 )
-MODULES = {"browser", "package_path", "random_scenes", "mutated_scripts"}
+MODULES = {"browser", "package_path", "random_scenes", "mutated_scripts", "results"}
 
 
 def run_tool(name: str, *words: str, **environment: str) -> subprocess.CompletedProcess[str]:
