@@ -147,10 +147,33 @@ class Browser:
         for kind in ("mousePressed", "mouseReleased"):
             self.move(x, y, kind, button="left", clickCount=1)
 
-    def key(self, key, code=0):
-        """Presses a key."""
+    def drag(self, x, y, to_x, to_y, steps=4):
+        """Moves the pointer to a place, and from there to another one while it is pressed."""
+        self.move(x, y)
+        self.move(x, y, "mousePressed", button="left", clickCount=1)
+        for step in range(1, steps + 1):
+            self.move(x + (to_x - x) * step / steps, y + (to_y - y) * step / steps, button="left", buttons=1)
+        self.move(to_x, to_y, "mouseReleased", button="left", clickCount=1)
+
+    def wheel(self, x, y, turn):
+        """Turns the wheel at a place: downwards by so many pixels, or upwards."""
+        self.move(x, y, "mouseWheel", deltaX=0, deltaY=turn)
+
+    def tap(self, x, y):
+        """Taps with a finger; `touch` has to be on."""
+        self.call("Input.dispatchTouchEvent", type="touchStart", touchPoints=[{"x": x, "y": y}])
+        self.call("Input.dispatchTouchEvent", type="touchEnd", touchPoints=[])
+
+    def touch(self, is_on):
+        """Whether the window is touched by fingers."""
+        self.call("Emulation.setTouchEmulationEnabled", enabled=is_on, maxTouchPoints=1)
+
+    def key(self, key, code=0, modifiers=0, text=None):
+        """Presses a key; a text is what it types."""
+        more = {"text": text} if text else {}
         for kind in ("keyDown", "keyUp"):
-            self.call("Input.dispatchKeyEvent", type=kind, key=key, code=key, windowsVirtualKeyCode=code)
+            self.call("Input.dispatchKeyEvent", type=kind, key=key, code=key, windowsVirtualKeyCode=code, modifiers=modifiers, **more)
+            more = {}
 
     def type(self, text):
         """Types a text where the caret is."""

@@ -63,22 +63,35 @@ def test_the_page_is_made_the_same_twice(built: str) -> None:
 
 
 def test_each_source_stands_in_it(built: str) -> None:
-    names = {path.stem for path in (TOP / "web").glob("*.js")}
-    assert names == {*page.FOR_THE_WORKER, *page.FOR_THE_PAGE}
-    for name in names:
-        assert (TOP / "web" / f"{name}.js").read_text(encoding="utf-8") in built
-        assert "</script" not in (TOP / "web" / f"{name}.js").read_text(encoding="utf-8")
+    sources = {path.relative_to(TOP / "web").as_posix() for path in (TOP / "web").glob("*/*.js")}
+    marks = set(re.findall(r"^// (\w+/\w+\.js)$", built, re.M))
+    assert marks == {name for name in sources if not name.startswith("tests/")}
+    for name in marks:
+        text = (TOP / "web" / name).read_text(encoding="utf-8")
+        assert "</script" not in text
+        # the last function stands there letter for letter
+        assert text.rpartition("\n\n")[2].replace("\nexport ", "\n") in built
+
+
+def test_a_page_says_that_it_wants_javascript(built: str) -> None:
+    assert re.search(r"<noscript>.*JavaScript.*</noscript>", built)
 
 
 def test_numbers_and_words_are_those_of_the_package(built: str) -> None:
     tables = json.loads(element(built, "tables"))
     for number, message in {**FAULTS, **REFUSALS}.items():
-        assert tables["messages"][str(number)] == {"when": message.when, "advice": message.advice}
+        kind = "fault" if number in FAULTS else "refusal"
+        told = {"kind": kind, "when": message.when, "advice": message.advice}
+        assert tables["messages"][str(number)] == told
     assert set(tables["words"]) == {"target", *WORDS}
-    assert tables["words"]["vb"]["repeats"] and not tables["words"]["draw"]["repeats"]
-    assert json.loads(element(built, "device")) == DEVICE
-    alpha = {"name": "alpha", "range": "0 to 255", "values": {}}
-    assert tables["words"]["clearc"]["arguments"][3] == alpha
+    assert tables["words"]["vb"]["counts"] is None and tables["words"]["raster"]["counts"] == [3, 4]
+    assert (tables["limits"], tables["actors"]) == (DEVICE["limits"], DEVICE["actors"])
+    alpha = tables["words"]["clearc"]["arguments"][3]
+    assert (alpha["name"], alpha["range"], alpha["values"]) == ("alpha", "0 to 255", {})
+    assert (alpha["least"], alpha["most"], alpha["butZero"], alpha["isContext"]) == (0, 255, *[False] * 2)
+    assert tables["words"]["raster"]["arguments"][3]["butZero"]
+    assert tables["words"]["exec"]["arguments"][0]["isContext"]
+    assert tables["defaults"]["raster"] == "3 0 0" and tables["defaults"]["blend"] == "0 4 15"
     named = {
         (word["name"], it["name"].split(".")[-1]): it["values"]
         for word in tables["words"].values()

@@ -15,6 +15,7 @@ from dataclasses import asdict, dataclass
 from pathlib import Path
 from typing import Final
 
+from .bundle import bundled
 from .device import DEVICE
 from .errors import PageMissing
 from .labels import Labels
@@ -26,11 +27,11 @@ from .words import TARGET, WORDS, Argument, Word
 VARIABLE: Final = "YUZURATCHET_PAGE"
 BUILT: Final = Path("web", "out", "index.html")
 
-FOR_THE_WORKER: Final = ("script", "targa", "planes", "device", "worker")
-"""Sources that run in the page's worker: the page has them as text."""
+WORKER: Final = "engine/worker.js"
+"""The source that the page's worker begins with: the page has it as text, with what it imports."""
 
-FOR_THE_PAGE: Final = ("tables", "jobs", "editor", "view", "page")
-"""Sources that run in the page, in this order."""
+PAGE: Final = "page/main.js"
+"""The source that the page begins with."""
 
 HOW_TO_BUILD: Final = f"""\
 The page is built in a clone of the repository, of its sources and the WebAssembly module:
@@ -70,16 +71,15 @@ def build_page(sources: Path, module: bytes, gallery: list[Entry], opening: str)
     style = f"<style>\n{(sources / 'style.css').read_text(encoding='utf-8')}</style>"
     menu = json.dumps([asdict(entry) for entry in gallery]).encode("ascii")
     data = [
-        _json("device", DEVICE),
-        _json("tables", {"messages": message_table(), "words": word_table()}),
+        _json("tables", tables()),
         _json("opening", {"name": opening, "text": ""}),
         _packed("gallery", menu),
         _packed("module", module),
     ]
     code = [
-        _script(sources, name, f' type="text/plain" id="code-{name}"') for name in FOR_THE_WORKER
+        f'<script type="text/plain" id="worker">\n{bundled(sources, WORKER)}</script>',
+        f"<script>\n{bundled(sources, PAGE)}</script>",
     ]
-    code += [_script(sources, name, "") for name in FOR_THE_PAGE]
     for mark, text in (
         ("style.css", style),
         ("data", "\n".join(data)),
@@ -105,9 +105,26 @@ def with_script(page: str, name: str, text: str, labels: Labels = Labels()) -> s
     return opening.sub(lambda _: _json("opening", shown), page)
 
 
+def tables() -> dict[str, object]:
+    """What the page knows of scripts, from device.json: words, limits, the states as they are at first, and what
+    the numbers of a refused line mean."""
+    return {
+        "actors": DEVICE["actors"],
+        "words": word_table(),
+        "limits": LIMITS,
+        "defaults": dict(line.partition(" ")[::2] for line in DEVICE["default_state"]),
+        "messages": message_table(),
+    }
+
+
 def message_table() -> dict[str, dict[str, str]]:
     """What the numbers of a refused line mean, for the page."""
-    return {str(number): asdict(message) for number, message in {**FAULTS, **REFUSALS}.items()}
+    kinds = {"fault": FAULTS, "refusal": REFUSALS}
+    return {
+        str(number): {"kind": kind, **asdict(message)}
+        for kind, messages in kinds.items()
+        for number, message in messages.items()
+    }
 
 
 def word_table() -> dict[str, dict[str, object]]:
@@ -117,7 +134,15 @@ def word_table() -> dict[str, dict[str, object]]:
 
 def _argument(argument: Argument) -> dict[str, object]:
     values = {str(value): name for name, value in argument.names.items()}
-    told: dict[str, object] = {"name": argument.name, "range": argument.range, "values": values}
+    told: dict[str, object] = {
+        "name": argument.name,
+        "range": argument.range,
+        "least": argument.least,
+        "most": argument.most,
+        "butZero": argument.but_zero,
+        "isContext": argument.is_context,
+        "values": values,
+    }
     if argument.unit:
         parts, of = argument.unit
         return {**told, "unit": [LIMITS[parts], of]}
@@ -134,8 +159,11 @@ def _word(word: Word) -> dict[str, object]:
     return {
         "name": word.name,
         "actors": actors,
+        "immediate": word.immediate,
+        "deferred": word.deferred,
+        "does": DEVICE["words"][word.name]["does"],
         "arguments": arguments,
-        "repeats": word.counts is None,
+        "counts": word.counts,
     }
 
 
@@ -149,7 +177,3 @@ def _packed(name: str, data: bytes) -> str:
     text = base64.b64encode(gzip.compress(data, 9, mtime=0)).decode("ascii")
     return f'<script type="text/plain" id="{name}">{text}</script>'
 
-
-def _script(sources: Path, name: str, attributes: str) -> str:
-    text = (sources / f"{name}.js").read_text(encoding="utf-8")
-    return f"<script{attributes}>\n{text}</script>"

@@ -1,0 +1,107 @@
+// Runs the page's device in node, as tools/test_page.py asks: what the worker runs, and no page.
+//
+//     node page_in_node.mjs MODULE.wasm TABLES.json TASK FOLDER NAME ..
+//
+// Of each script NAME of FOLDER it prints, by the TASK
+//
+//     gallery     answers and digest, as crates/gallery/stdout has them
+//     history     how many lines changed some pixels, which it asks in two ways
+//     steps       the history of four pixels, as JSON
+//     memory      its name, where 200 drawings more take no more memory
+//     blamed      the line and the number that are told, and which letters of the line are to blame, as JSON
+
+import fs from "fs";
+import path from "path";
+import { createHash } from "crypto";
+
+import { blame } from "../web/engine/blame.js";
+import { Device } from "../web/engine/device.js";
+import { PixelHistory, same } from "../web/engine/history.js";
+import { Language } from "../web/engine/language.js";
+import { planesBehind } from "../web/engine/planes.js";
+import { answersOf, pixelsBehind, play, refusalOf } from "../web/engine/playing.js";
+import { Script, textOf } from "../web/engine/script.js";
+import { decodeTarga } from "../web/engine/targa.js";
+
+const [module, tablesFile, task, folder, ...names] = process.argv.slice(2);
+const tables = JSON.parse(fs.readFileSync(tablesFile, "utf8"));
+
+function gallery(device, name, bytes) {
+    const { status, lines, image } = device.draw(bytes);
+    const answers = textOf(lines);
+    if ((status === 1) !== (refusalOf(answersOf(lines)) !== null)) throw new Error(`${name}: status ${status} beside ${answers}`);
+    console.log(`${name}\n${answers}image ${createHash("sha256").update(image).digest("hex")}`);
+}
+
+/** The steps of a pixel. */
+function stepsOf(draw, script, pixel) {
+    return new PixelHistory(draw, script, tables, pixel).steps(script.count);
+}
+
+/** Compares the lines that a pixel's history tells with those behind which the pixel holds something else than before. */
+function history(device, name, bytes) {
+    const draw = (text) => device.draw(text);
+    const script = new Script(bytes);
+    const played = play(draw, script, script.count);
+    if (played.refused) return;
+    const { width, height } = decodeTarga(played.image);
+    const planes = planesBehind(draw, script, script.count, { width, height }, 1);
+    let changes = 0;
+    for (let at = 0; at < 12; at++) {
+        const pixel = { x: (at * 7919 + 3) % width, y: (at * 104729 + 5) % height };
+        const area = { left: pixel.x, top: pixel.y, width: 1, height: 1 };
+        const held = Array.from({ length: script.count }, (_, line) => pixelsBehind(draw, script, line + 1, area)[0]);
+        const steps = stepsOf(draw, script, pixel);
+        const plain = held.map((_, line) => line + 1).filter((line) => line > 1 && !same(held[line - 1], held[line - 2]));
+        const told = steps.filter(({ before, after }) => !same(before, after));
+        const lines = new Set(told.map(({ line, by }) => by || line));
+        const end = steps.length ? steps[steps.length - 1].after : held[held.length - 1];
+        const isChain = steps.every(({ before }, place) => place === 0 || same(before, steps[place - 1].after));
+        if (!plain.every((line) => lines.has(line)) || !same(end, held[held.length - 1]) || !isChain) {
+            throw new Error(`${name} (${pixel.x}, ${pixel.y}): ${JSON.stringify({ lines: [...lines], plain, end, steps })}`);
+        }
+        const place = pixel.y * width + pixel.x;
+        if (planes.depth[place] !== end.depth || planes.stencil[place] !== end.stencil) throw new Error(`${name}: planes differ`);
+        changes += told.length;
+    }
+    console.log(`${name} ${changes}`);
+}
+
+/** Prints pixels, and of each its steps: line, the line that executed it or null, triangle and its depth, the outcome, and what is held behind. */
+function steps(device, name, bytes) {
+    const draw = (text) => device.draw(text);
+    const script = new Script(bytes);
+    const { refused, image } = play(draw, script, script.count);
+    const { width, height } = refused ? { width: 1, height: 1 } : decodeTarga(image);
+    const found = Array.from({ length: refused ? 0 : 4 }, (_, at) => {
+        const [x, y] = [(at * 7919 + 11) % width, (at * 104729 + 2) % height];
+        const told = stepsOf(draw, script, { x, y }).map(({ line, by, triangle, outcome, after }) =>
+            [line, by, triangle && triangle.number, triangle && triangle.depth, outcome, [...after.colour, after.depth, after.stencil]]);
+        return [x, y, told];
+    });
+    console.log(JSON.stringify(found));
+}
+
+/** Draws so often that what isn't given back would be seen. */
+function memory(device, name, bytes) {
+    const drawn = JSON.stringify(device.draw(bytes));
+    const size = device.calls.memory.buffer.byteLength;
+    for (let times = 0; times < 200; times++) device.draw(bytes);
+    if (device.calls.memory.buffer.byteLength !== size) throw new Error(`${name}: the memory has grown`);
+    if (JSON.stringify(device.draw(bytes)) !== drawn) throw new Error(`${name}: another answer`);
+    console.log(name);
+}
+
+/** Prints what is told of a script and which letters are to blame, or null where it is drawn. */
+function blamed(device, name, bytes) {
+    const refused = refusalOf(answersOf(device.draw(bytes).lines));
+    const script = new Script(bytes);
+    const [, width, height] = script.count ? script.words(1) : [];
+    const isThere = refused && refused.line >= 1 && refused.line <= script.count;
+    const size = { width: Number(width), height: Number(height) };
+    const place = isThere ? blame(new Language(tables), script.text(refused.line), refused, size) : null;
+    console.log(JSON.stringify(refused && [refused.line, refused.number, place && place.start, place && place.end]));
+}
+
+const device = await Device.of(fs.readFileSync(module));
+for (const name of names) ({ gallery, history, steps, memory, blamed })[task](device, name, new Uint8Array(fs.readFileSync(path.join(folder, name))));

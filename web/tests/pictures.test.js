@@ -1,0 +1,75 @@
+// Images of the device, and pictures and files that are made of them.
+
+import assert from "assert/strict";
+import test from "node:test";
+import zlib from "zlib";
+
+import { difference } from "../engine/difference.js";
+import { depthPicture, rangeOf, stencilPicture } from "../engine/planes.js";
+import { encodePng } from "../engine/png.js";
+import { decodeTarga, opaque } from "../engine/targa.js";
+
+const DEEPEST = 16777215;
+const HEADER = [0, 0, 2, 0, 0, 0, 0, 0, 0, 0, 0, 0, 2, 0, 1, 0, 32, 40];
+
+test("an image has blue first, and its alpha", () => {
+    const picture = decodeTarga(Uint8Array.from([...HEADER, 1, 2, 3, 4, 250, 251, 252, 0]));
+    assert.deepEqual([picture.width, picture.height, [...picture.pixels]], [2, 1, [3, 2, 1, 4, 252, 251, 250, 0]]);
+    assert.deepEqual([...opaque(picture).pixels], [3, 2, 1, 255, 252, 251, 250, 255]);
+    assert.equal(picture.pixels[3], 4, "the picture stays as it was");
+    assert.throws(() => decodeTarga(Uint8Array.from(HEADER)), /another form/);
+});
+
+/** The chunks of a PNG, by their names, each without its length and its sum. */
+function chunksOf(bytes) {
+    const found = {};
+    for (let at = 8; at < bytes.length;) {
+        const size = bytes.readUInt32BE(at);
+        found[bytes.toString("latin1", at + 4, at + 8)] = bytes.subarray(at + 8, at + 8 + size);
+        at += 12 + size;
+    }
+    return found;
+}
+
+test("a PNG has the bytes of a picture as they are", async () => {
+    const picture = { width: 2, height: 2, pixels: Uint8ClampedArray.from([200, 100, 50, 3, 1, 2, 3, 0, 255, 254, 253, 255, 9, 8, 7, 128]) };
+    const bytes = Buffer.from(await (await encodePng(picture, true)).arrayBuffer());
+    assert.equal(bytes.toString("hex", 0, 8), "89504e470d0a1a0a");
+    assert.ok(bytes.toString("hex").endsWith("0000000049454e44ae426082"), "the sum of the last chunk is another");
+    const { IHDR, IDAT } = chunksOf(bytes);
+    assert.equal(IHDR.toString("hex"), "00000002000000020806000000");
+    assert.deepEqual([...zlib.inflateSync(IDAT)], [0, ...picture.pixels.slice(0, 8), 0, ...picture.pixels.slice(8)]);
+    const other = chunksOf(Buffer.from(await (await encodePng(picture, false)).arrayBuffer()));
+    assert.equal(other.IHDR[9], 2);
+    assert.deepEqual([...zlib.inflateSync(other.IDAT)], [0, 200, 100, 50, 1, 2, 3, 0, 255, 254, 253, 9, 8, 7]);
+});
+
+test("depths are grey between the nearest and the farthest, and black where nothing was drawn", () => {
+    const depth = Uint32Array.from([100, 200, 300, DEEPEST]);
+    const planes = { width: 4, height: 1, depth, stencil: new Uint8Array(4) };
+    assert.deepEqual(rangeOf(depth, DEEPEST), { near: 100, far: 300 });
+    const greys = (range) => [...depthPicture(planes, range, DEEPEST).pixels].filter((_, at) => at % 4 === 0);
+    assert.deepEqual(greys({ near: 100, far: 300 }), [255, 148, 40, 0]);
+    assert.deepEqual(greys({ near: 200, far: 300 }), [255, 255, 40, 0]);
+    assert.deepEqual(greys({ near: 100, far: 200 }), [255, 40, 40, 0]);
+    assert.deepEqual(greys({ near: 200, far: 100 }), [255, 255, 255, 0]);
+    assert.deepEqual(rangeOf(Uint32Array.from([DEEPEST]), DEEPEST), { near: DEEPEST, far: DEEPEST });
+});
+
+test("stencil values that stand next to each other have other colours, and 0 is black", () => {
+    const stencil = Uint8Array.from({ length: 256 }, (_, value) => value);
+    const { pixels } = stencilPicture({ width: 256, height: 1, depth: new Uint32Array(256), stencil });
+    const colours = Array.from({ length: 256 }, (_, value) => String(pixels.slice(4 * value, 4 * value + 4)));
+    assert.equal(colours[0], "0,0,0,255");
+    assert.ok(colours.every((colour, at) => at === 0 || colour !== colours[at - 1]));
+});
+
+test("a difference has its place, its count and the largest of each channel", () => {
+    const a = [1, 2, 3, 4, 5, 6, 7, 8, 9, 10, 11, 12, 0, 0, 0, 0];
+    const b = [1, 2, 3, 4, 5, 9, 7, 8, 9, 10, 11, 12, 0, 1, 0, 200];
+    const found = difference(a, b, 2, 4);
+    assert.deepEqual({ ...found, mask: [...found.mask] }, {
+        mask: [0, 1, 0, 1], count: 2, most: [0, 3, 0, 200], box: { left: 1, top: 0, right: 2, bottom: 2 },
+    });
+    assert.equal(difference(a, a, 2, 4), null);
+});
