@@ -34,6 +34,7 @@ class Browser:
     """One browser with one page. `with Browser(program) as it:` ends it."""
 
     def __init__(self, program, options=()):
+        self.program = program
         self.folder = tempfile.TemporaryDirectory(prefix="browser-", ignore_cleanup_errors=True)
         theirs, self.out = _pipe()
         self.into, ours = _pipe()

@@ -22,7 +22,10 @@ TOOLS = sorted(
     for path in (TOP / folder).glob("*.py")
     if os.access(path, os.X_OK)
 )
-MODULES = {"browser", "package_path", "random_scenes", "mutated_scripts", "results"}
+MODULES = {
+    *("browser", "mutated_scripts", "package_path", "page_features", "page_in_browser"),
+    *("random_scenes", "results"),
+}
 
 
 def run_tool(name: str, *words: str, **environment: str) -> subprocess.CompletedProcess[str]:

@@ -28,9 +28,12 @@ export class Editor {
         root.querySelector(".code")?.append(this.code);
         /** @type {Marks} */
         this.state = { last: 1, fault: null, touched: [] };
+        this.scroll = { top: 0, left: 0 };
+        this.isDue = false;
         /** @type {number[] | null} */
         this.starts = null;
         this.letter = this.widthOfLetter(root);
+        this.measures = this.measured();
         this.listen(hears);
     }
 
@@ -38,16 +41,19 @@ export class Editor {
     listen(hears) {
         this.area.addEventListener("input", () => {
             this.starts = null;
-            this.show();
+            this.due();
             hears.onEdit();
         });
-        this.area.addEventListener("scroll", () => this.show(), { passive: true });
+        this.area.addEventListener("scroll", () => this.due(), { passive: true });
         for (const event of ["keyup", "click", "focus"]) this.area.addEventListener(event, hears.onCaret);
         this.gutter.addEventListener("click", (event) => {
             const line = Number(/** @type {HTMLElement} */ (event.target).dataset.line);
             if (line) hears.onLine(line);
         });
-        new ResizeObserver(() => this.show()).observe(this.area);
+        new ResizeObserver(() => {
+            this.measures = this.measured();
+            this.due();
+        }).observe(this.area);
     }
 
     /** @param {HTMLElement} root */
@@ -68,6 +74,7 @@ export class Editor {
         this.area.scrollTo(0, 0);
         this.area.setSelectionRange(0, 0);
         this.starts = null;
+        this.due();
     }
 
     /** Where each line begins; a line feed at the end begins no line. */
@@ -122,9 +129,21 @@ export class Editor {
      * @param {Partial<Marks>} state
      */
     mark(state) {
+        const before = JSON.stringify(this.state);
         Object.assign(this.state, state);
+        if (JSON.stringify(this.state) === before) return;
         this.area.setAttribute("aria-invalid", String(this.state.fault !== null));
-        this.show();
+        this.due();
+    }
+
+    /** Draws anew what is in view, once behind all that happens now. */
+    due() {
+        if (this.isDue) return;
+        this.isDue = true;
+        queueMicrotask(() => {
+            this.isDue = false;
+            this.show();
+        });
     }
 
     /**
@@ -137,7 +156,7 @@ export class Editor {
         const top = (line - 1) * height;
         const { scrollTop, clientHeight } = this.area;
         if (top < scrollTop || top + 2 * height > scrollTop + clientHeight) this.area.scrollTop = top - clientHeight / 3;
-        this.show();
+        this.due();
     }
 
     /**
@@ -154,10 +173,12 @@ export class Editor {
         this.reveal(line);
     }
 
-    /** The height of a line, and how far text stands from the upper left corner. */
-    get measures() {
+    /** The height of a line, how far text stands from the upper left corner, and the size of what is in view. */
+    measured() {
         const style = getComputedStyle(this.area);
-        return { height: parseFloat(style.lineHeight), top: parseFloat(style.paddingTop), left: parseFloat(style.paddingLeft) };
+        const { clientWidth, clientHeight } = this.area;
+        const [height, top, left] = [style.lineHeight, style.paddingTop, style.paddingLeft].map(parseFloat);
+        return { height, top, left, clientWidth, clientHeight };
     }
 
     /**
@@ -168,15 +189,14 @@ export class Editor {
      */
     placeOf(line, column) {
         const { height, top, left } = this.measures;
-        return {
-            left: left + column * this.letter - this.area.scrollLeft, top: top + (line - 1) * height - this.area.scrollTop, height,
-        };
+        return { left: left + column * this.letter - this.scroll.left, top: top + (line - 1) * height - this.scroll.top, height };
     }
 
     /** Draws numbers, marks and letters of the lines that are in view. */
     show() {
-        const { height, top } = this.measures;
-        const { scrollTop, clientHeight } = this.area;
+        const { scrollTop, scrollLeft } = this.area;
+        this.scroll = { top: scrollTop, left: scrollLeft };
+        const { height, top, clientHeight } = this.measures;
         const first = Math.max(1, Math.floor((scrollTop - top) / height) + 1);
         const end = Math.min(this.count, first + Math.ceil(clientHeight / height) + 1);
         const numbers = [];
@@ -253,8 +273,8 @@ export class Editor {
         const text = this.lineText(line);
         const made = element("div", { className: "row" });
         const isLong = text.length > SHORT && /^[ -~]*$/.test(text);
-        const from = isLong ? Math.max(0, Math.floor(this.area.scrollLeft / this.letter) - 8) : 0;
-        const to = isLong ? from + Math.ceil(this.area.clientWidth / this.letter) + 24 : text.length;
+        const from = isLong ? Math.max(0, Math.floor(this.scroll.left / this.letter) - 8) : 0;
+        const to = isLong ? from + Math.ceil(this.measures.clientWidth / this.letter) + 24 : text.length;
         const { left, top } = this.placeOf(line, from);
         made.style.top = `${top}px`;
         made.style.left = `${left}px`;

@@ -331,11 +331,10 @@ export class Page {
     besides(told, name, other) {
         this.view.showBeside(told.picture);
         if (told.isSameSize) this.pixels.ask({ last: this.shown, other });
-        if (!told.picture || !told.isSameSize) {
-            this.tellDifference(told.picture ? `${name} has a target of another size.` : `${name} has no image: a line of it is refused.`);
-            return;
-        }
-        this.showDifference(told.difference, "differ", `Nothing of what is shown differs from ${name}.`);
+        const until = told.refused ? ` ${name} is drawn as far as its line ${told.refused.line}, which is refused.` : "";
+        if (!told.picture) this.tellDifference(`${name} has no image.${until}`);
+        else if (!told.isSameSize) this.tellDifference(`${name} has a target of another size.${until}`);
+        else this.showDifference(told.difference, "differ", `Nothing of what is shown differs from ${name}.`, until);
     }
 
     /**
@@ -344,11 +343,12 @@ export class Page {
      * @param {Difference | null} difference
      * @param {string} verb
      * @param {string} none what is said where they don't
+     * @param {string} [more] what is said besides
      */
-    showDifference(difference, verb, none) {
+    showDifference(difference, verb, none, more = "") {
         this.view.cover(difference && difference.mask);
         if (!difference) {
-            this.tellDifference(none);
+            this.tellDifference(none + more);
             return;
         }
         const { count, mask, box, most } = difference;
@@ -356,7 +356,7 @@ export class Page {
         const largest = names.map((name, at) => `${name} ${most[at]}`).join(", ");
         const many = `${counted(count)} of ${counted(mask.length)} pixels`;
         const where = `in columns ${box.left} to ${box.right - 1} and rows ${box.top} to ${box.bottom - 1}`;
-        this.tellDifference(verb === "differ" ? `${many} differ, ${where}; at most by ${largest}.` : `${verb} ${many}, ${where}; at most by ${largest}.`);
+        this.tellDifference(`${verb === "differ" ? `${many} differ` : `${verb} ${many}`}, ${where}; at most by ${largest}.${more}`);
     }
 
     /** @param {string} text */

@@ -136,17 +136,19 @@ function settingText(language, { word: name, line, numbers, count }) {
     }
     const given = line ? numbers : (language.tables.defaults[name] || "").split(" ").filter(Boolean);
     if (!given.length) return name === "topology" ? "not set" : "none";
-    return given.map((number, at) => argumentText(word.arguments[at], number)).join(", ");
+    return given.map((number, at) => argumentText(name, word.arguments[at], number)).join(", ");
 }
 
 /**
+ * @param {string} word
  * @param {Argument} argument
  * @param {string} number
  */
-function argumentText({ name, values }, number) {
+function argumentText(word, { name, least, most, values }, number) {
     const face = FACES.find((it) => name.startsWith(`${it}.`));
     const short = face ? `${face.split("_")[0]} ${name.slice(face.length + 1)}` : name;
-    return `${short.replace(/_/g, " ")} ${values[number] || number}`;
+    const value = values[number] || (least === 0 && most === 1 ? ["off", "on"][Number(number)] : number);
+    return name === word ? value : `${short.replace(/_/g, " ")} ${value}`;
 }
 
 // ---- pixels
@@ -217,23 +219,24 @@ export function stepsShown(language, steps, isWhole, onLine) {
     const more = element("tr", {}, element("td", { className: "quiet", colSpan: 6 }, `${counted(left)} more before these`));
     const rows = shown.map((step) => element("tr", {},
         element("td", {}, lineButton(step.line, onLine), ...(step.by ? [" by ", lineButton(step.by, onLine)] : [])),
-        element("td", {}, ...callShown(step)),
-        element("td", { className: same(step.before, step.after) ? "quiet" : "" }, outcomeText(language, step)),
+        callShown(step),
+        element("td", { className: same(step.before, step.after) ? "words quiet" : "words" }, outcomeText(language, step)),
         ...heldShown(step.after, step.before)));
     const body = element("tbody", {}, left ? more : start, ...rows);
     return element("table", { className: "changes" }, element("thead", {}, element("tr", {}, ...head)), body);
 }
 
 /**
- * What was called: the word, and of a draw the triangle, its colour and its depth there.
+ * What was called: the word, and of a draw the triangle.
  *
  * @param {Step} step
- * @returns {(Node | string)[]}
  */
 function callShown({ word, triangle }) {
-    if (!triangle) return [word];
+    if (!triangle) return element("td", {}, word);
     const { number, of, colour, depth } = triangle;
-    return [`${word}, ${of === 1 ? "" : `triangle ${number} of ${of}, `}`, ...colourShown(colour), ` at ${depth}`];
+    const [swatch] = colourShown(colour);
+    const title = `its colour is ${colour.join(" ")}, and its depth there ${depth}`;
+    return element("td", { className: "words", title }, swatch, of === 1 ? word : `${word}, triangle ${number} of ${of}`);
 }
 
 /**

@@ -50,7 +50,7 @@ class Pane {
     }
 
     /**
-     * Takes so many of the page's pixels for one of the target, and stands on whole pixels of the screen.
+     * Takes so many of the page's pixels for one of the target. The browser itself puts a canvas on whole pixels of the screen.
      *
      * @param {number} scale
      */
@@ -59,14 +59,6 @@ class Pane {
             canvas.style.width = `${Math.max(1, this.size.width) * scale}px`;
             canvas.style.height = `${Math.max(1, this.size.height) * scale}px`;
         }
-    }
-
-    align() {
-        const ratio = window.devicePixelRatio;
-        this.root.style.translate = "none";
-        const { left, top } = this.canvas.getBoundingClientRect();
-        const [x, y] = [left, top].map((at) => Math.round(at * ratio) / ratio - at);
-        this.root.style.translate = `${x}px ${y}px`;
     }
 
     /**
@@ -138,6 +130,7 @@ export class View {
      * @param {Picture | null} picture
      */
     showBeside(picture) {
+        if (!picture && this.beside.root.hidden) return;
         this.beside.root.hidden = !picture;
         this.beside.show(picture);
         this.fit();
@@ -177,7 +170,6 @@ export class View {
         const now = this.main.canvas.getBoundingClientRect();
         this.stage.scrollLeft += now.left + x * now.width - at.clientX;
         this.stage.scrollTop += now.top + y * now.height - at.clientY;
-        this.align();
     }
 
     /** Where the marked pixel stands in the window, or else the middle of the stage. */
@@ -206,13 +198,8 @@ export class View {
         if (!this.size.width) return;
         this.zoom = this.chosen || this.fitting;
         for (const pane of [this.main, this.beside]) pane.fit(this.scale);
-        this.align();
         this.mark(this.marked);
         this.stage.dispatchEvent(new CustomEvent("zoom"));
-    }
-
-    align() {
-        for (const pane of [this.main, this.beside]) pane.align();
     }
 
     /** The zoom as it is told. */
