@@ -4,8 +4,8 @@
     tools/install_library.py PREFIX [--stage FOLDER] [--libdir NAME]
     tools/install_library.py PREFIX --uninstall
 
-Into PREFIX go the header, an archive, a shared object with its links, a file for pkg-config, a package for CMake and manual pages. A program
-is built by
+Into PREFIX go the header, an archive, a shared object with its links, a file for pkg-config, a package for CMake and
+manual pages. A program is built by
 
     cc program.c $(PKG_CONFIG_PATH=PREFIX/lib/pkgconfig pkg-config --cflags --libs yuzuratchet)
 
@@ -14,10 +14,13 @@ or, in CMake with PREFIX in CMAKE_PREFIX_PATH, by
     find_package(Yuzuratchet)
     target_link_libraries(program Yuzuratchet::Yuzuratchet)     # or Yuzuratchet::Static
 
-The crate yuzuratchet is built by `rt lib`, which proves what it has not proved on this checkout yet: a minute or two behind a gate run or
-a check, and up to an hour and a half on a fresh clone. The C files in library/ are compiled by $CC, or cc. With --stage the files go
-into that folder in place of the root, as packagers want it. --uninstall takes away what an installation of this version has put there.
+The crate yuzuratchet is built by `rt lib`, which proves what it has not proved on this checkout yet: a minute or two
+behind a gate run or a check, and up to an hour and a half on a fresh clone. The C files in library/ are compiled by
+$CC, or cc. With --stage the files go into that folder in place of the root, as packagers want it. --uninstall takes
+away what an installation of this version has put there.
 """
+
+from __future__ import annotations
 
 import argparse
 import json
@@ -29,6 +32,8 @@ import shutil
 import subprocess
 import sys
 import tempfile
+from collections.abc import Iterable
+from typing import Any
 
 import package_path
 from yuzuratchet import __version__
@@ -43,7 +48,12 @@ MANUAL = LIBRARY / "yuzuratchet.h.3"
 # the number is that of what stays compatible, and not that of the version
 SONAME = "libyuzuratchet.so.0"
 SHARED = f"libyuzuratchet.so.{__version__}"
-LINKING = (f"-Wl,-soname,{SONAME}", f"-Wl,--version-script={MAP}", "-Wl,-z,noexecstack,-z,defs,-z,relro,-z,now", "-Wl,-z,x86-64-v2")
+LINKING = (
+    f"-Wl,-soname,{SONAME}",
+    f"-Wl,--version-script={MAP}",
+    "-Wl,-z,noexecstack,-z,defs,-z,relro,-z,now",
+    "-Wl,-z,x86-64-v2",
+)
 LINKS = {SONAME: SHARED, "libyuzuratchet.so": SONAME}
 
 
@@ -51,22 +61,23 @@ class NotBuilt(Exception):
     """Why the library can't be built, in a sentence."""
 
 
-def run(words, **how):
+def run(words: Iterable[object], **how: Any) -> str:
     """Runs a command; where it fails, its last lines say why."""
-    words = [str(word) for word in words]
-    if shutil.which(words[0]) is None:
-        raise NotBuilt(f"the command {words[0]} is missing")
-    ran = subprocess.run(words, stdin=subprocess.DEVNULL, stdout=subprocess.PIPE, stderr=subprocess.STDOUT, text=True, errors="replace", check=False, **how)
+    command = [str(word) for word in words]
+    if shutil.which(command[0]) is None:
+        raise NotBuilt(f"the command {command[0]} is missing")
+    pipes: dict[str, Any] = {"stdin": subprocess.DEVNULL, "stdout": subprocess.PIPE, "stderr": subprocess.STDOUT}
+    ran = subprocess.run(command, text=True, errors="replace", check=False, **pipes, **how)
     if ran.returncode != 0:
         last = "\n".join(ran.stdout.splitlines()[-12:])
-        raise NotBuilt(f"`{shlex.join(words)}` failed with status {ran.returncode}:\n{last}")
-    return ran.stdout
+        raise NotBuilt(f"`{shlex.join(command)}` failed with status {ran.returncode}:\n{last}")
+    return str(ran.stdout)
 
 
 # ---- building
 
 
-def proved_archive():
+def proved_archive() -> pathlib.Path:
     """The static library of the crate, as `rt lib` builds it."""
     if shutil.which("rt") is None:
         raise NotBuilt("the command rt is missing: it comes with the toolchain, rattle-kit-13")
@@ -75,23 +86,23 @@ def proved_archive():
     return CRATE / "out" / "libyuzuratchet.a"
 
 
-def compiler():
+def compiler() -> list[str]:
     return shlex.split(os.environ.get("CC", "")) or ["cc"]
 
 
-def calls():
+def calls() -> list[str]:
     """What a program may call, as the map of versions lists it; all other names stay within the library."""
     return re.findall(r"^ +(yuzuratchet_\w+);$", MAP.read_text(encoding="ascii"), re.M)
 
 
-def refusals():
+def refusals() -> str:
     """The texts of refused lines, as texts.c takes them."""
     rows = sorted({**FAULTS, **REFUSALS}.items())
     # (a string of JSON in ASCII is one of C, since these texts have neither tabs nor letters of other alphabets)
     return "".join(f"REFUSAL({number}, {json.dumps(it.when)}, {json.dumps(it.advice)})\n" for number, it in rows)
 
 
-def whole_object(archive, folder):
+def whole_object(archive: pathlib.Path, folder: pathlib.Path) -> pathlib.Path:
     """One object of the proved code and of the C files, whose only names are those that a program may call."""
     run(["ar", "x", archive], cwd=folder)
     proved = folder / "proved.o"
@@ -108,9 +119,8 @@ def whole_object(archive, folder):
     return whole
 
 
-def build(folder, archive=None):
+def build(folder: pathlib.Path, archive: pathlib.Path | None = None) -> None:
     """Builds the archive and the shared object into a folder, of the proved archive or of another one."""
-    folder = pathlib.Path(folder)
     archive = archive or proved_archive()
     with tempfile.TemporaryDirectory() as parts:
         whole = whole_object(archive, pathlib.Path(parts))
@@ -123,11 +133,15 @@ def build(folder, archive=None):
 # ---- installing
 
 
-def written(prefix, libdir):
+def written(prefix: pathlib.Path, libdir: str) -> dict[str, str]:
     """The files for other tools that are written from templates: {where: text}."""
     cmake = f"{libdir}/cmake/Yuzuratchet"
-    values = {
-        "prefix": prefix, "libdir": libdir, "version": __version__, "soname": SONAME, "shared": SHARED,
+    values: dict[str, object] = {
+        "prefix": prefix,
+        "libdir": libdir,
+        "version": __version__,
+        "soname": SONAME,
+        "shared": SHARED,
         "up": "/".join([".."] * len(pathlib.PurePath(cmake).parts)),
     }
     templates = {
@@ -140,27 +154,29 @@ def written(prefix, libdir):
     return {**found, **{f"share/man/man3/{name}.3": f".so man3/{MANUAL.name}\n" for name in calls()}}
 
 
-def filled(template, values):
+def filled(template: str, values: dict[str, object]) -> str:
     """A text in which @NAME@ stands for a value, since $ means something in these files."""
     return re.sub(r"@([a-z]+)@", lambda found: str(values[found[1]]), template)
 
 
-def installed_files(prefix, libdir):
+def installed_files(prefix: pathlib.Path, libdir: str) -> list[str]:
     """All that an installation puts below the prefix."""
     built = [f"{libdir}/{name}" for name in ("libyuzuratchet.a", SHARED, *LINKS)]
     return ["include/yuzuratchet.h", f"share/man/man3/{MANUAL.name}", *built, *written(prefix, libdir)]
 
 
-def root_of(prefix, stage):
+def root_of(prefix: str | pathlib.Path, stage: str | None) -> tuple[pathlib.Path, pathlib.Path]:
     """The folder that stands for a prefix: the prefix, or where it lies below a stage."""
     prefix = pathlib.Path(os.path.abspath(prefix))
     return prefix, pathlib.Path(os.path.abspath(stage) + str(prefix)) if stage else prefix
 
 
-def install(prefix, stage=None, libdir="lib", archive=None):
+def install(
+    prefix: str | pathlib.Path, stage: str | None = None, libdir: str = "lib", archive: pathlib.Path | None = None
+) -> pathlib.Path:
     """Builds the library and puts it below a prefix, or below a stage that stands for the root."""
-    prefix, to = root_of(prefix, stage)
-    for name in installed_files(prefix, libdir):
+    root, to = root_of(prefix, stage)
+    for name in installed_files(root, libdir):
         (to / name).parent.mkdir(parents=True, exist_ok=True)
     build(to / libdir, archive)
     shutil.copy(LIBRARY / "yuzuratchet.h", to / "include")
@@ -168,15 +184,15 @@ def install(prefix, stage=None, libdir="lib", archive=None):
     for name, target in LINKS.items():
         (to / libdir / name).unlink(missing_ok=True)
         (to / libdir / name).symlink_to(target)
-    for where, text in written(prefix, libdir).items():
+    for where, text in written(root, libdir).items():
         (to / where).write_text(text, encoding="ascii")
     return to
 
 
-def uninstall(prefix, stage=None, libdir="lib"):
-    """Takes away what an installation put there, and folders that are empty without it; gives how many files were there."""
-    prefix, to = root_of(prefix, stage)
-    names = [to / name for name in installed_files(prefix, libdir)]
+def uninstall(prefix: str | pathlib.Path, stage: str | None = None, libdir: str = "lib") -> int:
+    """Takes away what an installation put there, and folders that are then empty; gives how many files were there."""
+    root, to = root_of(prefix, stage)
+    names = [to / name for name in installed_files(root, libdir)]
     there = [it for it in names if it.is_symlink() or it.exists()]
     for it in there:
         it.unlink()
@@ -187,16 +203,21 @@ def uninstall(prefix, stage=None, libdir="lib"):
     return len(there)
 
 
-def parsed():
+def parsed() -> argparse.Namespace:
     parser = argparse.ArgumentParser(description=__doc__, formatter_class=argparse.RawDescriptionHelpFormatter)
     parser.add_argument("prefix", metavar="PREFIX", help="the folder to install into, as /usr/local")
     parser.add_argument("--stage", metavar="FOLDER", help="a folder that stands for the root")
-    parser.add_argument("--libdir", metavar="NAME", default="lib", help="where libraries lie below PREFIX, as lib/x86_64-linux-gnu (lib)")
+    parser.add_argument(
+        "--libdir",
+        metavar="NAME",
+        default="lib",
+        help="where libraries lie below PREFIX, as lib/x86_64-linux-gnu (lib)",
+    )
     parser.add_argument("--uninstall", action="store_true", help="takes an installation of this version away")
     return parser.parse_args()
 
 
-def main():
+def main() -> None:
     words = parsed()
     try:
         if words.uninstall:

@@ -3,9 +3,12 @@
 
     tools/make_page.py [--module FILE.wasm] [-o PAGE.html]
 
-The WebAssembly module is built by tools/build_module.py where the toolchain is: a minute or two behind a gate run, and as long as that on a fresh
-clone. Elsewhere the module that was built last, or FILE, is taken, and Python alone is wanted. The page opens from a file, and from any host that serves files.
+The WebAssembly module is built by tools/build_module.py where the toolchain is: a minute or two behind a gate run, and
+as long as that on a fresh clone. Elsewhere the module that was built last, or FILE, is taken, and Python alone is
+wanted. The page opens from a file, and from any host that serves files.
 """
+
+from __future__ import annotations
 
 import argparse
 import pathlib
@@ -26,7 +29,7 @@ MAGIC = b"\0asm"
 FAILED = f"{BUILD_MODULE.name} failed"
 
 
-def group_of(name):
+def group_of(name: str) -> str | None:
     """The heading under which a script of the gallery stands in the menu, or None where it has no place there."""
     if "-cut-behind-" in name or name.startswith("width-"):
         return None
@@ -39,9 +42,11 @@ def group_of(name):
     return "random scenes" if name.startswith("scene-") else "more"
 
 
-def menu():
+def menu() -> list[page.Entry]:
     """The scripts of the menu: the package's examples, and those of the gallery in the order of their headings."""
-    found = [page.Entry("first steps", it.stem, it.read_text(encoding="ascii")) for it in sorted(EXAMPLES.glob("*.txt"))]
+    found = [
+        page.Entry("first steps", it.stem, it.read_text(encoding="ascii")) for it in sorted(EXAMPLES.glob("*.txt"))
+    ]
     names = [it.removesuffix(".txt") for it in (GALLERY / "index").read_text(encoding="ascii").split()]
     for group in ("pictures", "more", "worked rows", "refused calls", "random scenes"):
         for name in names:
@@ -50,12 +55,12 @@ def menu():
     return found
 
 
-def built(module):
+def built(module: bytes) -> str:
     """The page with a module's bytes."""
     return page.build_page(TOP / "web", module, menu(), OPENING)
 
 
-def find_module():
+def find_module() -> tuple[pathlib.Path | None, str]:
     """The module at its place: built anew where the toolchain is, else the one that is there; or None, and why."""
     if shutil.which("rt") and BUILD_MODULE.is_file():
         MODULE.parent.mkdir(parents=True, exist_ok=True)
@@ -64,13 +69,20 @@ def find_module():
             return None, FAILED
     if MODULE.is_file():
         return MODULE, ""
-    return None, f"{MODULE.relative_to(TOP)} isn't built, and the command rt, which comes with the toolchain, is missing"
+    return (
+        None,
+        f"{MODULE.relative_to(TOP)} isn't built, and the command rt, which comes with the toolchain, is missing",
+    )
 
 
-def main():
+def main() -> None:
     parser = argparse.ArgumentParser(description=__doc__, formatter_class=argparse.RawDescriptionHelpFormatter)
-    parser.add_argument("--module", metavar="FILE.wasm", type=pathlib.Path, help="the module (built where the toolchain is)")
-    parser.add_argument("-o", metavar="PAGE.html", dest="page", type=pathlib.Path, default=TOP / page.BUILT, help=f"({page.BUILT})")
+    parser.add_argument(
+        "--module", metavar="FILE.wasm", type=pathlib.Path, help="the module (built where the toolchain is)"
+    )
+    parser.add_argument(
+        "-o", metavar="PAGE.html", dest="page", type=pathlib.Path, default=TOP / page.BUILT, help=f"({page.BUILT})"
+    )
     given = parser.parse_args()
     path, why = (given.module, "") if given.module else find_module()
     if path is None:

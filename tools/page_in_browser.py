@@ -1,14 +1,19 @@
 """The page in a browser, for its tests: scripts are chosen, typed and played by lines, and pixels are pointed at."""
 
+from __future__ import annotations
+
 import hashlib
 import json
 import pathlib
 import statistics
+from collections.abc import Mapping
+from typing import cast
 
 import make_page
 import package_path
 import plain_device
-from browser import BrowserError
+from browser import Browser, BrowserError
+from firefox import Firefox
 from results import check, told
 
 TOP = package_path.TOP
@@ -18,11 +23,25 @@ KEYSTROKE_MOST = 50
 SLID = 40
 SIZE = 512
 PLAYED = "document.documentElement.dataset.state === 'played'"
+SETS = """(id, event, value) => {
+    const it = document.getElementById(id);
+    it.value = value;
+    it.dispatchEvent(new Event(event));
+}"""
+PLACE = """(x, y) => {
+    const box = document.getElementById('canvas').getBoundingClientRect(), { width, height } = page.view.size;
+    return [box.left + (x + 0.5) * box.width / width, box.top + (y + 0.5) * box.height / height];
+}"""
+# the digest of a canvas's pixels
+DIGEST = """(canvas => crypto.subtle.digest(
+    "SHA-256", canvas.getContext("2d").getImageData(0, 0, canvas.width, canvas.height).data,
+).then((it) => Array.from(new Uint8Array(it), (byte) => byte.toString(16).padStart(2, "0")).join("")))"""
 # plays a text as the page does, and writes its image again as the device's file
 DRAWN = """(async (text, last) => {
     page.jobs.setText(new TextEncoder().encode(text));
     const { answers, refused, picture } = await page.jobs.ask("play", { last });
-    const lines = [...answers, ...(refused ? [`refused ${refused.line} ${refused.number}`] : [])].map((line) => line + "\\n").join("");
+    const told = [...answers, ...(refused ? [`refused ${refused.line} ${refused.number}`] : [])];
+    const lines = told.map((line) => line + "\\n").join("");
     if (!picture) return [lines, ""];
     const size = [picture.width & 255, picture.width >> 8, picture.height & 255, picture.height >> 8];
     const file = new Uint8Array(18 + picture.pixels.length);
@@ -34,7 +53,7 @@ DRAWN = """(async (text, last) => {
 })"""
 
 
-def cut(script, line):
+def cut(script: list[str], line: int) -> list[str]:
     """The lines of a script up to one, with those that end the queries that are open there."""
     open_queries = {}
     for text in script[:line]:
@@ -46,7 +65,7 @@ def cut(script, line):
     return [*script[:line], *open_queries.values()]
 
 
-def opaque(image):
+def opaque(image: bytes) -> str:
     """The digest of an image's pixels as a canvas has them: red first, and opaque."""
     pixels = bytearray(image[18:])
     pixels[0::4], pixels[2::4], pixels[3::4] = pixels[2::4], pixels[0::4], b"\xff" * (len(pixels) // 4)
@@ -56,74 +75,76 @@ def opaque(image):
 class PageInBrowser:
     """One page in one browser, as its user has it."""
 
-    def __init__(self, browser, address):
-        self.browser, self.address = browser, address
+    def __init__(self, browser: Browser | Firefox, address: str) -> None:
+        # (Firefox has neither pointer nor keys, and what is tried in it needs none)
+        self.browser, self.address = cast(Browser, browser), address
 
-    def open(self, name="shadow-volumes", fragment=None):
+    def open(self, name: str = "shadow-volumes", fragment: str | None = None) -> None:
         """Opens the page anew, at a script of its menu, or with another fragment of its address."""
         self.browser.open("about:blank")
         self.browser.open(f"{self.address}#{name if fragment is None else fragment}")
         self.browser.wait(f"{PLAYED} && (page.entry.name === {json.dumps(name)} || {json.dumps(fragment is not None)})")
 
-    def forget(self):
+    def forget(self) -> None:
         """Takes away what the browser keeps of scripts."""
         self.browser.value("page.texts.flush(), localStorage.clear()")
 
-    def text(self, what):
-        return self.browser.value(f"document.querySelector({json.dumps(what)}).textContent")
+    def text(self, what: str) -> str:
+        return str(self.browser.value(f"document.querySelector({json.dumps(what)}).textContent"))
 
-    def value(self, part):
-        return self.browser.value(f"document.getElementById({json.dumps(part)}).value")
+    def value(self, part: str) -> str:
+        return str(self.browser.value(f"document.getElementById({json.dumps(part)}).value"))
 
-    def is_hidden(self, part):
-        return self.browser.value(f"document.getElementById({json.dumps(part)}).hidden")
+    def is_hidden(self, part: str) -> bool:
+        return bool(self.browser.value(f"document.getElementById({json.dumps(part)}).hidden"))
 
-    def rows(self, what):
+    def rows(self, what: str) -> list[list[str]]:
         """The texts of a table's cells, row by row."""
-        return self.browser.value(f"Array.from(document.querySelectorAll({json.dumps(what)}), (row) => Array.from(row.cells, (it) => it.textContent))")
+        cells = "(row) => Array.from(row.cells, (it) => it.textContent)"
+        found: list[list[str]] = self.browser.value(
+            f"Array.from(document.querySelectorAll({json.dumps(what)}), {cells})"
+        )
+        return found
 
-    def act(self, part, event, value):
+    def act(self, part: str, event: str, value: str) -> None:
         """Sets the value of a part of the page, as its user does, and waits until that is played."""
-        code = "(id, event, value) => { const it = document.getElementById(id); it.value = value; it.dispatchEvent(new Event(event)) }"
         state = "document.documentElement.dataset.state = 'asked'"
-        self.browser.value(f"{state}, ({code})({json.dumps(part)}, {json.dumps(event)}, {json.dumps(value)})")
+        self.browser.value(f"{state}, ({SETS})({json.dumps(part)}, {json.dumps(event)}, {json.dumps(value)})")
         self.browser.wait(PLAYED)
 
-    def set(self, part, value):
+    def set(self, part: str, value: str) -> None:
         """Sets the value of a part that plays nothing anew."""
-        code = "(id, value) => { const it = document.getElementById(id); it.value = value; it.dispatchEvent(new Event('change')) }"
-        self.browser.value(f"({code})({json.dumps(part)}, {json.dumps(value)})")
+        self.browser.value(f"({SETS})({json.dumps(part)}, 'change', {json.dumps(value)})")
 
-    def choose(self, name):
+    def choose(self, name: str) -> None:
         self.act("menu", "change", name)
-        check(self.browser.value("page.entry.name") == name, f"{self.browser.value('page.entry.name')} is open, and not {name}")
+        check(
+            self.browser.value("page.entry.name") == name,
+            f"{self.browser.value('page.entry.name')} is open, and not {name}",
+        )
 
-    def write(self, text):
+    def write(self, text: str) -> None:
         """Takes another text for the script, as if it were typed."""
         self.act("text", "input", text)
 
-    def click(self, part):
+    def click(self, part: str) -> None:
         self.browser.value(f"document.getElementById({json.dumps(part)}).click()")
 
-    def tick(self, part, is_on):
+    def tick(self, part: str, is_on: bool) -> None:
         """Ticks a box, or takes its tick away."""
         if self.browser.value(f"document.getElementById({json.dumps(part)}).checked") != is_on:
             self.click(part)
 
-    def place(self, x, y):
+    def place(self, x: int, y: int) -> tuple[float, float]:
         """Where a pixel stands in the window."""
-        return self.browser.value(
-            "((x, y) => { const box = document.getElementById('canvas').getBoundingClientRect(), { width, height } = page.view.size;"
-            f"return [box.left + (x + 0.5) * box.width / width, box.top + (y + 0.5) * box.height / height] }})({x}, {y})"
-        )
+        left, top = self.browser.value(f"({PLACE})({x}, {y})")
+        return left, top
 
-    def canvas(self):
+    def canvas(self) -> str:
         """The digest of the pixels that are shown."""
-        pixels = "page.view.main.canvas.getContext('2d').getImageData(0, 0, page.view.size.width, page.view.size.height).data"
-        hexed = "(it) => Array.from(new Uint8Array(it), (byte) => byte.toString(16).padStart(2, '0')).join('')"
-        return self.browser.value(f"crypto.subtle.digest('SHA-256', {pixels}).then({hexed})")
+        return str(self.browser.value(f"{DIGEST}(page.view.main.canvas)"))
 
-    def wait_for_steps(self, x, y):
+    def wait_for_steps(self, x: int, y: int) -> None:
         """Waits until the page tells what touched a pixel."""
         self.browser.wait(f"document.documentElement.dataset.changes === '{x} {y}'")
 
@@ -131,7 +152,7 @@ class PageInBrowser:
 class PlayingTests(PageInBrowser):
     """What the page shows of scripts that are played."""
 
-    def gallery(self, expected):
+    def gallery(self, expected: Mapping[str, str]) -> str:
         """Answers and image of each script, as the gallery stores them."""
         self.open()
         for name, stored in told(expected.items(), len(expected), "scripts"):
@@ -142,7 +163,7 @@ class PlayingTests(PageInBrowser):
             check(drawn[1] == digest or "refused" in answers, f"{name}: the image is another")
         return f"{len(expected)} scripts"
 
-    def menu(self):
+    def menu(self) -> str:
         """Each picture of the menu, chosen and shown."""
         self.open()
         names = [entry.name for entry in make_page.menu() if entry.group == "pictures"]
@@ -153,12 +174,16 @@ class PlayingTests(PageInBrowser):
             check(self.text("#verdict") == "Every line is taken.", f"{name}: {self.text('#verdict')}")
         return f"{len(names)} pictures"
 
-    def answers(self):
+    def answers(self) -> None:
         self.open()
-        wanted = [["18", "query 0 16323"], ["19", "pixel 96 120 150 170 150 255 8179606 0"], ["20", "pixel 60 60 24 24 40 255 16777215 0"]]
+        wanted = [
+            ["18", "query 0 16323"],
+            ["19", "pixel 96 120 150 170 150 255 8179606 0"],
+            ["20", "pixel 60 60 24 24 40 255 16777215 0"],
+        ]
         check(self.rows("#answers tr") == wanted, f"{self.rows('#answers tr')}, and not {wanted}")
 
-    def slider(self):
+    def slider(self) -> str:
         """The script played up to each line shows what the plain evaluation gives for these lines."""
         lines = 0
         names = (DATA / "index").read_text(encoding="ascii").split()
@@ -178,7 +203,7 @@ class PlayingTests(PageInBrowser):
         self.forget()
         return f"{lines} lines of {len(names)} scripts"
 
-    def pointer(self):
+    def pointer(self) -> None:
         """The pixel under the pointer, and what touched it, as the package explains it."""
         self.open()
         self.browser.move(*self.place(88, 113))
@@ -188,7 +213,14 @@ class PlayingTests(PageInBrowser):
             ["", "a new target", "", "0 0 0 0", "16777215", "0"],
             ["2", "clearc", "cleared", "24 24 40 255", "16777215", "0"],
             ["5", "draw, triangle 1 of 20", "drawn", "60 68 60 255", "8504723", "0"],
-            ["10", "draw, triangle 16 of 72", "the depth test fails: 9111743 LESS 8504723", "60 68 60 255", "8504723", "1"],
+            [
+                "10",
+                "draw, triangle 16 of 72",
+                "the depth test fails: 9111743 LESS 8504723",
+                "60 68 60 255",
+                "8504723",
+                "1",
+            ],
         ]
         rows = self.rows("#changes tbody tr")
         check(rows == wanted, f"{rows}, and not {wanted}")
@@ -206,7 +238,7 @@ class PlayingTests(PageInBrowser):
         lines = [row[0] for row in self.rows("#changes tbody tr")]
         check(any(" by " in it for it in lines), f"no line of a list is named: {lines}")
 
-    def keys(self):
+    def keys(self) -> None:
         """Arrow keys move the pixel, and say it; + and - zoom, and the buttons go from line to line."""
         self.open()
         self.browser.value("document.getElementById('canvas').focus()")
@@ -219,25 +251,32 @@ class PlayingTests(PageInBrowser):
         self.browser.key("+")
         check(self.browser.value("page.view.zoom") > zoom, "+ doesn't enlarge the image")
         self.browser.key("0")
-        check(self.browser.value("page.view.zoom") == zoom and self.browser.value("page.view.chosen === null"), "0 doesn't fit it")
+        check(
+            self.browser.value("page.view.zoom") == zoom and self.browser.value("page.view.chosen === null"),
+            "0 doesn't fit it",
+        )
         self.click("back")
         self.browser.wait("document.getElementById('position').textContent === 'line 19 of 20'")
         self.browser.value("document.getElementById('canvas').focus()")
         self.browser.key("Escape", 27)
         check(self.browser.value("page.pixels.pinned === null"), "Escape doesn't leave the pixel")
 
-    def words(self):
+    def words(self) -> None:
         """What the caret is on is said: what a number means, and the word's arguments."""
         self.open()
         for line, column, wanted in (
-            (8, 9, "depth_func: 1 NEVER, 2 LESS, 3 EQUAL"), (4, 8, "x: 5595794 is 85.385 pixels"), (1, 8, "width is 0 to 4294967295"),
+            (8, 9, "depth_func: 1 NEVER, 2 LESS, 3 EQUAL"),
+            (4, 8, "x: 5595794 is 85.385 pixels"),
+            (1, 8, "width is 0 to 4294967295"),
             (20, 10, "x is 0 to 4294967295"),
         ):
-            self.browser.value(f"page.editor.goTo({line}, {column}); page.editor.area.dispatchEvent(new Event('click'))")
+            self.browser.value(
+                f"page.editor.goTo({line}, {column}); page.editor.area.dispatchEvent(new Event('click'))"
+            )
             check(self.text("#word").startswith(wanted), f"{self.text('#word')}, and not {wanted}")
         check(self.text("#words").count("i, d0 to d7") == 14, self.text("#words"))
 
-    def planes(self):
+    def planes(self) -> None:
         """Depth and stencil as pictures."""
         self.open()
         seen = set()
@@ -246,10 +285,12 @@ class PlayingTests(PageInBrowser):
             seen.add(self.canvas())
         check(len(seen) == 3, "the pictures are alike")
 
-    def keystroke(self):
+    def keystroke(self) -> str:
         """How long it takes from a key stroke to the image, of 512 by 512 pixels."""
         self.open("first_triangle")
-        script = (DATA / "shadow-volumes.txt").read_text(encoding="ascii").replace("target 192 192", f"target {SIZE} {SIZE}")
+        script = (
+            (DATA / "shadow-volumes.txt").read_text(encoding="ascii").replace("target 192 192", f"target {SIZE} {SIZE}")
+        )
         self.write(script)
         taken = []
         for number in range(30):
@@ -260,7 +301,7 @@ class PlayingTests(PageInBrowser):
         check(middle < KEYSTROKE_MOST, f"{middle:.0f} ms, and {KEYSTROKE_MOST} is the most")
         return f"{middle:.0f} ms in the middle of 30, {max(taken):.0f} at most"
 
-    def stop(self):
+    def stop(self) -> None:
         """A long job shows its bar, gives way to a newer text, and can be stopped."""
         self.open()
         corners = " ".join(["0 0 0 9 9 9 9 268435456 0 0 9 9 9 9 0 268435456 0 9 9 9 9"] * 21845)
@@ -275,13 +316,17 @@ class PlayingTests(PageInBrowser):
         check(self.text("#size") == "192 × 192", self.text("#size"))
         self.forget()
 
-    def errors(self):
+    def errors(self) -> None:
         """No code of the page has failed unseen."""
-        thrown = [it["params"]["exceptionDetails"] for it in self.browser.events if it.get("method") == "Runtime.exceptionThrown"]
+        thrown = [
+            it["params"]["exceptionDetails"]
+            for it in self.browser.events
+            if it.get("method") == "Runtime.exceptionThrown"
+        ]
         check(not thrown, str(thrown[:1]))
 
 
-def take_picture(page, path):
+def take_picture(page: PlayingTests, path: pathlib.Path) -> str:
     """The picture of the page, for the README."""
     page.browser.resize(1240, 820)
     page.open()
@@ -291,7 +336,7 @@ def take_picture(page, path):
     return f"{path}, SHA-256 {hashlib.sha256(path.read_bytes()).hexdigest()[:12]}"
 
 
-def without_memory64(browser, address):
+def without_memory64(browser: Browser, address: str) -> None:
     """A browser without memory64 says so in a sentence."""
     browser.call("Page.addScriptToEvaluateOnNewDocument", source="WebAssembly.validate = () => false")
     browser.open("about:blank")
@@ -301,7 +346,7 @@ def without_memory64(browser, address):
     check("memory64" in text and "Firefox" in text, text)
 
 
-def without_scripts(browser, address):
+def without_scripts(browser: Browser, address: str) -> None:
     """A browser in which JavaScript is switched off says so."""
     browser.call("Emulation.setScriptExecutionDisabled", value=True)
     try:

@@ -5,25 +5,27 @@
 
 It installs the library into a folder of its own (or takes the one in FOLDER), and then
 
-- looks at what is installed: links, names and versions of the shared object, manual pages, the files for pkg-config and CMake, with which
-  programs are built and run, and takes it away again;
-- builds the example and the tests in library/tests by gcc and by clang, against the archive and against the shared object, and runs them,
-  under valgrind and the address sanitizer too, and a static program by musl;
-- draws all scripts of the gallery, worked rows and refused calls through C, and holds answers and digests against crates/gallery/stdout;
-- draws random scenes through C and holds each byte against the built program (10,000 scenes) or, where there is none, against
-  plain_device.py (400);
+- looks at what is installed: links, names and versions of the shared object, manual pages, the files for pkg-config and
+  CMake, with which programs are built and run, and takes it away again;
+- builds the example and the tests in library/tests by gcc and by clang, against the archive and against the shared
+  object, and runs them, under valgrind and the address sanitizer too, and a static program by musl;
+- draws all scripts of the gallery, worked rows and refused calls through C, and holds answers and digests against
+  crates/gallery/stdout;
+- draws random scenes through C and holds each byte against the built program (10,000 scenes) or, where there is none,
+  against plain_device.py (400);
 - refuses each request for memory in turn in drawings of the gallery's shorter scripts;
 - prints what a call costs, beside a process;
 - runs python/tests/test_library.py over the installed library, and tools/test_page.py.
 
-A line is printed for each: `ok NAME`, `FAILED NAME: why`, `skipped NAME: why`, or `fails as known NAME (why): ..` where it is in the list KNOWN of
-this file. The last line counts them. The status is 0 where none failed and one passed.
+A line is printed for each: `ok NAME`, `FAILED NAME: why`, `skipped NAME: why`, or `fails as known NAME (why): ..` where
+it is in the list KNOWN of this file. The last line counts them. The status is 0 where none failed and one passed.
 """
+
+from __future__ import annotations
 
 import argparse
 import hashlib
 import os
-import pathlib
 import random
 import re
 import resource
@@ -31,6 +33,9 @@ import shutil
 import subprocess
 import sys
 import tempfile
+from collections.abc import Callable, Iterable, Iterator, Sequence
+from pathlib import Path
+from typing import Any
 
 import install_library
 import package_path
@@ -52,7 +57,8 @@ FLAGS = ("-std=c11", "-D_POSIX_C_SOURCE=200809L", "-O1", "-g", "-pthread", "-Wal
 SANITIZED = ("-fsanitize=address,undefined", "-fno-sanitize-recover=all")
 VALGRIND = ("valgrind", "--quiet", "--error-exitcode=9", "--leak-check=full", "--errors-for-leak-kinds=all")
 SECONDS = 1200
-# each request for memory is refused in turn in scripts of so many bytes and pixels at most, and in these; others ask too often
+# each request for memory is refused in turn in scripts of so many bytes and pixels at most, and in these; others ask
+# too often
 SHORT, SMALL = 2000, 128 * 128
 REFUSED_IN = ("decals.txt", "two-faced-count.txt", "eight-contexts.txt")
 # that is done with each compiler in one script, and under valgrind in some
@@ -77,30 +83,33 @@ target_link_libraries(static Yuzuratchet::Static)
 """
 
 
-def output(words, text=b"", **environment):
+def output(words: Iterable[object], text: bytes = b"", **environment: str) -> bytes:
     """What a program prints, which ends with status 0."""
-    words, more = [str(word) for word in words], {**os.environ, **environment}
-    ran = subprocess.run(words, input=text, capture_output=True, timeout=SECONDS, env=more, check=False)
+    command, more = [str(word) for word in words], {**os.environ, **environment}
+    ran = subprocess.run(command, input=text, capture_output=True, timeout=SECONDS, env=more, check=False)
     how = f"with status {ran.returncode}" if ran.returncode >= 0 else f"by signal {-ran.returncode}"
     last = (ran.stderr or ran.stdout).decode(errors="replace").splitlines()[-3:]
-    check(ran.returncode == 0, f"`{pathlib.Path(words[0]).name}` ended {how}: {' | '.join(last)}")
+    check(ran.returncode == 0, f"`{Path(command[0]).name}` ended {how}: {' | '.join(last)}")
     return ran.stdout
 
 
 class LibraryTests:
     """The tests of one installed library."""
 
-    def __init__(self, prefix, folder):
+    def __init__(self, prefix: Path, folder: Path) -> None:
         self.prefix, self.folder = prefix, folder
         self.archive, self.shared = prefix / "lib" / "libyuzuratchet.a", prefix / "lib" / install_library.SHARED
         self.header = prefix / "include" / "yuzuratchet.h"
 
     # ---- what is installed
 
-    def layout(self):
+    def layout(self) -> str:
         """The shared object has the version's name, and links lead to it; all of it can be taken away again."""
         links = {name: os.readlink(self.prefix / "lib" / name) for name in install_library.LINKS}
-        check(links == install_library.LINKS and self.shared.is_file() and not self.shared.is_symlink(), f"the links are {links}")
+        check(
+            links == install_library.LINKS and self.shared.is_file() and not self.shared.is_symlink(),
+            f"the links are {links}",
+        )
         copy = self.folder / "copy"
         shutil.copytree(self.prefix, copy, symlinks=True)
         (copy / "lib" / "another").write_text("a file of somebody else's")
@@ -109,7 +118,7 @@ class LibraryTests:
         check(sorted(left) == ["lib", "lib/another"], f"{left} is left behind")
         return f"{count} files"
 
-    def names(self):
+    def names(self) -> None:
         """Header, manual and map name the same calls, of which each has its version and no other name is seen."""
         calls = sorted(install_library.calls())
         header, manual = self.header.read_text(encoding="ascii"), install_library.MANUAL.read_text(encoding="ascii")
@@ -123,7 +132,7 @@ class LibraryTests:
         seen = [line.split() for line in output(["nm", "-g", "--defined-only", self.archive]).decode().splitlines()]
         check(sorted(it[2] for it in seen if len(it) == 3) == calls, f"the archive has the names {seen}")
 
-    def versions(self):
+    def versions(self) -> None:
         """Symbols of the shared object have versions, and the loader is told of the processor that is wanted."""
         exported = output(["nm", "-D", "--defined-only", "--with-symbol-versions", self.shared]).decode()
         found = dict(re.findall(r" T (\w+)@@(\w+\.\d+)$", exported, re.M))
@@ -131,29 +140,37 @@ class LibraryTests:
         told_of = output(["readelf", "-d", "-n", self.shared]).decode()
         check(f"[{install_library.SONAME}]" in told_of and "x86-64-v2" in told_of, "soname or processor isn't told")
 
-    def manual(self):
+    def manual(self) -> str:
         """The pages have no fault that mandoc knows of, and the example of the header's page is a program."""
         if shutil.which("mandoc"):
-            found = subprocess.run(["mandoc", "-T", "lint", install_library.MANUAL], capture_output=True, text=True, check=False).stdout
+            found = subprocess.run(
+                ["mandoc", "-T", "lint", install_library.MANUAL], capture_output=True, text=True, check=False
+            ).stdout
             faults = [line for line in found.splitlines() if "mandoc.db" not in line]
             check(not faults, " | ".join(faults))
         page = install_library.MANUAL.read_text(encoding="ascii")
-        text = re.search(r"\.Sh EXAMPLES\n\.Bd -literal\n(.*?)\.Ed\n", page, re.S)[1].replace(r"\e", "\\")
+        example = re.findall(r"\.Sh EXAMPLES\n\.Bd -literal\n(.*?)\.Ed\n", page, re.S)[0]
         source = self.folder / "manual.c"
-        source.write_text(text, encoding="ascii")
+        source.write_text(example.replace(r"\e", "\\"), encoding="ascii")
         printed = output([self.built("cc", "manual", source)])
-        check(printed == b"pixel 1 1 255 128 0 255 16777215 0\n", f"it prints {printed}")
+        check(printed == b"pixel 1 1 255 128 0 255 16777215 0\n", f"it prints {printed!r}")
         return "" if shutil.which("mandoc") else "the command mandoc is missing, so its faults weren't looked for"
 
-    def package_config(self, compiler):
+    def package_config(self, compiler: str) -> None:
         """The line of the README."""
         environment = {**os.environ, "PKG_CONFIG_PATH": str(self.prefix / "lib" / "pkgconfig")}
-        flags = subprocess.run(["pkg-config", "--cflags", "--libs", "yuzuratchet"], env=environment, capture_output=True, text=True, check=True).stdout.split()
+        flags = subprocess.run(
+            ["pkg-config", "--cflags", "--libs", "yuzuratchet"],
+            env=environment,
+            capture_output=True,
+            text=True,
+            check=True,
+        ).stdout.split()
         install_library.run([compiler, install_library.LIBRARY / "example.c", *flags, "-o", self.folder / "configured"])
         self.draws_first(self.folder / "configured", LD_LIBRARY_PATH=str(self.prefix / "lib"))
 
-    def cmake(self):
-        """A project of ten lines finds the package, and builds with both libraries; one that wants a later version doesn't find it."""
+    def cmake(self) -> None:
+        """A project of ten lines finds the package, and builds with both libraries, unless it wants a later version."""
         for wanted in ("", "0.1", __version__):
             self.configured(wanted)
             output(["cmake", "--build", self.folder / "cmake"])
@@ -166,7 +183,7 @@ class LibraryTests:
                 continue
             raise AssertionError(f"version {wanted} is found")
 
-    def configured(self, wanted):
+    def configured(self, wanted: str) -> None:
         project = self.folder / "project"
         shutil.rmtree(self.folder / "cmake", ignore_errors=True)
         project.mkdir(exist_ok=True)
@@ -176,35 +193,45 @@ class LibraryTests:
 
     # ---- building
 
-    def built(self, compiler, name, source, *flags, static=True):
+    def built(self, compiler: str, name: str, source: Path, *flags: str, static: bool = True) -> Path:
         """A program over the library, by its name."""
         out = self.folder / name
-        library = [self.archive] if static else [f"-L{self.prefix}/lib", "-lyuzuratchet", f"-Wl,-rpath,{self.prefix}/lib"]
+        library: list[object] = (
+            [self.archive] if static else [f"-L{self.prefix}/lib", "-lyuzuratchet", f"-Wl,-rpath,{self.prefix}/lib"]
+        )
         install_library.run([compiler, *FLAGS, *flags, f"-I{self.prefix}/include", source, *library, "-o", out])
         return out
 
-    def build_all(self, compiler):
+    def build_all(self, compiler: str) -> None:
         for source in [install_library.LIBRARY / "example.c", *sorted(TESTS.glob("*.c"))]:
             self.built(compiler, f"{compiler}-{source.stem}", source)
             self.built(compiler, f"{compiler}-{source.stem}-shared", source, static=False)
             self.built(compiler, f"{compiler}-{source.stem}-sanitized", source, *SANITIZED)
 
-    def header_in_cpp(self, compiler):
-        install_library.run([compiler, "-x", "c++", "-std=c++11", "-Wall", "-Wextra", "-Werror", "-fsyntax-only", self.header])
+    def header_in_cpp(self, compiler: str) -> None:
+        install_library.run(
+            [compiler, "-x", "c++", "-std=c++11", "-Wall", "-Wextra", "-Werror", "-fsyntax-only", self.header]
+        )
 
     # ---- running
 
-    def ends_well(self, name):
+    def ends_well(self, name: str) -> None:
         output([self.folder / name])
 
-    def refusals(self, compiler, kind="", before=()):
+    def refusals(self, compiler: str, kind: str = "", before: Sequence[str] = ()) -> None:
         printed = output([*before, self.folder / f"{compiler}-refusals{kind}"]).decode()
-        check(printed == f"version {version_number()}\n", f"the library says {printed.strip()}, and the package is {__version__}")
+        check(
+            printed == f"version {version_number()}\n",
+            f"the library says {printed.strip()}, and the package is {__version__}",
+        )
 
-    def texts(self, compiler):
+    def texts(self, compiler: str) -> str:
         """Texts are those of the package; each status has its own."""
         lines = output([self.folder / f"{compiler}-texts"]).decode().splitlines()
-        check(lines.pop() == f"header {version_number()} library {version_number()}", "header, library and package have other versions")
+        check(
+            lines.pop() == f"header {version_number()} library {version_number()}",
+            "header, library and package have other versions",
+        )
         found = {tuple(it[:2]): it[2] for it in (line.split(" ", 2) for line in lines)}
         messages = {**FAULTS, **REFUSALS}
         for (kind, number), text in found.items():
@@ -212,14 +239,17 @@ class LibraryTests:
             if kind == "status":
                 check(int(number) < 10 or text == "no call ends with this status", f"status {number}: {text}")
             elif message is None:
-                check(text in ("no line is refused with this number", "look into docs/SCRIPT.md"), f"{kind} {number}: {text}")
+                check(
+                    text in ("no line is refused with this number", "look into docs/SCRIPT.md"),
+                    f"{kind} {number}: {text}",
+                )
             else:
                 check(text == (message.when if kind == "refusal" else message.advice), f"{kind} {number}: {text}")
         statuses = {text for (kind, _), text in found.items() if kind == "status"}
         check(len(statuses) == 11, f"{len(statuses)} texts of statuses")
         return f"{len(messages)} refusals, 10 statuses"
 
-    def small_stack(self, compiler):
+    def small_stack(self, compiler: str) -> str:
         """A call does on the stack of a small thread; how much it takes is seen on a large one."""
         most = 0
         for name in ON_A_SMALL_STACK:
@@ -229,39 +259,63 @@ class LibraryTests:
             output([self.folder / f"{compiler}-stack", str(STACK)], text)
         return f"{most} bytes at most"
 
-    def draws_first(self, program, before=(), **environment):
+    def draws_first(self, program: Path, before: Sequence[str] = (), **environment: str) -> None:
         """What the example draws, against the plain evaluation."""
         image = self.folder / "example.tga"
-        lines = output([*before, program, DATA / FIRST, image], **environment)
-        check((lines.decode(), image.read_bytes()) == plain_device.evaluate((DATA / FIRST).read_bytes()), f"{FIRST} has other answers or another image")
+        lines = output([*before, program, DATA / FIRST, image], b"", **environment)
+        check(
+            (lines.decode(), image.read_bytes()) == plain_device.evaluate((DATA / FIRST).read_bytes()),
+            f"{FIRST} has other answers or another image",
+        )
 
-    def example(self, compiler, before=()):
+    def example(self, compiler: str, before: Sequence[str] = ()) -> None:
         """The example draws, and says why it doesn't."""
         program = self.folder / f"{compiler}-example"
         self.draws_first(program, before)
         script = self.folder / "refused.txt"
         script.write_text("target 1 1\ni draw 3 0\n", encoding="ascii")
-        ran = subprocess.run([*before, program, script, self.folder / "refused.tga"], capture_output=True, text=True, check=False)
-        check((ran.returncode, ran.stdout) == (1, "refused 2 7\n") and f"line 2: {REFUSALS[7].when}\n" in ran.stderr, f"{ran}")
+        ran = subprocess.run(
+            [*before, program, script, self.folder / "refused.tga"], capture_output=True, text=True, check=False
+        )
+        check(
+            (ran.returncode, ran.stdout) == (1, "refused 2 7\n") and f"line 2: {REFUSALS[7].when}\n" in ran.stderr,
+            f"{ran}",
+        )
 
-    def musl(self):
+    def musl(self) -> str:
         """A static program over musl, whose threads have small stacks."""
         program = self.folder / "musl-example"
-        install_library.run(["musl-gcc", "-static", "-O1", f"-I{self.prefix}/include", install_library.LIBRARY / "example.c", self.archive, "-o", program])
+        install_library.run(
+            [
+                "musl-gcc",
+                "-static",
+                "-O1",
+                f"-I{self.prefix}/include",
+                install_library.LIBRARY / "example.c",
+                self.archive,
+                "-o",
+                program,
+            ]
+        )
         self.draws_first(program)
         return f"{program.stat().st_size} bytes"
 
-    def memory(self, compiler, names, kind="", before=()):
+    def memory(self, compiler: str, names: Sequence[str], kind: str = "", before: Sequence[str] = ()) -> str:
         requests = 0
         for name in told(names, len(names), "scripts"):
-            requests += int(output([*before, self.folder / f"{compiler}-memory{kind}"], (DATA / name).read_bytes()).split()[0])
+            requests += int(
+                output([*before, self.folder / f"{compiler}-memory{kind}"], (DATA / name).read_bytes()).split()[0]
+            )
         return f"{requests} requests in {len(names)} script{'s' if len(names) > 1 else ''}"
 
     # ---- drawing
 
-    def drawn(self, compiler, scripts):
+    def drawn(self, compiler: str, scripts: Iterable[bytes]) -> Iterator[tuple[str, bytes]]:
         """Answers and image of each script, through C, one behind the other."""
-        with subprocess.Popen([self.folder / f"{compiler}-batch"], stdin=subprocess.PIPE, stdout=subprocess.PIPE) as batch:
+        with subprocess.Popen(
+            [self.folder / f"{compiler}-batch"], stdin=subprocess.PIPE, stdout=subprocess.PIPE
+        ) as batch:
+            assert batch.stdin and batch.stdout  # (both are pipes)
             try:
                 for script in scripts:
                     batch.stdin.write(b"%d\n" % len(script) + script)
@@ -273,20 +327,22 @@ class LibraryTests:
                 batch.stdin.close()
                 batch.wait()
 
-    def gallery(self, compiler):
+    def gallery(self, compiler: str) -> str:
         names = INDEX.read_text(encoding="ascii").splitlines()
         found = []
         for name, (answers, image) in zip(names, self.drawn(compiler, ((DATA / name).read_bytes() for name in names))):
             found.append(f"{name}\n{answers}image {hashlib.sha256(image).hexdigest()}\n")
-        check("".join(found) == STORED.read_text(encoding="ascii"), "answers or digests differ from crates/gallery/stdout")
+        check(
+            "".join(found) == STORED.read_text(encoding="ascii"), "answers or digests differ from crates/gallery/stdout"
+        )
         return f"{len(names)} scripts"
 
-    def random_scenes(self, compiler, program, scenes):
+    def random_scenes(self, compiler: str, program: Path | None, scenes: int) -> str:
         chance, refused = random.Random(39), 0
         texts = (random_scenes.random_scene(chance, number).script().encode() for number in range(scenes))
         script, image = self.folder / "scene.txt", self.folder / "scene.tga"
 
-        def kept():
+        def kept() -> Iterator[bytes]:
             for text in told(texts, scenes, "scenes"):
                 script.write_bytes(text)
                 yield text
@@ -302,9 +358,10 @@ class LibraryTests:
                 shutil.copy(script, "differs.txt")
                 raise AssertionError(f"scene {number} differs: it is in differs.txt")
             refused += "refused" in answers
-        return f"{scenes} scenes against {'plain_device.py' if program is None else 'the program'}, of which {refused} end in a refusal"
+        against = "plain_device.py" if program is None else "the program"
+        return f"{scenes} scenes against {against}, of which {refused} end in a refusal"
 
-    def costs(self, compiler, program):
+    def costs(self, compiler: str, program: Path | None) -> str:
         library = float(output([self.folder / f"{compiler}-calls"]))
         if program is None:
             return f"{library:.0f} microseconds of processor time a call"
@@ -317,33 +374,33 @@ class LibraryTests:
         return f"{library:.0f} microseconds of processor time a call, {process:.0f} a process"
 
 
-def version_number():
+def version_number() -> int:
     """The package's version as the library spells it."""
     first, second, third = map(int, __version__.split("."))
     return 10000 * first + 100 * second + third
 
 
-def is_short(name):
+def is_short(name: str) -> bool:
     """Whether a script asks for memory so seldom that each request can be refused."""
     text = (DATA / name).read_text(encoding="ascii")
     sides = [int(word) for word in text.split("\n", 1)[0].split()[1:]]
     return len(text) <= SHORT and len(sides) == 2 and sides[0] * sides[1] <= SMALL
 
 
-def children_seconds():
+def children_seconds() -> float:
     """The processor time of all processes that ended."""
     used = resource.getrusage(resource.RUSAGE_CHILDREN)
     return used.ru_utime + used.ru_stime
 
 
-def program_or_none():
+def program_or_none() -> Path | None:
     try:
         return find_program()
     except ProgramMissing:
         return None
 
 
-def test_if(results, command, name, test, *arguments):
+def test_if(results: Results, command: str, name: str, test: Callable[..., object], *arguments: Any) -> None:
     """Runs a test that wants a command, or skips it."""
     if shutil.which(command):
         results.test(name, test, *arguments)
@@ -351,7 +408,7 @@ def test_if(results, command, name, test, *arguments):
         results.skip(name, f"the command {command} is missing")
 
 
-def test_installed(results, tests, compiler):
+def test_installed(results: Results, tests: LibraryTests, compiler: str) -> None:
     """What is installed, and how it is found."""
     results.test("layout", tests.layout)
     results.test("names", tests.names)
@@ -363,7 +420,7 @@ def test_installed(results, tests, compiler):
         test_if(results, name, f"{name} reads the header", tests.header_in_cpp, name)
 
 
-def test_compiler(results, tests, compiler):
+def test_compiler(results: Results, tests: LibraryTests, compiler: str) -> bool:
     """All that is tried with one compiler."""
     if not results.test(f"{compiler} builds example and tests, with -Wall -Wextra -Werror", tests.build_all, compiler):
         return False
@@ -377,7 +434,7 @@ def test_compiler(results, tests, compiler):
     return True
 
 
-def test_drawing(results, tests, compiler, scenes):
+def test_drawing(results: Results, tests: LibraryTests, compiler: str, scenes: int | None) -> None:
     """What takes longer, or is the same with each compiler."""
     program = program_or_none()
     if scenes is None:
@@ -387,9 +444,16 @@ def test_drawing(results, tests, compiler, scenes):
     results.test("small stack", tests.small_stack, compiler)
     test_if(results, "musl-gcc", "musl", tests.musl)
     results.test("gallery", tests.gallery, compiler)
-    results.test("memory", tests.memory, compiler, [*filter(is_short, INDEX.read_text(encoding="ascii").splitlines()), *REFUSED_IN])
+    results.test(
+        "memory",
+        tests.memory,
+        compiler,
+        [*filter(is_short, INDEX.read_text(encoding="ascii").splitlines()), *REFUSED_IN],
+    )
     test_if(results, "valgrind", "refusals under valgrind", tests.refusals, compiler, "", VALGRIND)
-    test_if(results, "valgrind", "example under valgrind", tests.draws_first, tests.folder / f"{compiler}-example", VALGRIND)
+    test_if(
+        results, "valgrind", "example under valgrind", tests.draws_first, tests.folder / f"{compiler}-example", VALGRIND
+    )
     test_if(results, "valgrind", "memory under valgrind", tests.memory, compiler, SLOWLY, "", VALGRIND)
     results.test("random scenes", tests.random_scenes, compiler, program, scenes)
     results.test("costs", tests.costs, compiler, program)
@@ -397,18 +461,21 @@ def test_drawing(results, tests, compiler, scenes):
         results.skip("the program's bytes and its cost", "crates/tiledraw isn't built, so plain_device.py stood in")
 
 
-def test_above(results, shared):
+def test_above(results: Results, shared: Path) -> None:
     """The Python package over the library, and the page: each has tests of its own, whose last line is repeated."""
-    package = ["sh", package_path.TOP / "python" / "run-tests.sh", "-q", "-k", "test_library"]
-    page = [sys.executable, package_path.TOP / "tools" / "test_page.py"]
+    package: list[object] = ["sh", package_path.TOP / "python" / "run-tests.sh", "-q", "-k", "test_library"]
+    page: list[object] = [sys.executable, package_path.TOP / "tools" / "test_page.py"]
     results.test("the package over the library", above, package, {VARIABLE: str(shared)})
     results.test("the page", above, page, {})
 
 
-def above(words, more):
+def above(words: Iterable[object], more: dict[str, str]) -> str:
     """Runs tests that tell of themselves, and gives their last line."""
     last = ""
-    with subprocess.Popen([str(word) for word in words], env={**os.environ, **more}, stdout=subprocess.PIPE, text=True) as ran:
+    with subprocess.Popen(
+        [str(word) for word in words], env={**os.environ, **more}, stdout=subprocess.PIPE, text=True
+    ) as ran:
+        assert ran.stdout  # (it is a pipe)
         for line in ran.stdout:
             print(line, end="", flush=True)
             last = line.strip(" =\n") or last
@@ -416,8 +483,10 @@ def above(words, more):
     return last
 
 
-def test_all(results, prefix, folder, scenes):
-    if not (prefix / "lib" / "libyuzuratchet.a").exists() and not results.test("install", install_library.install, prefix):
+def test_all(results: Results, prefix: Path, folder: Path, scenes: int | None) -> None:
+    if not (prefix / "lib" / "libyuzuratchet.a").exists() and not results.test(
+        "install", install_library.install, prefix
+    ):
         return
     tests = LibraryTests(prefix, folder)
     compilers = [name for name in ("gcc", "clang") if shutil.which(name)]
@@ -432,15 +501,15 @@ def test_all(results, prefix, folder, scenes):
     test_above(results, tests.shared)
 
 
-def main():
+def main() -> int:
     parser = argparse.ArgumentParser(description=__doc__, formatter_class=argparse.RawDescriptionHelpFormatter)
     many = f"how many random scenes ({SCENES_BY_PROGRAM}, or {SCENES_BY_PLAIN_DEVICE} where no program is built)"
     parser.add_argument("--scenes", metavar="N", type=whole_number(0), help=many)
-    parser.add_argument("--prefix", metavar="FOLDER", type=pathlib.Path, help="where the library is installed, or is to be")
+    parser.add_argument("--prefix", metavar="FOLDER", type=Path, help="where the library is installed, or is to be")
     words = parser.parse_args()
     results = Results(KNOWN, [install_library.NotBuilt])
-    with tempfile.TemporaryDirectory() as folder:
-        folder = pathlib.Path(folder)
+    with tempfile.TemporaryDirectory() as room:
+        folder = Path(room)
         prefix = words.prefix.absolute() if words.prefix else folder / "prefix"
         test_all(results, prefix, folder, words.scenes)
     print(results.last_line)

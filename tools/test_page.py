@@ -1,16 +1,20 @@
 #!/usr/bin/env python3
-"""Tests the page that draws in a browser: its device in node, and the page itself in Chromium.
+"""Tests the page that draws in a browser: its device in node, and the page itself in Chromium and Firefox.
 
     tools/test_page.py [--module FILE.wasm] [--picture FILE.png]
 
-In both each script of the gallery gives the answers and the image that crates/gallery/stdout has. In node the modules of web/engine are tried
-alone (web/tests), pixels' histories are held against the package's `explain`, and columns of faults against its `check`. In the browser scripts
-are chosen, typed, opened, linked and played by lines, pixels are pointed at and tapped, and each is compared with what the device gives elsewhere; the
-page is looked at in narrow windows and at fractional ratios of pixels. Types are checked by the TypeScript compiler where it is there.
+In both each script of the gallery gives the answers and the image that crates/gallery/stdout has. In node the modules
+of web/engine are tried alone (web/tests), pixels' histories are held against the package's `explain`, and columns of
+faults against its `check`. In the browser scripts are chosen, typed, opened, linked and played by lines, pixels are
+pointed at and tapped, and each is compared with what the device gives elsewhere; the page is looked at in narrow
+windows and at fractional ratios of pixels. In Firefox all is tried that needs neither pointer nor keys. Types are
+checked by the TypeScript compiler where it is there.
 
-Where the module isn't built, or there is no node or no browser, that is told, and counted in the last line. The status is 0 where nothing failed
-and something passed. Python alone is wanted beside them.
+Where the module isn't built, or there is no node or no browser, that is told, and counted in the last line. The status
+is 0 where nothing failed and something passed. Python alone is wanted beside them.
 """
+
+from __future__ import annotations
 
 import argparse
 import functools
@@ -24,16 +28,19 @@ import subprocess
 import sys
 import tempfile
 import threading
+from collections.abc import Iterable
+from typing import Any
 
 import make_page
 import mutated_scripts
 import package_path
 import random_scenes
 from browser import Browser, BrowserError, find_browser
+from firefox import Firefox, find_firefox
 from page_features import FeatureTests
 from page_in_browser import DATA, PLAYED, PlayingTests, take_picture, without_memory64, without_scripts
 from results import Results, check
-from yuzuratchet import YuzuratchetError, load_script, page
+from yuzuratchet import Scene, YuzuratchetError, load_script, page
 from yuzuratchet.backends import draw
 from yuzuratchet.check import located
 from yuzuratchet.explain import explain
@@ -45,18 +52,59 @@ HAS_MEMORY64 = "process.exit(WebAssembly.validate(new Uint8Array([0,97,115,109,1
 FLAG = "--experimental-wasm-memory64"
 # scripts whose pixels are asked for behind each line, anew for each: short ones
 ASKED_BY_LINES = [
-    "shadow-volumes.txt", "lamps.txt", "eight-contexts.txt", "two-faced-count.txt", "lists.txt", "decals.txt", "bowl.txt",
-    "rows/around-a-list.txt", "rows/back-face.txt", "rows/biased-depths.txt", "scene-0.txt", "scene-4.txt",
+    "shadow-volumes.txt",
+    "lamps.txt",
+    "eight-contexts.txt",
+    "two-faced-count.txt",
+    "lists.txt",
+    "decals.txt",
+    "bowl.txt",
+    "rows/around-a-list.txt",
+    "rows/back-face.txt",
+    "rows/biased-depths.txt",
+    "scene-0.txt",
+    "scene-4.txt",
 ]
-# scenes in which it is asked in two ways what touched a pixel, and changed scripts of which it is asked which letters are to blame
+# scenes in which it is asked in two ways what touched a pixel, and changed scripts whose faulty letters are asked for
 RANDOM_SCENES, CHANGED_SCRIPTS = 40, 300
+IN_CHROMIUM = (
+    "answers",
+    "menu",
+    "slider",
+    "pointer",
+    "keys",
+    "words",
+    "planes",
+    "keystroke",
+    "stop",
+    *FeatureTests.FEATURES,
+)
+# what needs neither pointer nor keys
+IN_FIREFOX = (
+    "answers",
+    "menu",
+    "words",
+    "planes",
+    "files",
+    "unreadable_files",
+    "edits",
+    "addresses",
+    "links",
+    "saved_pictures",
+    "depth_range",
+    "states",
+    "recorded_lines",
+    "colours_of_words",
+    "changed_by_a_line",
+)
 SECONDS = 1800
 
 
 @functools.cache
-def expected():
+def expected() -> dict[str, str]:
     """What the gallery stores of each script: {name: its answer lines and the image's line}."""
-    found, name = {}, None
+    found: dict[str, str] = {}
+    name = ""
     for line in STDOUT.read_text(encoding="ascii").splitlines(keepends=True):
         if line.endswith(".txt\n"):
             name = line.strip()
@@ -69,55 +117,64 @@ def expected():
 # ---- node
 
 
-def node_words(node):
+def node_words(node: str | None) -> tuple[list[str], str]:
     """The words that start node with memory64, or why there are none."""
     if node is None:
-        return None, "there is no node on the path (Debian: apt-get install nodejs; version 20 or later)"
+        return [], "there is no node on the path (Debian: apt-get install nodejs; version 20 or later)"
     for words in ([node], [node, FLAG]):
         if subprocess.run([*words, "-e", HAS_MEMORY64], capture_output=True, check=False).returncode == 0:
             return words, ""
-    return None, f"{node} has no memory64 (version 20 or later has)"
+    return [], f"{node} has no memory64 (version 20 or later has)"
 
 
 class NodeTests:
     """The tests of the page's device in node."""
 
-    def __init__(self, words, module, room):
+    def __init__(self, words: list[str], module: pathlib.Path, room: str) -> None:
         self.words, self.module, self.room = words, module, pathlib.Path(room)
         self.tables = self.room / "tables.json"
         self.tables.write_text(json.dumps(page.tables()), encoding="utf-8")
 
-    def printed(self, task, names, folder=DATA):
+    def printed(self, task: str, names: Iterable[str], folder: pathlib.Path = DATA) -> str:
         """What page_in_node.mjs prints."""
-        command = [*self.words, IN_NODE, self.module, self.tables, task, folder, *names]
+        command: list[Any] = [*self.words, IN_NODE, self.module, self.tables, task, folder, *names]
         ran = subprocess.run(command, capture_output=True, encoding="utf-8", timeout=SECONDS, check=False)
         check(ran.returncode == 0, ran.stderr.strip()[-600:])
         return ran.stdout
 
-    def units(self):
+    def units(self) -> str:
         """The tests of the modules alone."""
         files = sorted((TOP / "web" / "tests").glob("*.test.js"))
-        command = [self.words[0], "--test", *files]
-        environment = {**os.environ, "PATH": os.pathsep.join([str(pathlib.Path(sys.executable).parent), os.environ["PATH"]])}
-        ran = subprocess.run(command, capture_output=True, encoding="utf-8", timeout=SECONDS, env=environment, check=False)
-        count = next((line.split()[-1] for line in ran.stdout.splitlines() if line.startswith(("# pass", "ℹ pass"))), "0")
+        command: list[Any] = [self.words[0], "--test", *files]
+        environment = {
+            **os.environ,
+            "PATH": os.pathsep.join([str(pathlib.Path(sys.executable).parent), os.environ["PATH"]]),
+        }
+        ran = subprocess.run(
+            command, capture_output=True, encoding="utf-8", timeout=SECONDS, env=environment, check=False
+        )
+        count = next(
+            (line.split()[-1] for line in ran.stdout.splitlines() if line.startswith(("# pass", "ℹ pass"))), "0"
+        )
         check(ran.returncode == 0, ran.stdout[-3000:])
         check(int(count) > 0, "no test was run")
         return f"{count} tests"
 
-    def gallery(self):
+    def gallery(self) -> str:
         printed = self.printed("gallery", expected())
         wanted = "".join(f"{name}\n{text}" for name, text in expected().items())
         got, want = printed.splitlines(), wanted.splitlines()
         other = next((at for at, both in enumerate(zip(got, want)) if both[0] != both[1]), min(len(got), len(want)))
-        check(printed == wanted, f"line {other + 1} is {got[other : other + 1]}, and {want[other : other + 1]} is stored")
+        check(
+            printed == wanted, f"line {other + 1} is {got[other : other + 1]}, and {want[other : other + 1]} is stored"
+        )
         return f"{len(expected())} scripts"
 
-    def memory(self):
+    def memory(self) -> None:
         names = ["lists.txt", "two-faced-count.txt", "rows/four-tiles-cut-behind-14.txt"]
         check(self.printed("memory", names).split() == names, "something else was printed")
 
-    def history(self):
+    def history(self) -> str:
         """The lines that changed a pixel, against a play of the script up to each line."""
         scenes = write_random_scenes(self.room)
         printed = self.printed("history", ASKED_BY_LINES) + self.printed("history", scenes, self.room)
@@ -125,8 +182,8 @@ class NodeTests:
         check(len(found) >= len(ASKED_BY_LINES), printed)
         return f"12 pixels of {len(found)} scripts, {sum(found)} changes"
 
-    def explained(self):
-        """Each step of a pixel's history against the package's `explain`: triangle, depth, outcome, and what is held behind it."""
+    def explained(self) -> str:
+        """Each step of a pixel's history against the package's `explain`: triangle, depth, outcome, what it holds."""
         compared = 0
         for folder, names in ((DATA, ASKED_BY_LINES), (self.room, write_random_scenes(self.room))):
             for name, line in zip(names, self.printed("steps", names, folder).splitlines()):
@@ -137,11 +194,17 @@ class NodeTests:
                     compared += len(steps)
         return f"{compared} steps"
 
-    def blamed(self):
+    def blamed(self) -> str:
         """The letters that are to blame for a fault or a refusal, against those that the package's `check` tells."""
         chance, texts = random.Random(5), mutated_scripts.sources()
-        scripts = {f"changed-{number}.txt": mutated_scripts.mutated(chance, texts)[0] for number in range(CHANGED_SCRIPTS)}
-        scripts |= {f"{pathlib.Path(name).stem}.txt": (DATA / name).read_bytes() for name in expected() if name.startswith("refused/")}
+        scripts = {
+            f"changed-{number}.txt": mutated_scripts.mutated(chance, texts)[0] for number in range(CHANGED_SCRIPTS)
+        }
+        scripts |= {
+            f"{pathlib.Path(name).stem}.txt": (DATA / name).read_bytes()
+            for name in expected()
+            if name.startswith("refused/")
+        }
         # (a page's text ends in a line feed, and holds letters)
         scripts = {name: text for name, text in scripts.items() if text.endswith(b"\n") and text.isascii()}
         for name, text in scripts.items():
@@ -160,7 +223,7 @@ class NodeTests:
         return f"{compared} of {len(scripts)} scripts"
 
 
-def write_random_scenes(room):
+def write_random_scenes(room: pathlib.Path) -> list[str]:
     """Random scenes in a folder, and their names."""
     chance, names = random.Random(1), [f"{number}.txt" for number in range(RANDOM_SCENES)]
     for number, name in enumerate(names):
@@ -169,7 +232,7 @@ def write_random_scenes(room):
     return names
 
 
-def explained(scene, x, y):
+def explained(scene: Scene, x: int, y: int) -> list[list[Any]]:
     """The steps of a pixel, as the package explains them."""
     steps = []
     for it in explain(scene, x, y).steps:
@@ -179,7 +242,7 @@ def explained(scene, x, y):
     return steps
 
 
-def why_no_device():
+def why_no_device() -> str | None:
     """Why the package can draw nothing, or None."""
     try:
         draw(b"target 1 1\n")
@@ -188,13 +251,15 @@ def why_no_device():
     return None
 
 
-def types():
+def types() -> None:
     """The types of all modules, by the TypeScript compiler."""
-    ran = subprocess.run(["tsc", "-p", TOP / "web" / "jsconfig.json"], capture_output=True, text=True, timeout=SECONDS, check=False)
+    ran = subprocess.run(
+        ["tsc", "-p", TOP / "web" / "jsconfig.json"], capture_output=True, text=True, timeout=SECONDS, check=False
+    )
     check(ran.returncode == 0, ran.stdout[-2000:])
 
 
-def test_in_node(results, node, module):
+def test_in_node(results: Results, node: str | None, module: pathlib.Path) -> None:
     """All tests in node, and that of the types."""
     words, why = node_words(node)
     with tempfile.TemporaryDirectory(prefix="page-") as room:
@@ -214,7 +279,7 @@ def test_in_node(results, node, module):
 # ---- the browser
 
 
-def with_a_script(tests, folder):
+def with_a_script(tests: PlayingTests, folder: pathlib.Path) -> None:
     """The page of `yuzuratchet view` shows its script first."""
     text = "target 3 2\ni clearc 1 2 3 255\ni draw 3 0\n"
     built = (folder / "index.html").read_text(encoding="utf-8")
@@ -228,7 +293,7 @@ def with_a_script(tests, folder):
     check(tests.text("#size") == "3 × 2, lines 1 to 2", tests.text("#size"))
 
 
-def from_a_host(tests, folder):
+def from_a_host(tests: PlayingTests, folder: pathlib.Path) -> None:
     """The page from a host that serves files."""
     handler = functools.partial(QuietHandler, directory=str(folder))
     with http.server.ThreadingHTTPServer(("127.0.0.1", 0), handler) as server:
@@ -242,24 +307,28 @@ def from_a_host(tests, folder):
 class QuietHandler(http.server.SimpleHTTPRequestHandler):
     """Serves files, and says nothing."""
 
-    def log_message(self, *_):
+    def log_message(self, *_: Any) -> None:
         pass
 
 
-def test_in_browser(results, program, module, picture):
-    """All tests in a browser."""
+def written_page(room: str, module: pathlib.Path) -> pathlib.Path:
+    """The page as a file of a folder."""
+    path = pathlib.Path(room, "index.html")
+    path.write_text(make_page.built(module.read_bytes()), encoding="utf-8")
+    return path
+
+
+def test_in_chromium(results: Results, program: str, module: pathlib.Path, picture: pathlib.Path | None) -> None:
+    """All tests in Chromium."""
     with tempfile.TemporaryDirectory(prefix="page-") as room, Browser(program) as browser:
-        folder = pathlib.Path(room)
-        (folder / "index.html").write_text(make_page.built(module.read_bytes()), encoding="utf-8")
+        path = written_page(room, module)
         browser.resize(1240, 780)
-        tests = FeatureTests(browser, (folder / "index.html").as_uri())
-        for name in ("answers", "menu", "slider", "pointer", "keys", "words", "planes", "keystroke", "stop"):
-            results.test(f"browser {name}", getattr(tests, name))
-        for name in FeatureTests.FEATURES:
+        tests = FeatureTests(browser, path.as_uri())
+        for name in IN_CHROMIUM:
             results.test(f"browser {name.replace('_', ' ')}", getattr(tests, name))
         results.test("browser gallery", tests.gallery, expected())
-        results.test("browser view", with_a_script, tests, folder)
-        results.test("browser host", from_a_host, tests, folder)
+        results.test("browser view", with_a_script, tests, path.parent)
+        results.test("browser host", from_a_host, tests, path.parent)
         results.test("browser errors", tests.errors)
         if picture:
             results.test("browser picture", take_picture, tests, picture)
@@ -267,16 +336,30 @@ def test_in_browser(results, program, module, picture):
         results.test("browser without memory64", without_memory64, browser, tests.address)
 
 
-def parsed():
+def test_in_firefox(results: Results, program: str, module: pathlib.Path) -> None:
+    """All tests in Firefox."""
+    with tempfile.TemporaryDirectory(prefix="page-") as room, Firefox(program) as browser:
+        tests = FeatureTests(browser, written_page(room, module).as_uri())
+        for name in IN_FIREFOX:
+            results.test(f"Firefox {name.replace('_', ' ')}", getattr(tests, name))
+        results.test("Firefox gallery", tests.gallery, expected())
+
+
+def parsed() -> argparse.Namespace:
     parser = argparse.ArgumentParser(description=__doc__, formatter_class=argparse.RawDescriptionHelpFormatter)
-    parser.add_argument("--module", metavar="FILE.wasm", type=pathlib.Path, help="the module (built where the toolchain is)")
+    parser.add_argument(
+        "--module", metavar="FILE.wasm", type=pathlib.Path, help="the module (built where the toolchain is)"
+    )
     parser.add_argument("--node", metavar="FILE", default=shutil.which("node"), help="(that of the path)")
-    parser.add_argument("--browser", metavar="FILE", default=find_browser(), help="Chromium or Chrome (that of the path)")
+    parser.add_argument(
+        "--browser", metavar="FILE", default=find_browser(), help="Chromium or Chrome (that of the path)"
+    )
+    parser.add_argument("--firefox", metavar="FILE", default=find_firefox(), help="(that of the path)")
     parser.add_argument("--picture", metavar="FILE.png", type=pathlib.Path, help="writes a picture of the page too")
     return parser.parse_args()
 
 
-def main():
+def main() -> int:
     given, results = parsed(), Results(errors=[BrowserError])
     module, why = (given.module, "it isn't there") if given.module else make_page.find_module()
     if module is None or not module.is_file():
@@ -284,9 +367,15 @@ def main():
     else:
         test_in_node(results, given.node, module)
         if given.browser:
-            results.test("browser, from its start to its end", test_in_browser, results, given.browser, module, given.picture)
+            results.test(
+                "browser, from its start to its end", test_in_chromium, results, given.browser, module, given.picture
+            )
         else:
             results.skip("browser", "there is no Chromium or Chrome on the path (Debian: apt-get install chromium)")
+        if given.firefox:
+            results.test("Firefox, from its start to its end", test_in_firefox, results, given.firefox, module)
+        else:
+            results.skip("Firefox", "there is no Firefox on the path (Debian: apt-get install firefox-esr)")
     print(results.last_line)
     return results.status
 

@@ -1,11 +1,11 @@
 /*
  * The heap of the WebAssembly module, behind `malloc`, `realloc` and `free`: blocks of powers of two with 16 bytes before each,
  * which say its power. A block that is given back waits in the list of its power. New ones come from the end of the memory,
- * which grows. It is neither proved nor for threads.
+ * which grows by a part of itself, since some browsers copy all of it each time. It is neither proved nor for threads.
  */
 #include "../yuzuratchet.h"
 
-enum { PAGE = 65536, HEAD = 16, LEAST = 5, POWERS = 48 };
+enum { PAGE = 65536, HEAD = 16, LEAST = 5, POWERS = 48, PART = 4 };
 
 /* What lies before a block: the power of its size with this head, and the next block in its list. */
 struct head {
@@ -26,14 +26,18 @@ static unsigned power_of(size_t size) {
     return power;
 }
 
+/* Whether the memory has so many pages more now, or a part of itself where that is more. */
+static _Bool grows(size_t pages) {
+    const size_t part = __builtin_wasm_memory_size(0) / PART;
+    if (pages < part && __builtin_wasm_memory_grow(0, part) != (size_t)-1) return 1;
+    return __builtin_wasm_memory_grow(0, pages) != (size_t)-1;
+}
+
 /* New memory behind all that was taken before, or null. */
 static void *taken(size_t size) {
     if (end == 0) end = ((uintptr_t)&__heap_base + HEAD - 1) / HEAD * HEAD;
     const uintptr_t room = __builtin_wasm_memory_size(0) * (uintptr_t)PAGE;
-    if (end + size > room) {
-        const size_t pages = (end + size - room + PAGE - 1) / PAGE;
-        if (__builtin_wasm_memory_grow(0, pages) == (size_t)-1) return NULL;
-    }
+    if (end + size > room && !grows((end + size - room + PAGE - 1) / PAGE)) return NULL;
     void *const at = (void *)end;
     end += size;
     return at;

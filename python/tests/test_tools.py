@@ -23,7 +23,7 @@ TOOLS = sorted(
     if os.access(path, os.X_OK)
 )
 MODULES = {
-    *("browser", "mutated_scripts", "package_path", "page_features", "page_in_browser"),
+    *("browser", "firefox", "mutated_scripts", "package_path", "page_features", "page_in_browser"),
     *("random_scenes", "results"),
 }
 
