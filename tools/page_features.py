@@ -99,6 +99,7 @@ class FeatureTests(PlayingTests):
         "depth_range",
         "states",
         "recorded_lines",
+        "labels",
         "completions",
         "colours_of_words",
         "changed_by_a_line",
@@ -438,6 +439,23 @@ class FeatureTests(PlayingTests):
             shown = self.text("#state p + p")
             check(wanted in shown, f"{shown!r}, and not {wanted!r}")
             check(self.text("#state p") == "d0 records list 0: 1 command so far", self.text("#state p"))
+        self.forget()
+
+    def labels(self) -> None:
+        """The names of a script's lines are told with them, and are gone where the script is another."""
+        self.open("first_triangle")
+        self.browser.value("page.entry.labels = [[2, 'ground'], [4, 'the <sail>'], [5, null]]; page.playTo(4)")
+        self.browser.wait("document.getElementById('state-line').textContent === 'line 4, the <sail>'")
+        self.browser.value("page.playTo(5)")
+        self.browser.press(*self.place(48, 60))
+        self.wait_for_steps(48, 60)
+        calls = [row[1] for row in self.rows("#changes tbody tr")]
+        check(calls == ["a new target", "ground: clearc", "draw"], f"{calls}")
+        self.browser.value("page.fault = null; page.showVerdict({ line: 3, number: 4 })")
+        check(self.text("#verdict .where").startswith("Line 3, column"), self.text("#verdict .where"))
+        check("(in ground): refusal 4." in self.text("#verdict .where"), self.text("#verdict .where"))
+        self.write(self.value("text") + "i nonsense\n")
+        check(" (in " not in self.text("#verdict .where"), self.text("#verdict .where"))
         self.forget()
 
     def completions(self) -> None:

@@ -1,6 +1,7 @@
 // The page: what is typed and chosen becomes jobs, and their answers are shown.
 
 import { blame } from "../engine/blame.js";
+import { labelOf } from "../engine/labels.js";
 import { Language } from "../engine/language.js";
 import { fragmentOf, fragmentOfName, linked } from "../engine/link.js";
 import { encodePng } from "../engine/png.js";
@@ -32,7 +33,8 @@ const DOING = /** @type {Record<string, string>} */ ({
 
 export class Page {
     /**
-     * @param {{module: ArrayBuffer, worker: string, tables: Tables, gallery: Entry[], opening: {name: string, text: string}}} given
+     * @param {{module: ArrayBuffer, worker: string, tables: Tables, gallery: Entry[], opening: {name: string, text: string}}} given the opening
+     *     script has labels too where its lines have names
      */
     constructor({ module, worker, tables, gallery, opening }) {
         this.language = new Language(tables);
@@ -43,7 +45,7 @@ export class Page {
         this.completion = new Completion(this.editor, part("completions"));
         this.view = new View(part("stage"), part("pane"), part("other"));
         this.pixels = new Pixels(this.jobs, this.view, this.language, {
-            onLine: (line) => this.goTo(line), onTouched: (lines) => this.editor.mark({ touched: lines }),
+            onLine: (line) => this.goTo(line), onTouched: (lines) => this.editor.mark({ touched: lines }), labelOf: (line) => this.labelOf(line),
         });
         this.gestures = new Gestures(this.view, { onHover: (pixel) => this.pixels.hovered(pixel), onPin: (pixel) => this.pixels.pin(pixel) });
         if (opening.text) gallery.unshift({ group: "this page", ...opening });
@@ -291,7 +293,8 @@ export class Page {
     }
 
     askState() {
-        part("state-line").textContent = this.shown ? `line ${this.shown}` : "the line";
+        const label = this.labelOf(this.shown);
+        part("state-line").textContent = this.shown ? `line ${this.shown}${label ? `, ${label}` : ""}` : "the line";
         part("state").replaceChildren();
         if (!this.shown) return;
         this.jobs.ask("state", { last: this.shown }).then(({ state }) => {
@@ -387,12 +390,33 @@ export class Page {
             return;
         }
         const { kind, when, advice } = this.language.meaning(refused.number);
-        const where = refused.line > this.whole ? "Behind the last line" : `Line ${refused.line}${place.isLocated ? `, column ${place.start + 1}` : ""}`;
+        const where = this.whereOf(refused.line, place.isLocated ? place.start + 1 : 0);
         const leads = element("button", { type: "button", className: "where", title: "go there" }, `${where}: ${kind} ${refused.number}.`);
         leads.onclick = () => this.editor.goTo(place.line, place.start, place.end);
         part("verdict").replaceChildren(
             element("p", {}, leads, " ", ...withCode(when)),
             element("p", { className: "advice" }, "What to do (docs/SCRIPT.md): ", ...withCode(advice)));
+    }
+
+    /**
+     * The name of a line, or null.
+     *
+     * @param {number} line
+     */
+    labelOf(line) {
+        return labelOf(this.entry.labels || [], line);
+    }
+
+    /**
+     * A line in words, with the column that is to blame, or 0, and its name.
+     *
+     * @param {number} line
+     * @param {number} column
+     */
+    whereOf(line, column) {
+        if (line > this.whole) return "Behind the last line";
+        const label = this.labelOf(line);
+        return `Line ${line}${column ? `, column ${column}` : ""}${label ? ` (in ${label})` : ""}`;
     }
 
     /**

@@ -10,7 +10,7 @@ import { View } from "./view.js";
 /** @typedef {import("../engine/history.js").Step} Step */
 /** @typedef {import("../engine/playing.js").PixelValue} PixelValue */
 /** @typedef {import("./view.js").Pixel} Pixel */
-/** @typedef {{onLine: (line: number) => void, onTouched: (lines: number[]) => void}} Hears */
+/** @typedef {{onLine: (line: number) => void, onTouched: (lines: number[]) => void, labelOf: (line: number) => string | null}} Hears */
 /** @typedef {{last: number, other: string | null}} Played the line up to which the image shows the script, or 0, and the text beside it */
 
 const REST = 250;
@@ -24,7 +24,7 @@ export class Pixels {
      * @param {Jobs} jobs
      * @param {View} view
      * @param {Language} language
-     * @param {Hears} hears lines that are gone to, and those that changed the pixel
+     * @param {Hears} hears lines that are gone to, and those that changed the pixel, and tells the names of lines
      */
     constructor(jobs, view, language, hears) {
         this.jobs = jobs;
@@ -169,7 +169,7 @@ export class Pixels {
     showSteps() {
         const changing = this.steps.filter(({ before, after }) => !same(before, after));
         part("whole-label").hidden = changing.length === this.steps.length;
-        part("changes").replaceChildren(stepsShown(this.language, this.steps, field("whole").checked, this.hears.onLine));
+        part("changes").replaceChildren(stepsShown(this.language, this.steps, field("whole").checked, this.hears));
         this.hears.onTouched(changing.flatMap(({ line, by }) => (by ? [line, by] : [line])));
     }
 

@@ -207,9 +207,9 @@ export function pixelSaid({ x, y, colour, depth, stencil }) {
  * @param {Language} language
  * @param {Step[]} steps
  * @param {boolean} isWhole whether what changed nothing is shown too
- * @param {OnLine} onLine
+ * @param {{onLine: OnLine, labelOf: (line: number) => string | null}} lines
  */
-export function stepsShown(language, steps, isWhole, onLine) {
+export function stepsShown(language, steps, isWhole, { onLine, labelOf }) {
     const wanted = isWhole ? steps : steps.filter(({ before, after }) => !same(before, after));
     if (!wanted.length) return quietly(steps.length ? "No line changed it." : "No line touched it.");
     const shown = wanted.slice(-MOST_STEPS);
@@ -219,7 +219,7 @@ export function stepsShown(language, steps, isWhole, onLine) {
     const more = element("tr", {}, element("td", { className: "quiet", colSpan: 6 }, `${counted(left)} more before these`));
     const rows = shown.map((step) => element("tr", {},
         element("td", {}, lineButton(step.line, onLine), ...(step.by ? [" by ", lineButton(step.by, onLine)] : [])),
-        callShown(step),
+        callShown(step, labelOf(step.line)),
         element("td", { className: same(step.before, step.after) ? "words quiet" : "words" }, outcomeText(language, step)),
         ...heldShown(step.after, step.before)));
     const body = element("tbody", {}, left ? more : start, ...rows);
@@ -227,16 +227,18 @@ export function stepsShown(language, steps, isWhole, onLine) {
 }
 
 /**
- * What was called: the word, and of a draw the triangle.
+ * What was called: the word behind the name of its line, and of a draw the triangle.
  *
  * @param {Step} step
+ * @param {string | null} label
  */
-function callShown({ word, triangle }) {
-    if (!triangle) return element("td", {}, word);
+function callShown({ word, triangle }, label) {
+    const named = label ? `${label}: ${word}` : word;
+    if (!triangle) return element("td", { className: "words" }, named);
     const { number, of, colour, depth } = triangle;
     const [swatch] = colourShown(colour);
     const title = `its colour is ${colour.join(" ")}, and its depth there ${depth}`;
-    return element("td", { className: "words", title }, swatch, of === 1 ? word : `${word}, triangle ${number} of ${of}`);
+    return element("td", { className: "words", title }, swatch, of === 1 ? named : `${named}, triangle ${number} of ${of}`);
 }
 
 /**

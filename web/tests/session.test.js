@@ -4,6 +4,7 @@ import assert from "assert/strict";
 import test from "node:test";
 
 import { triangles } from "../engine/assembly.js";
+import { labelOf } from "../engine/labels.js";
 import { Script, bytesOf, textOf } from "../engine/script.js";
 import { Session } from "../engine/session.js";
 import { stateAt } from "../engine/state.js";
@@ -74,4 +75,11 @@ test("a list's and a strip's triangles, the leading vertex first", () => {
     assert.deepEqual(triangles([7, 8, 65535, 1, 2, 3, 4, 65535, 65535, 5], 5, 65535), [[1, 2, 3], [2, 4, 3]]);
     assert.deepEqual(triangles([65535, 1, 2], 4, 65535), [[65535, 1, 2]]);
     assert.deepEqual(triangles([], 5, null), []);
+});
+
+test("a name holds from its line on, up to the next one", () => {
+    /** @type {import("../engine/labels.js").Mark[]} */
+    const marks = [[2, "floor"], [5, null], [7, "wall"]];
+    assert.deepEqual([1, 2, 4, 5, 6, 7, 99].map((line) => labelOf(marks, line)), [null, "floor", "floor", null, null, "wall", "wall"]);
+    assert.equal(labelOf([], 3), null);
 });
