@@ -1,6 +1,6 @@
 /*
- * How large answer lines and image can be, by the text of a script. docs/SCRIPT.md has the forms of the answers; the longest of each
- * are spelled here. Numbers beyond these are refused, so that their lines have no answer.
+ * How large answer lines and image can be, by the text of a script. docs/SCRIPT.md has the forms of the answers; the
+ * longest of each are spelled here. Numbers beyond these are refused, so that their lines have no answer.
  */
 #include "yuzuratchet.h"
 

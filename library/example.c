@@ -24,7 +24,8 @@ static uint8_t *bytes_of(const char *name, size_t *size) {
 static void tell(uint32_t status, const struct yuzuratchet_report *report) {
     fprintf(stderr, "example: %s\n", yuzuratchet_status_text(status));
     if (status == YUZURATCHET_REFUSED)
-        fprintf(stderr, "line %llu: %s\n", (unsigned long long)report->refused_line, yuzuratchet_refusal_text(report->refusal));
+        fprintf(stderr, "line %llu: %s\n", (unsigned long long)report->refused_line,
+                yuzuratchet_refusal_text(report->refusal));
 }
 
 int main(int count, char **words) {

@@ -1,6 +1,6 @@
 /*
- * What statuses and the numbers of refused lines mean, for people. refusals.inc is written from the Python package's messages, which has the
- * tables of docs/SCRIPT.md, where the library is built: REFUSAL(number, when, advice) for each.
+ * What statuses and the numbers of refused lines mean, for people. refusals.inc is written from the Python package's
+ * messages, which has the tables of docs/SCRIPT.md, where the library is built: REFUSAL(number, when, advice) for each.
  */
 #include "yuzuratchet.h"
 

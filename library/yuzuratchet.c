@@ -1,7 +1,7 @@
 /*
- * What lies between C and the functions that are proved. A call's areas are examined as numbers, and only areas that fit are
- * handed on: the proved functions take each as a slice, so it must be there, apart from the others, and have 1 to 2^63 - 1
- * bytes.
+ * What lies between C and the functions that are proved. A call's areas are examined as numbers, and only areas that
+ * fit are handed on: the proved functions take each as a slice, so it must be there, apart from the others, and have 1
+ * to 2^63 - 1 bytes.
  */
 #include "yuzuratchet.h"
 
@@ -15,8 +15,8 @@ struct area {
 
 /* The proved functions, as crates/yuzuratchet exports them. */
 uint32_t yuzuratchet_examine(const struct area *areas, size_t count);
-void yuzuratchet_draw_fitting(const uint8_t *script, size_t script_size, uint8_t *lines, size_t lines_size, uint8_t *image,
-                              size_t image_size, struct yuzuratchet_report *report);
+void yuzuratchet_draw_fitting(const uint8_t *script, size_t script_size, uint8_t *lines, size_t lines_size,
+                              uint8_t *image, size_t image_size, struct yuzuratchet_report *report);
 void yuzuratchet_sizes_fitting(const uint8_t *script, size_t script_size, struct yuzuratchet_report *report);
 
 static struct area area_of(const void *at, size_t size) { return (struct area){(uint64_t)(uintptr_t)at, size}; }

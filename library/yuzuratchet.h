@@ -1,25 +1,27 @@
 /*
- * Yuzuratchet as a library: a script of recorded Direct3D 11 calls goes in, answer lines and a Truevision TGA image come out.
+ * Yuzuratchet as a library: a script of recorded Direct3D 11 calls goes in, answer lines and a Truevision TGA image
+ * come out.
  *
  * A script is the text that docs/SCRIPT.md describes. Its answer lines and its image are the bytes that the program
  * tiledraw prints and writes for it.
  *
- * Memory. The caller owns all four areas that a call names: script, lines, image and report. They lie apart, and stay where
- * they are until the call returns. The script is read and never written. Beyond an area's told size nothing is read or
- * written. What else a call needs it takes from malloc, or from the functions that yuzuratchet_use_memory names, and gives it
- * back before it returns. Where memory is refused, the call says so and never ends the process.
+ * Memory. The caller owns all four areas that a call names: script, lines, image and report. They lie apart, and stay
+ * where they are until the call returns. The script is read and never written. Beyond an area's told size nothing is
+ * read or written. What else a call needs it takes from malloc, or from the functions that yuzuratchet_use_memory
+ * names, and gives it back before it returns. Where memory is refused, the call says so and never ends the process.
  *
  * Threads. A call starts none and shares nothing with others: calls on different areas may run side by side.
  *
- * An area that doesn't fit is refused by its name, as enum yuzuratchet_status has them, before anything is read or written.
+ * An area that doesn't fit is refused by its name, as enum yuzuratchet_status has them, before anything is read or
+ * written.
  *
- * Processors. The library wants x86-64-v2 (SSE4.2, POPCNT). On others the loader refuses the shared object in a sentence, where
- * it is glibc's from 2.33 on; a program with the archive in it may end there by an illegal instruction.
+ * Processors. The library wants x86-64-v2 (SSE4.2, POPCNT). On others the loader refuses the shared object in a
+ * sentence, where it is glibc's from 2.33 on; a program with the archive in it may end there by an illegal instruction.
  *
- * What stays. A script that one version takes has the same lines and the same image in all later ones. While the name of
- * the shared object ends in .so.0, a program that was built with an earlier version runs with a later one: no call, status
- * or part of the report goes or changes its number or place. A later version may have more calls, and more statuses behind
- * the last: take a status that you don't know as one that wrote nothing.
+ * What stays. A script that one version takes has the same lines and the same image in all later ones. While the name
+ * of the shared object ends in .so.0, a program that was built with an earlier version runs with a later one: no call,
+ * status or part of the report goes or changes its number or place. A later version may have more calls, and more
+ * statuses behind the last: take a status that you don't know as one that wrote nothing.
  */
 #ifndef YUZURATCHET_H
 #define YUZURATCHET_H
@@ -42,8 +44,9 @@ extern "C" {
 enum yuzuratchet_status {
     /* All lines of the script were taken. The answer lines and the image stand in their areas. */
     YUZURATCHET_DONE = 0,
-    /* A line of the script was refused or has a fault, or memory was refused while it was taken: the answers of the lines
-     * before it and its `refused` line stand in the area for lines. There is no image, and that area is as it was. */
+    /* A line of the script was refused or has a fault, or memory was refused while it was taken: the answers of the
+     * lines before it and its `refused` line stand in the area for lines. There is no image, and that area is as it
+     * was. */
     YUZURATCHET_REFUSED = 1,
     /* The area for lines is too small. The report tells both sizes. Both areas are as they were. */
     YUZURATCHET_LINES_TOO_SMALL = 2,
@@ -69,7 +72,8 @@ struct yuzuratchet_report {
     uint64_t lines_size;
     /* Bytes of the image, 0 where there is none. */
     uint64_t image_size;
-    /* With a refused script the refused line, counted from 1, or 0 where memory was refused before the first was read. Else 0. */
+    /* With a refused script the refused line, counted from 1, or 0 where memory was refused before the first was read.
+     * Else 0. */
     uint64_t refused_line;
     /* With a refused script the number of the refusal, as docs/SCRIPT.md has them. Else 0. */
     uint32_t refusal;
@@ -78,31 +82,33 @@ struct yuzuratchet_report {
 };
 
 /*
- * Draws a script: its answer lines go to the front of `lines`, its image to the front of `image`. The report tells their
- * sizes; what lies behind them in either area is as it was. Returns the status. From YUZURATCHET_NULL_POINTER on nothing was
- * written, the report included.
+ * Draws a script: its answer lines go to the front of `lines`, its image to the front of `image`. The report tells
+ * their sizes; what lies behind them in either area is as it was. Returns the status. From YUZURATCHET_NULL_POINTER on
+ * nothing was written, the report included.
  */
 uint32_t yuzuratchet_draw(const uint8_t *script, size_t script_size, uint8_t *lines, size_t lines_size, uint8_t *image,
                           size_t image_size, struct yuzuratchet_report *report);
 
 /*
- * How many bytes the answer lines and the image of a script have at most: areas of these sizes hold whatever yuzuratchet_draw
- * writes of it. Nothing is drawn. The lines are bounded by the questions of the script, and the image by its first line, whose
- * size it has where the script is drawn. Neither is 0, for no script. Of `script` all `script_size` bytes are read.
+ * How many bytes the answer lines and the image of a script have at most: areas of these sizes hold whatever
+ * yuzuratchet_draw writes of it. Nothing is drawn. The lines are bounded by the questions of the script, and the image
+ * by its first line, whose size it has where the script is drawn. Neither is 0, for no script. Of `script` all
+ * `script_size` bytes are read.
  */
 uint64_t yuzuratchet_lines_bound(const uint8_t *script, size_t script_size);
 uint64_t yuzuratchet_image_bound(const uint8_t *script, size_t script_size);
 
 /*
- * Tells how a script ends and how many bytes its answer lines and its image have, to the byte, and writes the report alone. It
- * draws the script as yuzuratchet_draw does and so takes as long: for areas that are large enough ask for the bounds above.
- * Returns the status: done, refused or no memory, or why an area doesn't fit.
+ * Tells how a script ends and how many bytes its answer lines and its image have, to the byte, and writes the report
+ * alone. It draws the script as yuzuratchet_draw does and so takes as long: for areas that are large enough ask for the
+ * bounds above. Returns the status: done, refused or no memory, or why an area doesn't fit.
  */
 uint32_t yuzuratchet_sizes(const uint8_t *script, size_t script_size, struct yuzuratchet_report *report);
 
 /*
- * What a status means, when a line is refused with a number, and what to do about that: texts for people, in English, with no
- * full stop at the end. They stay where they are, and are never null: a number without a meaning has a text that says so.
+ * What a status means, when a line is refused with a number, and what to do about that: texts for people, in English,
+ * with no full stop at the end. They stay where they are, and are never null: a number without a meaning has a text
+ * that says so.
  */
 const char *yuzuratchet_status_text(uint32_t status);
 const char *yuzuratchet_refusal_text(uint32_t refusal);
@@ -116,8 +122,8 @@ struct yuzuratchet_memory {
 };
 
 /*
- * From now on calls take memory by these functions, or, where `memory` is null, by malloc, realloc and free again. It counts
- * for all threads: call it while no other call of this library runs.
+ * From now on calls take memory by these functions, or, where `memory` is null, by malloc, realloc and free again. It
+ * counts for all threads: call it while no other call of this library runs.
  */
 void yuzuratchet_use_memory(const struct yuzuratchet_memory *memory);
 

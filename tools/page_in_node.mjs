@@ -29,7 +29,8 @@ const tables = JSON.parse(fs.readFileSync(tablesFile, "utf8"));
 function gallery(device, name, bytes) {
     const { status, lines, image } = device.draw(bytes);
     const answers = textOf(lines);
-    if ((status === 1) !== (refusalOf(answersOf(lines)) !== null)) throw new Error(`${name}: status ${status} beside ${answers}`);
+    if ((status === 1) !== (refusalOf(answersOf(lines)) !== null))
+        throw new Error(`${name}: status ${status} beside ${answers}`);
     console.log(`${name}\n${answers}image ${createHash("sha256").update(image).digest("hex")}`);
 }
 
@@ -38,7 +39,9 @@ function stepsOf(draw, script, pixel) {
     return new PixelHistory(draw, script, tables, pixel).steps(script.count);
 }
 
-/** Compares the lines that a pixel's history tells with those behind which the pixel holds something else than before. */
+/**
+ * Compares the lines that a pixel's history tells with those behind which the pixel holds something else than before.
+ */
 function history(device, name, bytes) {
     const draw = (text) => device.draw(text);
     const script = new Script(bytes);
@@ -52,22 +55,28 @@ function history(device, name, bytes) {
         const area = { left: pixel.x, top: pixel.y, width: 1, height: 1 };
         const held = Array.from({ length: script.count }, (_, line) => pixelsBehind(draw, script, line + 1, area)[0]);
         const steps = stepsOf(draw, script, pixel);
-        const plain = held.map((_, line) => line + 1).filter((line) => line > 1 && !same(held[line - 1], held[line - 2]));
+        const plain =
+            held.map((_, line) => line + 1).filter((line) => line > 1 && !same(held[line - 1], held[line - 2]));
         const told = steps.filter(({ before, after }) => !same(before, after));
         const lines = new Set(told.map(({ line, by }) => by || line));
         const end = steps.length ? steps[steps.length - 1].after : held[held.length - 1];
         const isChain = steps.every(({ before }, place) => place === 0 || same(before, steps[place - 1].after));
         if (!plain.every((line) => lines.has(line)) || !same(end, held[held.length - 1]) || !isChain) {
-            throw new Error(`${name} (${pixel.x}, ${pixel.y}): ${JSON.stringify({ lines: [...lines], plain, end, steps })}`);
+            throw new Error(
+                `${name} (${pixel.x}, ${pixel.y}): ${JSON.stringify({ lines: [...lines], plain, end, steps })}`);
         }
         const place = pixel.y * width + pixel.x;
-        if (planes.depth[place] !== end.depth || planes.stencil[place] !== end.stencil) throw new Error(`${name}: planes differ`);
+        if (planes.depth[place] !== end.depth || planes.stencil[place] !== end.stencil)
+            throw new Error(`${name}: planes differ`);
         changes += told.length;
     }
     console.log(`${name} ${changes}`);
 }
 
-/** Prints pixels, and of each its steps: line, the line that executed it or null, triangle and its depth, the outcome, and what is held behind. */
+/**
+ * Prints pixels, and of each its steps: line, the line that executed it or null, triangle and its depth, the outcome,
+ * and what is held behind.
+ */
 function steps(device, name, bytes) {
     const draw = (text) => device.draw(text);
     const script = new Script(bytes);
@@ -75,8 +84,9 @@ function steps(device, name, bytes) {
     const { width, height } = refused ? { width: 1, height: 1 } : decodeTarga(image);
     const found = Array.from({ length: refused ? 0 : 4 }, (_, at) => {
         const [x, y] = [(at * 7919 + 11) % width, (at * 104729 + 2) % height];
-        const told = stepsOf(draw, script, { x, y }).map(({ line, by, triangle, outcome, after }) =>
-            [line, by, triangle && triangle.number, triangle && triangle.depth, outcome, [...after.colour, after.depth, after.stencil]]);
+        const told = stepsOf(draw, script, { x, y })
+                         .map(({ line, by, triangle, outcome, after }) => [line, by, triangle && triangle.number,
+                                  triangle && triangle.depth, outcome, [...after.colour, after.depth, after.stencil]]);
         return [x, y, told];
     });
     console.log(JSON.stringify(found));
@@ -104,4 +114,6 @@ function blamed(device, name, bytes) {
 }
 
 const device = await Device.of(fs.readFileSync(module));
-for (const name of names) ({ gallery, history, steps, memory, blamed })[task](device, name, new Uint8Array(fs.readFileSync(path.join(folder, name))));
+for (const name of names)
+    ({ gallery, history, steps, memory, blamed })[task](
+        device, name, new Uint8Array(fs.readFileSync(path.join(folder, name))));

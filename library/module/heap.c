@@ -1,7 +1,8 @@
 /*
- * The heap of the WebAssembly module, behind `malloc`, `realloc` and `free`: blocks of powers of two with 16 bytes before each,
- * which say its power. A block that is given back waits in the list of its power. New ones come from the end of the memory,
- * which grows by a part of itself, since some browsers copy all of it each time. It is neither proved nor for threads.
+ * The heap of the WebAssembly module, behind `malloc`, `realloc` and `free`: blocks of powers of two with 16 bytes
+ * before each, which say its power. A block that is given back waits in the list of its power. New ones come from the
+ * end of the memory, which grows by a part of itself, since some browsers copy all of it each time. It is neither
+ * proved nor for threads.
  */
 #include "../yuzuratchet.h"
 

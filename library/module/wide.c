@@ -1,6 +1,6 @@
 /*
- * Steps on numbers of 128 bits, for which the target has no instruction. The compiler calls them by these names. Shifts are of 0 to
- * 127 bits.
+ * Steps on numbers of 128 bits, for which the target has no instruction. The compiler calls them by these names. Shifts
+ * are of 0 to 127 bits.
  */
 #include <stdint.h>
 

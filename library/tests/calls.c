@@ -12,7 +12,8 @@ int main(void) {
     struct timespec begun, ended;
     clock_gettime(CLOCK_PROCESS_CPUTIME_ID, &begun);
     for (int i = 0; i < CALLS; i++)
-        CHECK(yuzuratchet_draw(bytes_of(script), sizeof script - 1, lines, sizeof lines, image, sizeof image, &report) == YUZURATCHET_DONE);
+        CHECK(yuzuratchet_draw(bytes_of(script), sizeof script - 1, lines, sizeof lines, image, sizeof image,
+                               &report) == YUZURATCHET_DONE);
     clock_gettime(CLOCK_PROCESS_CPUTIME_ID, &ended);
     const double seconds = (double)(ended.tv_sec - begun.tv_sec) + (double)(ended.tv_nsec - begun.tv_nsec) / 1e9;
     printf("%.1f\n", seconds / CALLS * 1e6);

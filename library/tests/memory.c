@@ -1,4 +1,5 @@
-/* Refuses each request for memory in turn, in the drawing of a script from standard input, and looks at what comes of it. */
+/* Refuses each request for memory in turn, in the drawing of a script from standard input, and looks at what comes of
+ * it. */
 #include "check.h"
 
 enum { FREE = 0xa5 };
@@ -34,7 +35,8 @@ static uint8_t *read_all(size_t *size) {
 }
 
 /* The lines are those of a whole drawing up to some line, and the refusal of one for want of memory behind them. */
-static void are_cut_short(const uint8_t *lines, const struct yuzuratchet_report *report, const uint8_t *whole, size_t whole_size) {
+static void are_cut_short(const uint8_t *lines, const struct yuzuratchet_report *report, const uint8_t *whole,
+                          size_t whole_size) {
     char last[40];
     const size_t size = (size_t)snprintf(last, sizeof last, "refused %" PRIu64 " 1\n", report->refused_line);
     CHECK(report->refusal == 1 && report->image_size == 0 && report->lines_size >= size);
@@ -53,9 +55,11 @@ int main(void) {
     const uint32_t status = yuzuratchet_sizes(script, size, &whole);
     CHECK(status <= YUZURATCHET_REFUSED && held == 0);
     const size_t lines_size = whole.lines_size + 40, image_size = whole.image_size + 1;
-    uint8_t *const whole_lines = taken(lines_size), *const whole_image = taken(image_size), *const lines = taken(lines_size), *const image = taken(image_size);
+    uint8_t *const whole_lines = taken(lines_size), *const whole_image = taken(image_size),
+                   *const lines = taken(lines_size), *const image = taken(image_size);
     asked = 0;
-    CHECK(yuzuratchet_draw(script, size, whole_lines, lines_size, whole_image, image_size, &whole) == status && held == 0);
+    CHECK(yuzuratchet_draw(script, size, whole_lines, lines_size, whole_image, image_size, &whole) == status &&
+          held == 0);
     const size_t requests = asked;
     size_t told = 0;
     for (refused = 1; refused <= requests; refused++) {
@@ -68,7 +72,8 @@ int main(void) {
             CHECK(all_are(lines, lines_size, FREE) && all_are(image, image_size, FREE));
             CHECK(report.lines_size == 0 && report.image_size == 0);
         } else if (memcmp(&report, &whole, sizeof report) == 0) {
-            CHECK(memcmp(lines, whole_lines, whole.lines_size) == 0 && memcmp(image, whole_image, whole.image_size) == 0);
+            CHECK(memcmp(lines, whole_lines, whole.lines_size) == 0 &&
+                  memcmp(image, whole_image, whole.image_size) == 0);
             continue;
         } else {
             CHECK(now == YUZURATCHET_REFUSED && all_are(image, image_size, FREE));

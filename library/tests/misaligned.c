@@ -9,7 +9,8 @@ int main(void) {
     for (size_t shift = 1; shift < _Alignof(struct yuzuratchet_report); shift++) {
         struct yuzuratchet_report *const report = (void *)(block + shift);
         memset(lines, FREE, LINES), memset(image, FREE, IMAGE), memset(block, FREE, REPORT);
-        CHECK(yuzuratchet_draw(bytes_of(script), strlen(script), lines, LINES, image, IMAGE, report) == YUZURATCHET_MISALIGNED);
+        CHECK(yuzuratchet_draw(bytes_of(script), strlen(script), lines, LINES, image, IMAGE, report) ==
+              YUZURATCHET_MISALIGNED);
         CHECK(yuzuratchet_sizes(bytes_of(script), strlen(script), report) == YUZURATCHET_MISALIGNED);
         CHECK(all_are(lines, LINES, FREE) && all_are(image, IMAGE, FREE) && all_are(block, REPORT, FREE));
     }

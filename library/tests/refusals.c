@@ -16,7 +16,8 @@ struct areas {
 };
 
 static struct areas areas_of(size_t lines_size, size_t image_size) {
-    struct areas areas = {.lines = taken(lines_size), .image = taken(image_size), .lines_size = lines_size, .image_size = image_size};
+    struct areas areas = {
+        .lines = taken(lines_size), .image = taken(image_size), .lines_size = lines_size, .image_size = image_size};
     memset(areas.lines, FREE, lines_size);
     memset(areas.image, FREE, image_size);
     memset(&areas.report, FREE, sizeof areas.report);
@@ -24,7 +25,8 @@ static struct areas areas_of(size_t lines_size, size_t image_size) {
 }
 
 static uint32_t draw(const char *script, struct areas *areas) {
-    return yuzuratchet_draw(bytes_of(script), strlen(script), areas->lines, areas->lines_size, areas->image, areas->image_size, &areas->report);
+    return yuzuratchet_draw(bytes_of(script), strlen(script), areas->lines, areas->lines_size, areas->image,
+                            areas->image_size, &areas->report);
 }
 
 static void leave(struct areas areas) {
@@ -32,7 +34,9 @@ static void leave(struct areas areas) {
     free(areas.image);
 }
 
-static bool are_untouched(const struct areas *areas) { return all_are(areas->lines, areas->lines_size, FREE) && all_are(areas->image, areas->image_size, FREE); }
+static bool are_untouched(const struct areas *areas) {
+    return all_are(areas->lines, areas->lines_size, FREE) && all_are(areas->image, areas->image_size, FREE);
+}
 
 /* Each pair of sizes around those that are needed. */
 static void sizes_of_areas(const char *script, const char *lines, size_t image, uint32_t status) {
@@ -64,7 +68,8 @@ static void image_is_drawn(void) {
     static const uint8_t header[] = {0, 0, 2, 0, 0, 0, 0, 0, 0, 0, 0, 0, 4, 0, 4, 0, 32, 0x28};
     static const uint8_t color[] = {3, 2, 1, 4};
     CHECK(areas.report.image_size == IMAGE && memcmp(areas.image, header, sizeof header) == 0);
-    for (size_t at = sizeof header; at < IMAGE; at += sizeof color) CHECK(memcmp(areas.image + at, color, sizeof color) == 0);
+    for (size_t at = sizeof header; at < IMAGE; at += sizeof color)
+        CHECK(memcmp(areas.image + at, color, sizeof color) == 0);
     CHECK(areas.report.refused_line == 0 && areas.report.refusal == 0);
     leave(areas);
 }
@@ -81,7 +86,8 @@ static void refusal_is_told(void) {
 }
 
 /* A call whose areas don't fit: nothing is written. */
-static void refuses(uint32_t status, const void *script, size_t script_size, void *lines, size_t lines_size, void *image, size_t image_size, void *report, struct areas *areas) {
+static void refuses(uint32_t status, const void *script, size_t script_size, void *lines, size_t lines_size,
+                    void *image, size_t image_size, void *report, struct areas *areas) {
     const struct yuzuratchet_report before = areas->report;
     CHECK(yuzuratchet_draw(script, script_size, lines, lines_size, image, image_size, report) == status);
     CHECK(are_untouched(areas) && memcmp(&before, &areas->report, sizeof before) == 0);
@@ -122,7 +128,8 @@ static void neighbours(void) {
     uint8_t *const script = block, *const lines = script + 40, *const image = lines + 64, *const report = image + 128;
     CHECK(strlen(drawn) == 40);
     memcpy(script, drawn, 40);
-    CHECK(yuzuratchet_draw(script, 40, lines, 64, image, 128, (struct yuzuratchet_report *)(void *)report) == YUZURATCHET_DONE);
+    CHECK(yuzuratchet_draw(script, 40, lines, 64, image, 128, (struct yuzuratchet_report *)(void *)report) ==
+          YUZURATCHET_DONE);
     CHECK(memcmp(script, drawn, 40) == 0 && memcmp(lines, answers, sizeof answers - 1) == 0);
     free(block);
 }

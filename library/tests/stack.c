@@ -1,6 +1,6 @@
 /*
- * Draws a script from standard input on a thread with a stack of so many kilobytes, `stack KILOBYTES`, and prints how many bytes of it
- * the thread has touched. Below the stack lies a page that can't be touched.
+ * Draws a script from standard input on a thread with a stack of so many kilobytes, `stack KILOBYTES`, and prints how
+ * many bytes of it the thread has touched. Below the stack lies a page that can't be touched.
  */
 #define _DEFAULT_SOURCE
 #include <pthread.h>
@@ -16,7 +16,8 @@ static size_t script_size;
 
 static void *draws(void *nothing) {
     (void)nothing;
-    const size_t lines_size = yuzuratchet_lines_bound(script, script_size), image_size = yuzuratchet_image_bound(script, script_size);
+    const size_t lines_size = yuzuratchet_lines_bound(script, script_size),
+                 image_size = yuzuratchet_image_bound(script, script_size);
     uint8_t *const lines = taken(lines_size), *const image = taken(image_size);
     struct yuzuratchet_report report;
     CHECK(yuzuratchet_draw(script, script_size, lines, lines_size, image, image_size, &report) <= YUZURATCHET_REFUSED);

@@ -4,7 +4,8 @@
 enum { STATUSES = 12, REFUSALS = 120 };
 
 int main(void) {
-    for (uint32_t status = 0; status < STATUSES; status++) printf("status %" PRIu32 " %s\n", status, yuzuratchet_status_text(status));
+    for (uint32_t status = 0; status < STATUSES; status++)
+        printf("status %" PRIu32 " %s\n", status, yuzuratchet_status_text(status));
     for (uint32_t number = 0; number < REFUSALS; number++) {
         printf("refusal %" PRIu32 " %s\n", number, yuzuratchet_refusal_text(number));
         printf("advice %" PRIu32 " %s\n", number, yuzuratchet_refusal_advice(number));

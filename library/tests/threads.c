@@ -12,9 +12,11 @@ static void *draws(void *number) {
     uint8_t lines[100], image[18 + 4 * 40 * 40];
     struct yuzuratchet_report report;
     for (unsigned i = 0; i < DRAWINGS; i++) {
-        const int size = snprintf(script, sizeof script, "target 40 40\ni clearc %u 2 3 %u\ni pixel 39 39\n", red, i % 256);
+        const int size =
+            snprintf(script, sizeof script, "target 40 40\ni clearc %u 2 3 %u\ni pixel 39 39\n", red, i % 256);
         const int told = snprintf(answer, sizeof answer, "pixel 39 39 %u 2 3 %u 16777215 0\n", red, i % 256);
-        CHECK(yuzuratchet_draw(bytes_of(script), (size_t)size, lines, sizeof lines, image, sizeof image, &report) == YUZURATCHET_DONE);
+        CHECK(yuzuratchet_draw(bytes_of(script), (size_t)size, lines, sizeof lines, image, sizeof image, &report) ==
+              YUZURATCHET_DONE);
         CHECK(report.lines_size == (uint64_t)told && memcmp(lines, answer, (size_t)told) == 0);
         CHECK(image[18] == 3 && image[20] == red && image[sizeof image - 1] == i % 256);
     }

@@ -20,7 +20,8 @@ static uint64_t next(void) {
 static wide number(void) {
     static const uint64_t halves[] = {0, 1, UINT64_MAX, (uint64_t)1 << 63, UINT32_MAX, (uint64_t)1 << 32};
     const uint64_t choice = next();
-    return of_halves(choice % 3 == 0 ? halves[choice / 3 % 6] : next(), choice % 5 == 0 ? halves[choice / 5 % 6] : next());
+    return of_halves(choice % 3 == 0 ? halves[choice / 3 % 6] : next(),
+                     choice % 5 == 0 ? halves[choice / 5 % 6] : next());
 }
 
 int main(void) {

@@ -79,7 +79,8 @@ export class Asking {
     answers() {
         const answers = answersOf(this.draw(joined(this.pieces)).lines);
         const refused = refusalOf(answers);
-        if (refused) throw new Error(`the device refuses a question about a pixel (${refused.line}, ${refused.number})`);
+        if (refused)
+            throw new Error(`the device refuses a question about a pixel (${refused.line}, ${refused.number})`);
         return {
             pixel: (/** @type {number} */ place) => pixelOf(answers[place]),
             passed: (/** @type {number} */ place) => Number(answers[place].split(" ")[2]) > 0,

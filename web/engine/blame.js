@@ -16,7 +16,8 @@ import { Language } from "./language.js";
 export function blame(language, text, { line, number }, size) {
     if (number === 101) return formFault(text);
     const words = text.split(" ");
-    const place = number > 100 ? faultyWord(language, words, line, number) : refusedWord(language, words, line, number, size);
+    const place =
+        number > 100 ? faultyWord(language, words, line, number) : refusedWord(language, words, line, number, size);
     return place === null ? null : placeOf(words, place);
 }
 
@@ -38,7 +39,8 @@ function formFault(text) {
     const strange = /[^ -~]/u.exec(text);
     if (strange) return { start: strange.index, end: strange.index + strange[0].length };
     const spaces = /^ +/.exec(text) || / {2}(?= *[^ ])/.exec(text) || / +$/.exec(text);
-    return spaces ? { start: spaces.index, end: spaces.index + spaces[0].length } : { start: text.length, end: text.length };
+    return spaces ? { start: spaces.index, end: spaces.index + spaces[0].length }
+                  : { start: text.length, end: text.length };
 }
 
 /**

@@ -7,7 +7,10 @@ const REPORT_SIZE = 32;
 // what the device answers to a script without a byte, since the module takes no such area
 const NO_SCRIPT = "refused 1 102\n";
 
-/** @typedef {{status: number, lines: Uint8Array, image: Uint8Array}} Drawn status, answer lines, and image (empty where a line is refused) */
+/**
+ * @typedef {{status: number, lines: Uint8Array, image: Uint8Array}} Drawn status, answer lines, and image (empty where
+ * a line is refused)
+ */
 /** @typedef {(script: Uint8Array) => Drawn} Draw */
 
 /**
@@ -40,14 +43,15 @@ export class Device {
     }
 
     /**
-     * Draws a script. Status 0: it is drawn; 1: a line is refused, as the last answer line says. Throws an Error where the module has no
-     * more memory or stops.
+     * Draws a script. Status 0: it is drawn; 1: a line is refused, as the last answer line says. Throws an Error where
+     * the module has no more memory or stops.
      *
      * @param {Uint8Array} script
      * @returns {Drawn}
      */
     draw(script) {
-        if (!script.length) return { status: REFUSED, lines: new TextEncoder().encode(NO_SCRIPT), image: new Uint8Array(0) };
+        if (!script.length)
+            return { status: REFUSED, lines: new TextEncoder().encode(NO_SCRIPT), image: new Uint8Array(0) };
         /** @type {bigint[]} */
         const areas = [];
         const take = (/** @type {bigint} */ size) => {
@@ -75,7 +79,8 @@ export class Device {
         const bounds = [this.calls.yuzuratchet_lines_bound(text, size), this.calls.yuzuratchet_image_bound(text, size)];
         const [lines, image, report] = [...bounds, BigInt(REPORT_SIZE)].map(take);
         const status = this.calls.yuzuratchet_draw(text, size, lines, bounds[0], image, bounds[1], report);
-        if (status > REFUSED) throw new Error(`the device has no memory for this script, or refuses its areas (status ${status})`);
+        if (status > REFUSED)
+            throw new Error(`the device has no memory for this script, or refuses its areas (status ${status})`);
         const told = new DataView(this.calls.memory.buffer, Number(report), REPORT_SIZE);
         const [written, drawn] = [0, 8].map((at) => Number(told.getBigUint64(at, true)));
         return {

@@ -1,7 +1,13 @@
 // Which values of two targets differ, and by how much.
 
-/** @typedef {{left: number, top: number, right: number, bottom: number}} Box right and bottom are the first column and row outside */
-/** @typedef {{mask: Uint8Array, count: number, box: Box, most: number[]}} Difference where they differ, and of each channel the largest */
+/**
+ * @typedef {{left: number, top: number, right: number, bottom: number}} Box right and bottom are the first column and
+ * row outside
+ */
+/**
+ * @typedef {{mask: Uint8Array, count: number, box: Box, most: number[]}} Difference where they differ, and of each
+ * channel the largest
+ */
 
 /**
  * How two rows of values differ that have so many channels for each pixel; null where they don't.
@@ -26,7 +32,10 @@ export function difference(a, b, width, channels) {
         count++;
         const [x, y] = [place % width, Math.floor(place / width)];
         Object.assign(box, {
-            left: Math.min(box.left, x), top: Math.min(box.top, y), right: Math.max(box.right, x + 1), bottom: Math.max(box.bottom, y + 1),
+            left: Math.min(box.left, x),
+            top: Math.min(box.top, y),
+            right: Math.max(box.right, x + 1),
+            bottom: Math.max(box.bottom, y + 1),
         });
     }
     return count ? { mask, count, box, most } : null;

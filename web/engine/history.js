@@ -1,8 +1,9 @@
 // Why a pixel is what it is: each clear, and each triangle that covers it, with what became of the pixel.
 //
-// The device itself says it. Its image is the same however its commands are grouped, so the script is rewritten into others that ask more
-// of it: which draws and triangles cover the pixel, and then, with these alone and the lists unrolled under their own state, which of
-// their tests refuses, and what the pixel holds behind each. The package's `explain` asks in the same way.
+// The device itself says it. Its image is the same however its commands are grouped, so the script is rewritten into
+// others that ask more of it: which draws and triangles cover the pixel, and then, with these alone and the lists
+// unrolled under their own state, which of their tests refuses, and what the pixel holds behind each. The package's
+// `explain` asks in the same way.
 
 import { ANY_DEPTH, Asking, NO_COLOUR, NO_TESTS } from "./asking.js";
 import { triangles } from "./assembly.js";
@@ -14,8 +15,13 @@ import { performedBy } from "./performed.js";
 /** @typedef {import("./script.js").Script} Script */
 /** @typedef {import("./session.js").Item} Item */
 /** @typedef {import("./session.js").Performed} Performed */
-/** @typedef {{item: Item, number: number, of: number, places: number[]}} Candidate a triangle that may cover the pixel */
-/** @typedef {{item: Item, number: number, of: number, corners: number[][], depth: number}} Covering a triangle that covers it */
+/**
+ * @typedef {{item: Item, number: number, of: number, places: number[]}} Candidate a triangle that may cover the pixel
+ */
+/**
+ * @typedef {{item: Item, number: number, of: number, corners: number[][], depth: number}} Covering a triangle that
+ * covers it
+ */
 /** @typedef {{performed: Performed, item: Item, covering: Covering | null, isLeftOut: boolean}} Touch */
 
 /**
@@ -32,8 +38,13 @@ import { performedBy } from "./performed.js";
 
 /** What became of the pixel; those that refuse a triangle stand in the order in which they are asked. */
 export const OUTCOMES = {
-    cleared: "cleared", drawn: "drawn", leftOut: "left out by the predicate",
-    culled: "culled", scissor: "outside the scissor rectangle", stencil: "the stencil test fails", depth: "the depth test fails",
+    cleared: "cleared",
+    drawn: "drawn",
+    leftOut: "left out by the predicate",
+    culled: "culled",
+    scissor: "outside the scissor rectangle",
+    stencil: "the stencil test fails",
+    depth: "the depth test fails",
 };
 const REFUSING = /** @type {const} */ (["culled", "scissor", "stencil", "depth"]);
 const STATES = ["raster", "scissor", "ds", "blend"];
@@ -79,7 +90,8 @@ export class PixelHistory {
     steps(last, tell = () => {}) {
         const { performed, withholds, end } = performedBy(this.draw, this.script, last, this.pixel);
         tell(1, PARTS);
-        const draws = this.covering(new Set(performed.flatMap(({ list }) => list.items.filter(({ word }) => word.startsWith("draw")))));
+        const draws = this.covering(
+            new Set(performed.flatMap(({ list }) => list.items.filter(({ word }) => word.startsWith("draw")))));
         tell(2, PARTS);
         const candidates = this.candidates(draws);
         tell(3, PARTS);
@@ -100,7 +112,8 @@ export class PixelHistory {
         const asking = this.asking();
         asking.states({ raster: "1 0 1", scissor: asking.alone, ds: NO_TESTS, blend: NO_COLOUR });
         // (those of the same buffers stand together, so that each buffer is set once)
-        const ordered = [...draws].sort((a, b) => a.state.vb - b.state.vb || a.state.ib - b.state.ib || a.line - b.line);
+        const ordered =
+            [...draws].sort((a, b) => a.state.vb - b.state.vb || a.state.ib - b.state.ib || a.line - b.line);
         const asked = ordered.map((item) => {
             asking.copied(this.script, item, item.word === "drawi" ? ["vb", "ib", "topology"] : ["vb", "topology"]);
             return { item, place: asking.counted(`${item.word} ${this.script.numbers(item.line).join(" ")}`) };
@@ -118,8 +131,8 @@ export class PixelHistory {
         const [count, start, base = 0] = this.script.numbers(item.line);
         const [topology] = this.script.numbers(item.state.topology);
         const isIndexed = item.word === "drawi";
-        const places = isIndexed
-            ? this.script.numbers(item.state.ib).slice(start, start + count) : Array.from({ length: count }, (_, at) => start + at);
+        const places = isIndexed ? this.script.numbers(item.state.ib).slice(start, start + count)
+                                 : Array.from({ length: count }, (_, at) => start + at);
         const found = triangles(places, topology, isIndexed ? this.tables.limits.strip_cut : null);
         return found.map((corners) => corners.map((place) => place + base));
     }
@@ -137,7 +150,8 @@ export class PixelHistory {
         /** @type {{place: number, group: Candidate[]}[]} */
         const asked = [];
         for (const item of draws) {
-            const all = this.trianglesOf(item).map((places, number, { length }) => ({ item, number, of: length, places }));
+            const all =
+                this.trianglesOf(item).map((places, number, { length }) => ({ item, number, of: length, places }));
             asking.copied(this.script, item, ["vb"]);
             for (let chunk = 0; chunk < all.length; chunk += most) {
                 const taken = all.slice(chunk, chunk + most);
@@ -163,7 +177,8 @@ export class PixelHistory {
             const vertices = this.script.numbers(item.state.vb);
             const corners = places.map((place) => vertices.slice(7 * place, 7 * place + 7));
             const raster = rasterAlone(this.statesOf(item).raster, "1");
-            asking.states({ raster, scissor: asking.alone, ds: ANY_DEPTH, blend: NO_COLOUR, vb: corners.flat().join(" ") });
+            asking.states(
+                { raster, scissor: asking.alone, ds: ANY_DEPTH, blend: NO_COLOUR, vb: corners.flat().join(" ") });
             return { item, number, of, corners, counted: asking.counted("draw 3 0"), pixel: asking.pixel() };
         });
         const { passed, pixel } = asking.answers();
@@ -200,7 +215,8 @@ export class PixelHistory {
         for (const it of performed) {
             for (const item of it.list.items) {
                 const found = item.word.startsWith("draw") ? covering.get(item) || [] : [null];
-                for (const triangle of found) yield { performed: it, item, covering: triangle, isLeftOut: withholds(it, item) };
+                for (const triangle of found)
+                    yield { performed: it, item, covering: triangle, isLeftOut: withholds(it, item) };
             }
         }
     }
@@ -215,7 +231,8 @@ export class PixelHistory {
         const asking = this.asking();
         const first = asking.pixel();
         const asked = touches.map((touch) => {
-            const tests = touch.isLeftOut || !touch.covering ? null : this.askedTests(asking, touch.item, touch.covering);
+            const tests =
+                touch.isLeftOut || !touch.covering ? null : this.askedTests(asking, touch.item, touch.covering);
             if (tests) {
                 asking.states(this.statesOf(touch.item));
                 asking.add("i draw 3 0\n");
@@ -235,7 +252,8 @@ export class PixelHistory {
     }
 
     /**
-     * Asks each test of a triangle alone, at the pixel alone, without writing anything; `drawn` is depth and stencil at once.
+     * Asks each test of a triangle alone, at the pixel alone, without writing anything; `drawn` is depth and stencil at
+     * once.
      *
      * @param {Asking} asking
      * @param {Item} item
@@ -247,12 +265,19 @@ export class PixelHistory {
         /** @type {Record<string, number>} */
         const asked = {};
         if (isCut === "1") {
-            asking.states({ raster: "1 0 1", scissor: states.scissor, ds: NO_TESTS, blend: NO_COLOUR, vb: this.square() });
+            asking.states(
+                { raster: "1 0 1", scissor: states.scissor, ds: NO_TESTS, blend: NO_COLOUR, vb: this.square() });
             asked.scissor = asking.counted("draw 6 0");
         }
         const [hasDepth, , comparison, hasStencil, read, , ...rest] = states.ds.split(" ");
-        const tests = (/** @type {string} */ depth, /** @type {string} */ stencil) => [depth, 0, comparison, stencil, read, 0, ...rest].join(" ");
-        asking.states({ raster: rasterAlone(states.raster, cull), scissor: asking.alone, blend: NO_COLOUR, vb: corners.flat().join(" ") });
+        /** @type {(depth: string, stencil: string) => string} */
+        const tests = (depth, stencil) => [depth, 0, comparison, stencil, read, 0, ...rest].join(" ");
+        asking.states({
+            raster: rasterAlone(states.raster, cull),
+            scissor: asking.alone,
+            blend: NO_COLOUR,
+            vb: corners.flat().join(" ")
+        });
         const kinds = [["culled", NO_TESTS], ["drawn", tests(hasDepth, hasStencil)]];
         if (hasStencil === "1") kinds.push(["stencil", tests("0", hasStencil)]);
         if (hasDepth === "1") kinds.push(["depth", tests(hasDepth, "0")]);
@@ -268,7 +293,8 @@ export class PixelHistory {
         const { x, y } = this.pixel;
         const { subpixels } = this.tables.limits;
         const corners = [[0, 0], [1, 0], [0, 1], [1, 0], [1, 1], [0, 1]];
-        return corners.map(([right, down]) => `${subpixels * (x + right)} ${subpixels * (y + down)} 0 0 0 0 0`).join(" ");
+        return corners.map(([right, down]) => `${subpixels * (x + right)} ${subpixels * (y + down)} 0 0 0 0 0`)
+            .join(" ");
     }
 
     /**
@@ -281,9 +307,19 @@ export class PixelHistory {
     step({ performed, item, covering }, outcome, before, after) {
         const predicate = item.state.predicate ? this.script.numbers(item.state.predicate).join(" ") : "";
         return {
-            line: item.line, by: performed.by, word: item.word, outcome: OUTCOMES[outcome], before, after,
-            triangle: covering && { number: covering.number, of: covering.of, colour: covering.corners[0].slice(3), depth: covering.depth },
-            states: { ...this.statesOf(item), predicate },
+            line: item.line,
+            by: performed.by,
+            word: item.word,
+            outcome: OUTCOMES[outcome],
+            before,
+            after,
+            triangle: covering && {
+                number: covering.number,
+                of: covering.of,
+                colour: covering.corners[0].slice(3),
+                depth: covering.depth
+            },
+            states: {...this.statesOf(item), predicate },
         };
     }
 }

@@ -1,4 +1,5 @@
-// The words of a script, by the tables that the Python package writes into the page: who may use each, and what may stand behind it.
+// The words of a script, by the tables that the Python package writes into the page: who may use each, and what may
+// stand behind it.
 
 /**
  * @typedef {object} Argument
@@ -101,7 +102,8 @@ export class Language {
     takes(argument, text) {
         if (argument.isContext) return this.deferred.includes(text);
         const value = Number(text);
-        return NUMBER.test(text) && value >= argument.least && value <= argument.most && !(argument.butZero && value === 0);
+        return NUMBER.test(text) && value >= argument.least && value <= argument.most &&
+            !(argument.butZero && value === 0);
     }
 
     /**
@@ -150,7 +152,11 @@ export class Language {
         // (a number is found by what it is called too)
         const items = this.candidates(words, line).filter(({ text: it, label }) =>
             it.startsWith(typed) || (/^[0-9]/.test(it) && label.startsWith(typed.toUpperCase())));
-        return { start, end: column + rest.length, items: items.filter(({ text: it }) => it !== typed + rest || items.length > 1) };
+        return {
+            start,
+            end: column + rest.length,
+            items: items.filter(({ text: it }) => it !== typed + rest || items.length > 1)
+        };
     }
 
     /**
@@ -164,7 +170,9 @@ export class Language {
         if (line === 1 && at === 0) return [this.described(this.tables.words[TARGET])];
         if (at === 0) return this.actors();
         if (at === first - 1) {
-            return Object.values(this.tables.words).filter((word) => word.name !== TARGET && this.serves(word, words[0])).map((it) => this.described(it));
+            return Object.values(this.tables.words)
+                .filter((word) => word.name !== TARGET && this.serves(word, words[0]))
+                .map((it) => this.described(it));
         }
         const word = this.wordOf(words, line);
         const argument = word && this.argument(word, at - first);
@@ -184,7 +192,10 @@ export class Language {
      * @returns {Completion}
      */
     described(word) {
-        return { text: word.name, label: word.arguments.map(({ name }) => name).join(" ") + (word.counts ? "" : " ..") };
+        return {
+            text: word.name,
+            label: word.arguments.map(({ name }) => name).join(" ") + (word.counts ? "" : " ..")
+        };
     }
 
     /**

@@ -1,5 +1,5 @@
-// Scripts in the fragment of an address: the name of one of the menu, `#fan`, or a whole script, `#name=mine&deflate=..` with its bytes packed,
-// or `#name=mine&text=..` where that is shorter.
+// Scripts in the fragment of an address: the name of one of the menu, `#fan`, or a whole script,
+// `#name=mine&deflate=..` with its bytes packed, or `#name=mine&text=..` where that is shorter.
 
 import { packed } from "./png.js";
 import { bytesOf, textOf } from "./script.js";
@@ -38,7 +38,8 @@ export async function linked(fragment) {
     if (!carried) return null;
     try {
         if (!/^(?:name|text|deflate)=/.test(carried)) return { name: decodeURIComponent(carried), text: null };
-        const parts = Object.fromEntries(carried.split("&").map((part) => [part.split("=")[0], part.slice(part.indexOf("=") + 1)]));
+        const parts = Object.fromEntries(
+            carried.split("&").map((part) => [part.split("=")[0], part.slice(part.indexOf("=") + 1)]));
         const text = "text" in parts ? decodeURIComponent(parts.text) : textOf(await unpacked(read(parts.deflate)));
         return { name: decodeURIComponent(parts.name || "") || "linked", text };
     } catch (error) {

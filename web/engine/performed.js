@@ -40,8 +40,8 @@ export function performedBy(draw, script, last, pixel) {
 }
 
 /**
- * The session of a script up to a line, and the counts on which what it runs depends: each is asked for before the line that runs something.
- * A question runs what is pending, and changes no meaning.
+ * The session of a script up to a line, and the counts on which what it runs depends: each is asked for before the line
+ * that runs something. A question runs what is pending, and changes no meaning.
  *
  * @param {Script} script
  * @param {number} last

@@ -6,14 +6,17 @@ import { bytesOf, joined } from "./script.js";
 /** @typedef {import("./script.js").Script} Script */
 /** @typedef {import("./targa.js").Picture} Picture */
 /** @typedef {{width: number, height: number, depth: Uint32Array, stencil: Uint8Array}} Planes row by row */
-/** @typedef {{near: number | null, far: number | null}} Range the depths that are white and black, or null for those of the target */
+/**
+ * @typedef {{near: number | null, far: number | null}} Range the depths that are white and black, or null for those of
+ * the target
+ */
 
 const AT_ONCE = 1 << 18;
 const LINE_FEED = 10, SPACE = 32, ZERO = 48;
 
 /**
- * The planes behind a line. Where `step` is more than 1 each so many pixels of each so many rows are asked for, and stand for their
- * neighbours too.
+ * The planes behind a line. Where `step` is more than 1 each so many pixels of each so many rows are asked for, and
+ * stand for their neighbours too.
  *
  * @param {Draw} draw
  * @param {Script} script
@@ -83,8 +86,8 @@ export function rangeOf(depth, deepest) {
 }
 
 /**
- * Depths as grey: the nearest of a range white, the farthest dark, what is nearer or farther than the range white or dark too, and black
- * where nothing was drawn.
+ * Depths as grey: the nearest of a range white, the farthest dark, what is nearer or farther than the range white or
+ * dark too, and black where nothing was drawn.
  *
  * @param {Planes} planes
  * @param {{near: number, far: number}} range
@@ -94,7 +97,9 @@ export function rangeOf(depth, deepest) {
 export function depthPicture({ width, height, depth }, { near, far }, deepest) {
     const scale = 215 / Math.max(1, far - near);
     return picture(width, height, depth, (value) => {
-        const grey = value === deepest ? 0 : Math.round(255 - (Math.min(Math.max(value, near), Math.max(near, far)) - near) * scale);
+        const grey = value === deepest
+            ? 0
+            : Math.round(255 - (Math.min(Math.max(value, near), Math.max(near, far)) - near) * scale);
         return 0xff000000 | (grey << 16) | (grey << 8) | grey;
     });
 }
@@ -112,7 +117,8 @@ export function stencilPicture({ width, height, stencil }) {
 
 /** @param {number} turn */
 function hue(turn) {
-    const [red, green, blue] = [0, 1 / 3, 2 / 3].map((shift) => Math.round(140 + 100 * Math.cos(2 * Math.PI * (turn - shift))));
+    const [red, green, blue] =
+        [0, 1 / 3, 2 / 3].map((shift) => Math.round(140 + 100 * Math.cos(2 * Math.PI * (turn - shift))));
     return 0xff000000 | (blue << 16) | (green << 8) | red;
 }
 

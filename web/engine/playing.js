@@ -42,8 +42,9 @@ export function pixelOf(answer) {
 }
 
 /**
- * Plays a script up to a line: the answers and the lines that asked, the refused line or null, the image's bytes, and the line up to which
- * the image shows the script. Where a line is refused that is the last one before it which can be drawn.
+ * Plays a script up to a line: the answers and the lines that asked, the refused line or null, the image's bytes, and
+ * the line up to which the image shows the script. Where a line is refused that is the last one before it which can be
+ * drawn.
  *
  * @param {Draw} draw
  * @param {Script} script
@@ -73,7 +74,8 @@ export function play(draw, script, last) {
  */
 function questionsFor({ left, top, width, height }) {
     const asked = [];
-    for (let y = top; y < top + height; y++) for (let x = left; x < left + width; x++) asked.push(`i pixel ${x} ${y}\n`);
+    for (let y = top; y < top + height; y++)
+        for (let x = left; x < left + width; x++) asked.push(`i pixel ${x} ${y}\n`);
     return asked;
 }
 

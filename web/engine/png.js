@@ -28,7 +28,8 @@ export async function encodePng({ width, height, pixels }, hasAlpha) {
  * @param {"deflate" | "deflate-raw"} how
  */
 export async function packed(bytes, how) {
-    return new Uint8Array(await new Response(new Blob([bytes]).stream().pipeThrough(new CompressionStream(how))).arrayBuffer());
+    return new Uint8Array(
+        await new Response(new Blob([bytes]).stream().pipeThrough(new CompressionStream(how))).arrayBuffer());
 }
 
 /**

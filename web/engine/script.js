@@ -1,4 +1,5 @@
-// A script's text by its lines, and the pieces of which other scripts are put together. Lines are counted from 1, as the device counts them.
+// A script's text by its lines, and the pieces of which other scripts are put together. Lines are counted from 1, as
+// the device counts them.
 
 const LINE_FEED = 10;
 const SPACE = 32;
@@ -35,7 +36,8 @@ export class Script {
     constructor(bytes) {
         this.bytes = bytes.length && bytes[bytes.length - 1] !== LINE_FEED ? joined([bytes, bytesOf("\n")]) : bytes;
         this.ends = [0];
-        for (let at = this.bytes.indexOf(LINE_FEED); at >= 0; at = this.bytes.indexOf(LINE_FEED, at + 1)) this.ends.push(at + 1);
+        for (let at = this.bytes.indexOf(LINE_FEED); at >= 0; at = this.bytes.indexOf(LINE_FEED, at + 1))
+            this.ends.push(at + 1);
         /** @type {Map<number, number[]>} */
         this.parsed = new Map();
     }
@@ -121,7 +123,8 @@ export class Script {
      * @param {number} last
      */
     closedAt(last) {
-        return joined([this.slice(1, last), bytesOf(this.openQueries(last).map((query) => `i end ${query}\n`).join(""))]);
+        return joined(
+            [this.slice(1, last), bytesOf(this.openQueries(last).map((query) => `i end ${query}\n`).join(""))]);
     }
 
     /**

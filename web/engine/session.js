@@ -1,4 +1,5 @@
-// What the contexts of a script hold behind a line: states by the lines that set them, what is recorded and pending, and what ran.
+// What the contexts of a script hold behind a line: states by the lines that set them, what is recorded and pending,
+// and what ran.
 
 /** The words that set a state. */
 export const KINDS = ["topology", "vb", "ib", "raster", "scissor", "ds", "blend", "predicate"];
@@ -9,8 +10,14 @@ const RUNNING = new Set(["flush", "query", "pixel"]);
 /** @typedef {import("./script.js").Script} Script */
 /** @typedef {Record<string, number>} State of each kind the line that set it, or 0 where it is the default */
 /** @typedef {{line: number, word: string, state: State}} Item a draw or a clear, with the state that it is under */
-/** @typedef {{items: Item[], issues: string[], line: number}} List what is recorded, and the queries that it begins; its last line */
-/** @typedef {{by: number | null, at: number, list: List}} Performed what ran at a line, and the line that executed it, where it is a list */
+/**
+ * @typedef {{items: Item[], issues: string[], line: number}} List what is recorded, and the queries that it begins;
+ * its last line
+ */
+/**
+ * @typedef {{by: number | null, at: number, list: List}} Performed what ran at a line, and the line that executed it,
+ * where it is a list
+ */
 
 /** @type {State} */
 const DEFAULTS = Object.freeze(Object.fromEntries(KINDS.map((kind) => [kind, 0])));
@@ -68,7 +75,8 @@ export class Recorder {
 export class Session {
     /**
      * @param {Script} script
-     * @param {(session: Session, line: number, list: List | null) => void} [beforeRun] hears of a line that runs what is pending and a list
+     * @param {(session: Session, line: number, list: List | null) => void} [beforeRun] hears of a line that runs what
+     *     is pending and a list
      */
     constructor(script, beforeRun = () => {}) {
         this.script = script;

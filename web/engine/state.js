@@ -3,8 +3,10 @@
 import { KINDS, Session } from "./session.js";
 
 /** @typedef {import("./script.js").Script} Script */
-/** @typedef {{word: string, line: number, numbers: string[], count: number}} Setting a state, the line that set it or 0, its first numbers, and how
- *     many there are */
+/**
+ * @typedef {{word: string, line: number, numbers: string[], count: number}} Setting a state, the line that set it or
+ * 0, its first numbers, and how many there are
+ */
 
 /**
  * @typedef {object} StateAt
@@ -13,8 +15,8 @@ import { KINDS, Session } from "./session.js";
  * @property {Setting[]} settings
  * @property {number} commands what is recorded, or pending
  * @property {string[]} open the queries that are open
- * @property {{number: number, finish: number, by: number[]} | null} list the list in which the line stands, its last line or 0, and the lines
- *     that execute it; null for a line of the immediate context
+ * @property {{number: number, finish: number, by: number[]} | null} list the list in which the line stands, its last
+ * line or 0, and the lines that execute it; null for a line of the immediate context
  */
 
 const MOST = 200;
@@ -33,9 +35,15 @@ export function stateAt(script, last) {
     const settings = KINDS.map((kind) => {
         const line = context.state[kind];
         const spaces = line ? script.slice(line, line).reduce((sum, byte) => sum + Number(byte === SPACE), 0) : 1;
-        return { word: kind, line, numbers: line ? script.text(line, MOST).split(" ").slice(2) : [], count: spaces - 1 };
+        return {
+            word: kind,
+            line,
+            numbers: line ? script.text(line, MOST).split(" ").slice(2) : [],
+            count: spaces - 1
+        };
     });
-    const list = actor === "i" ? null : listAt(script, actor, session.listsOf(actor).length - (word === "finish" ? 1 : 0));
+    const list =
+        actor === "i" ? null : listAt(script, actor, session.listsOf(actor).length - (word === "finish" ? 1 : 0));
     return { line: last, actor, settings, commands: context.commands, open: [...context.open.keys()], list };
 }
 

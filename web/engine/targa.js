@@ -2,7 +2,10 @@
 
 const HEADER = 18;
 
-/** @typedef {{width: number, height: number, pixels: Uint8ClampedArray}} Picture red, green, blue, alpha of each pixel, row by row */
+/**
+ * @typedef {{width: number, height: number, pixels: Uint8ClampedArray}} Picture red, green, blue, alpha of each pixel,
+ * row by row
+ */
 
 /**
  * The picture of an image's file.
@@ -13,7 +16,8 @@ const HEADER = 18;
 export function decodeTarga(bytes) {
     const width = bytes[12] + 256 * bytes[13];
     const height = bytes[14] + 256 * bytes[15];
-    if (bytes[2] !== 2 || bytes[16] !== 32 || bytes.length !== HEADER + 4 * width * height) throw new Error("the image has another form");
+    if (bytes[2] !== 2 || bytes[16] !== 32 || bytes.length !== HEADER + 4 * width * height)
+        throw new Error("the image has another form");
     const words = new Uint32Array(bytes.slice(HEADER).buffer);
     for (let at = 0; at < words.length; at++) {
         const word = words[at];

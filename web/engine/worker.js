@@ -1,6 +1,7 @@
 // The worker: holds the device, and answers the page's jobs one after the other.
 //
-// A job is {number, kind, bytes, last, ..}; its answer is {number, ..} or {number, error}. What takes long tells {number, done, all} on the way.
+// A job is {number, kind, bytes, last, ..}; its answer is {number, ..} or {number, error}. What takes long
+// tells {number, done, all} on the way.
 
 import { Device } from "./device.js";
 import { difference } from "./difference.js";
@@ -59,13 +60,20 @@ const JOBS = {
     planes({ last, size, what, range, step }, tell) {
         const planes = planesOf(script, last, size, step, tell);
         const found = rangeOf(planes.depth, known().limits.deepest);
-        return { picture: pictureOf(what, planes, { near: range.near ?? found.near, far: range.far ?? found.far }), range: found };
+        return {
+            picture: pictureOf(what, planes, { near: range.near ?? found.near, far: range.far ?? found.far }),
+            range: found
+        };
     },
 
     pixels({ last, area, other }) {
         const values = pixelsBehind(draw, script, last, area);
         const besides = other ? new Script(bytesOf(other)) : null;
-        return { area, values, besides: besides && pixelsBehind(draw, besides, play(draw, besides, besides.count).shown, area) };
+        return {
+            area,
+            values,
+            besides: besides && pixelsBehind(draw, besides, play(draw, besides, besides.count).shown, area)
+        };
     },
 
     state({ last }) {
@@ -74,7 +82,9 @@ const JOBS = {
 
     changed({ last, what }, tell) {
         const [before, after] = [last - 1, last].map((line) => valuesOf(script, line, what, tell));
-        return { difference: before && after ? difference(before.values, after.values, after.width, after.channels) : null };
+        return {
+            difference: before && after ? difference(before.values, after.values, after.width, after.channels) : null
+        };
     },
 
     beside({ last, what, other }, tell) {
@@ -83,7 +93,8 @@ const JOBS = {
         if (!told.image.length) return { refused: told.refused, picture: null, difference: null, isSameSize: false };
         const [mine, others] = [valuesOf(script, last, what, tell), valuesOf(another, told.shown, what, tell)];
         const isSameSize = Boolean(mine && others && mine.width === others.width && mine.height === others.height);
-        const found = mine && others && isSameSize ? difference(mine.values, others.values, mine.width, mine.channels) : null;
+        const found =
+            mine && others && isSameSize ? difference(mine.values, others.values, mine.width, mine.channels) : null;
         return { refused: told.refused, picture: others && others.picture, difference: found, isSameSize };
     },
 
@@ -118,7 +129,8 @@ function pictureOf(what, planes, range) {
 }
 
 /**
- * The values of a target that are shown, as rows of so many channels a pixel, and their picture; null where there is no image.
+ * The values of a target that are shown, as rows of so many channels a pixel, and their picture; null where there is no
+ * image.
  *
  * @param {Script} of
  * @param {number} last
@@ -131,15 +143,30 @@ function valuesOf(of, last, what, tell) {
     const colours = decodeTarga(image);
     const { width, height } = colours;
     if (what === "alpha" || what === "opaque") {
-        return { width, height, values: colours.pixels, channels: 4, picture: what === "alpha" ? colours : opaque(colours) };
+        return {
+            width,
+            height,
+            values: colours.pixels,
+            channels: 4,
+            picture: what === "alpha" ? colours : opaque(colours)
+        };
     }
     const planes = planesOf(of, shown, colours, 1, tell);
     const values = what === "depth" ? planes.depth : planes.stencil;
-    return { width, height, values, channels: 1, picture: pictureOf(what, planes, rangeOf(planes.depth, known().limits.deepest)) };
+    return {
+        width,
+        height,
+        values,
+        channels: 1,
+        picture: pictureOf(what, planes, rangeOf(planes.depth, known().limits.deepest))
+    };
 }
 
-/** What a worker is in the page's own view: a port.
- * @type {{onmessage: ((event: {data: any}) => void) | null, postMessage: (message: any, transfer?: Transferable[]) => void}} */
+/**
+ * What a worker is in the page's own view: a port.
+ * @type {{onmessage: ((event: {data: any}) => void) | null, postMessage: (message: any, transfer?: Transferable[]) =>
+ *     void}}
+ */
 const port = /** @type {any} */ (globalThis);
 
 port.onmessage = async ({ data: job }) => {
@@ -150,7 +177,8 @@ port.onmessage = async ({ data: job }) => {
             serial = job.serial;
         }
         const answer = await JOBS[job.kind](job, (done, all) => port.postMessage({ number: job.number, done, all }));
-        port.postMessage({ ...answer, number: job.number, milliseconds: performance.now() - begun }, transferred(answer));
+        port.postMessage(
+            {...answer, number: job.number, milliseconds: performance.now() - begun }, transferred(answer));
     } catch (error) {
         port.postMessage({ number: job.number, error: error instanceof Error ? error.message : String(error) });
     }

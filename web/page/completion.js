@@ -114,7 +114,8 @@ export class Completion {
  * @param {number} at
  */
 function shownItem({ text, label }, at) {
-    const made = element("li", { id: `completion-${at}` }, element("code", {}, text), element("span", { className: "quiet" }, ` ${label}`));
+    const made = element("li", { id: `completion-${at}` }, element("code", {}, text),
+        element("span", { className: "quiet" }, ` ${label}`));
     made.setAttribute("role", "option");
     return made;
 }

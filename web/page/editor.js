@@ -1,12 +1,18 @@
-// The editor: a text area whose letters are drawn in colours behind it, with the numbers of the lines beside it, and marks.
+// The editor: a text area whose letters are drawn in colours behind it, with the numbers of the lines beside it, and
+// marks.
 
 import { Language } from "../engine/language.js";
 import { element } from "./elements.js";
 
 /** @typedef {import("../engine/language.js").Caret} Caret */
 /** @typedef {import("../engine/language.js").Token} Token */
-/** @typedef {{line: number, start: number, end: number}} Fault a faulty line, and the letters of it that are to blame */
-/** @typedef {{last: number, touched: number[], fault: Fault | null}} Marks the line that is played, those that are named, the faulty one */
+/**
+ * @typedef {{line: number, start: number, end: number}} Fault a faulty line, and the letters of it that are to blame
+ */
+/**
+ * @typedef {{last: number, touched: number[], fault: Fault | null}} Marks the line that is played, those that are
+ * named, the faulty one
+ */
 /** @typedef {{onEdit: () => void, onLine: (line: number) => void, onCaret: () => void}} Hears */
 
 // of a line that is longer only the letters in view are drawn
@@ -120,7 +126,8 @@ export class Editor {
         }
         // (behind the last line feed stands a line that isn't counted)
         const isBehind = at === this.text.length && this.text.endsWith("\n");
-        return isBehind ? { line: least + 2, text: "", column: 0 } : { line: least + 1, text: this.lineText(least + 1), column: at - lines[least] };
+        return isBehind ? { line: least + 2, text: "", column: 0 }
+                        : { line: least + 1, text: this.lineText(least + 1), column: at - lines[least] };
     }
 
     /**
@@ -155,7 +162,8 @@ export class Editor {
         const { height } = this.measures;
         const top = (line - 1) * height;
         const { scrollTop, clientHeight } = this.area;
-        if (top < scrollTop || top + 2 * height > scrollTop + clientHeight) this.area.scrollTop = top - clientHeight / 3;
+        if (top < scrollTop || top + 2 * height > scrollTop + clientHeight)
+            this.area.scrollTop = top - clientHeight / 3;
         this.due();
     }
 
@@ -189,7 +197,11 @@ export class Editor {
      */
     placeOf(line, column) {
         const { height, top, left } = this.measures;
-        return { left: left + column * this.letter - this.scroll.left, top: top + (line - 1) * height - this.scroll.top, height };
+        return {
+            left: left + column * this.letter - this.scroll.left,
+            top: top + (line - 1) * height - this.scroll.top,
+            height
+        };
     }
 
     /** Draws numbers, marks and letters of the lines that are in view. */
@@ -241,7 +253,11 @@ export class Editor {
      */
     numberOf(line, kinds) {
         const made = element("button", {
-            type: "button", tabIndex: -1, className: ["row", ...kinds].join(" "), textContent: String(line), title: `play the script up to line ${line}`,
+            type: "button",
+            tabIndex: -1,
+            className: ["row", ...kinds].join(" "),
+            textContent: String(line),
+            title: `play the script up to line ${line}`,
         });
         made.dataset.line = String(line);
         made.style.top = `${this.placeOf(line, 0).top}px`;
@@ -280,7 +296,8 @@ export class Editor {
         made.style.left = `${left}px`;
         let at = from;
         for (const { start, end, kind } of this.tokens(text, line, from, to)) {
-            made.append(text.slice(at, start), element("span", { className: kind }, text.slice(Math.max(at, start), Math.min(end, to))));
+            made.append(text.slice(at, start),
+                element("span", { className: kind }, text.slice(Math.max(at, start), Math.min(end, to))));
             at = Math.min(end, to);
         }
         made.append(text.slice(at, to));
@@ -288,7 +305,8 @@ export class Editor {
     }
 
     /**
-     * The words of a line that stand between two letters. Of a long line all behind the first words are taken for numbers.
+     * The words of a line that stand between two letters. Of a long line all behind the first words are taken for
+     * numbers.
      *
      * @param {string} text
      * @param {number} line
@@ -297,9 +315,11 @@ export class Editor {
      * @returns {Token[]}
      */
     tokens(text, line, from, to) {
-        const tokens = this.language.tokens(text.length > SHORT ? text.slice(0, text.indexOf(" ", SHORT >> 1)) : text, line);
+        const tokens =
+            this.language.tokens(text.length > SHORT ? text.slice(0, text.indexOf(" ", SHORT >> 1)) : text, line);
         const last = tokens[tokens.length - 1];
-        if (last.end < text.length) tokens.push({ text: "", start: Math.max(last.end, from), end: text.length, kind: "number" });
+        if (last.end < text.length)
+            tokens.push({ text: "", start: Math.max(last.end, from), end: text.length, kind: "number" });
         return tokens.filter(({ start, end }) => end > from && start < to);
     }
 }

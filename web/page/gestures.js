@@ -45,7 +45,14 @@ export class Gestures {
         if (!this.view.size.width) return;
         const { stage } = this.view;
         const pixel = this.view.pixelAt(event);
-        this.press = { pixel, x: event.clientX, y: event.clientY, left: stage.scrollLeft, top: stage.scrollTop, isDrag: false };
+        this.press = {
+            pixel,
+            x: event.clientX,
+            y: event.clientY,
+            left: stage.scrollLeft,
+            top: stage.scrollTop,
+            isDrag: false
+        };
         if (event.pointerType === "mouse") canvas.setPointerCapture(event.pointerId);
         this.hears.onHover(pixel);
     }
@@ -69,7 +76,10 @@ export class Gestures {
         this.hears.onHover(this.view.pixelAt(event));
     }
 
-    /** A press that was no drag keeps the pixel on which it began: a click tells whole numbers alone, which may lie on the one beside. */
+    /**
+     * A press that was no drag keeps the pixel on which it began: a click tells whole numbers alone, which may lie on
+     * the one beside.
+     */
     click() {
         const { press } = this;
         this.forget();

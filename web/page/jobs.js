@@ -178,6 +178,8 @@ export class Jobs {
 
     tellTime() {
         const job = this.running;
-        if (job) this.tell({ kind: job.kind, seconds: (performance.now() - job.begun) / 1000, done: job.done, all: job.all });
+        if (job)
+            this.tell(
+                { kind: job.kind, seconds: (performance.now() - job.begun) / 1000, done: job.done, all: job.all });
     }
 }

@@ -9,7 +9,8 @@ const NO_MEMORY64 = "This browser's WebAssembly has no 64-bit memory (memory64),
 
 /** Whether this machine's WebAssembly has a 64-bit memory: the shortest module that has one. */
 function hasMemory64() {
-    return typeof WebAssembly === "object" && WebAssembly.validate(new Uint8Array([0, 97, 115, 109, 1, 0, 0, 0, 5, 3, 1, 4, 1]));
+    return typeof WebAssembly === "object" &&
+        WebAssembly.validate(new Uint8Array([0, 97, 115, 109, 1, 0, 0, 0, 5, 3, 1, 4, 1]));
 }
 
 /**

@@ -27,14 +27,20 @@ import { View } from "./view.js";
 const AT_ONCE = 1 << 16;
 const LONG_LINK = 8000;
 const DOING = /** @type {Record<string, string>} */ ({
-    play: "drawing", check: "looking for faults", pixels: "asking", history: "asking what touched the pixel", planes: "asking for each pixel",
-    state: "looking for states", changed: "comparing with the line before", beside: "comparing the scripts",
+    play: "drawing",
+    check: "looking for faults",
+    pixels: "asking",
+    history: "asking what touched the pixel",
+    planes: "asking for each pixel",
+    state: "looking for states",
+    changed: "comparing with the line before",
+    beside: "comparing the scripts",
 });
 
 export class Page {
     /**
-     * @param {{module: ArrayBuffer, worker: string, tables: Tables, gallery: Entry[], opening: {name: string, text: string}}} given the opening
-     *     script has labels too where its lines have names
+     * @param {{module: ArrayBuffer, worker: string, tables: Tables, gallery: Entry[], opening: {name: string, text:
+     *     string}}} given the opening script has labels too where its lines have names
      */
     constructor({ module, worker, tables, gallery, opening }) {
         this.language = new Language(tables);
@@ -45,11 +51,15 @@ export class Page {
         this.completion = new Completion(this.editor, part("completions"));
         this.view = new View(part("stage"), part("pane"), part("other"));
         this.pixels = new Pixels(this.jobs, this.view, this.language, {
-            onLine: (line) => this.goTo(line), onTouched: (lines) => this.editor.mark({ touched: lines }), labelOf: (line) => this.labelOf(line),
+            onLine: (line) => this.goTo(line),
+            onTouched: (lines) => this.editor.mark({ touched: lines }),
+            labelOf: (line) => this.labelOf(line),
         });
-        this.gestures = new Gestures(this.view, { onHover: (pixel) => this.pixels.hovered(pixel), onPin: (pixel) => this.pixels.pin(pixel) });
+        this.gestures = new Gestures(
+            this.view, { onHover: (pixel) => this.pixels.hovered(pixel), onPin: (pixel) => this.pixels.pin(pixel) });
         if (opening.text) gallery.unshift({ group: "this page", ...opening });
-        this.texts = new Texts(gallery, storageOrNull(), () => this.note("This browser has no room for the script: save it, or it is lost with the page."));
+        this.texts = new Texts(gallery, storageOrNull(),
+            () => this.note("This browser has no room for the script: save it, or it is lost with the page."));
         /** @type {Entry} */
         this.entry = this.texts.find(opening.name) || gallery[0];
         this.last = 1;
@@ -92,7 +102,10 @@ export class Page {
         try {
             const found = await linked(location.hash);
             if (!found) return {};
-            if (found.text !== null) return { entry: this.texts.add({ group: "this link", name: this.texts.unique(found.name), text: found.text }) };
+            if (found.text !== null)
+                return {
+                    entry: this.texts.add({ group: "this link", name: this.texts.unique(found.name), text: found.text })
+                };
             const entry = this.texts.find(found.name);
             return entry ? { entry } : { trouble: `This page has no script with the name ${found.name}.` };
         } catch (error) {
@@ -172,7 +185,10 @@ export class Page {
         this.showWord();
     }
 
-    /** Keeps what was edited under a name of its own, so that the script that it was stays, and another one can be looked at meanwhile. */
+    /**
+     * Keeps what was edited under a name of its own, so that the script that it was stays, and another one can be
+     * looked at meanwhile.
+     */
     keepEdit() {
         const { text } = this.editor;
         if (this.entry.group === YOURS && this.entry.name.includes(", edited")) {
@@ -229,7 +245,8 @@ export class Page {
         this.shown = told.picture ? told.shown : 0;
         if (told.refused || this.last >= this.whole) this.showVerdict(told.refused);
         const partly = told.refused && told.picture ? `, lines 1 to ${told.shown}` : "";
-        part("size").textContent = told.picture ? `${told.picture.width} \u00d7 ${told.picture.height}${partly}` : "no image";
+        part("size").textContent =
+            told.picture ? `${told.picture.width} \u00d7 ${told.picture.height}${partly}` : "no image";
         part("size").title = `drawn in ${told.milliseconds.toFixed(1)} ms`;
         part("answers").replaceChildren(answersShown(told.answers, told.questions, (line) => this.goTo(line)));
         document.documentElement.dataset.milliseconds = told.milliseconds.toFixed(2);
@@ -261,13 +278,16 @@ export class Page {
     askPlane({ width, height }, step) {
         const { what } = this;
         const [near, far] = ["near", "far"].map((id) => (field(id).value === "" ? null : Number(field(id).value)));
-        this.jobs.ask("planes", { last: this.shown, size: { width, height }, what, range: { near, far }, step }).then(({ picture, range }) => {
-            field("near").placeholder = String(range.near);
-            field("far").placeholder = String(range.far);
-            if (step > 1) this.view.show(picture);
-            else this.show(picture);
-            if (step > 1) this.askPlane({ width, height, pixels: picture.pixels }, 1);
-        }, (error) => this.failed(error));
+        this.jobs.ask("planes", { last: this.shown, size: { width, height }, what, range: { near, far }, step })
+            .then(({ picture, range }) => {
+                field("near").placeholder = String(range.near);
+                field("far").placeholder = String(range.far);
+                if (step > 1)
+                    this.view.show(picture);
+                else
+                    this.show(picture);
+                if (step > 1) this.askPlane({ width, height, pixels: picture.pixels }, 1);
+            }, (error) => this.failed(error));
     }
 
     /** @param {Picture | null} picture */
@@ -283,7 +303,8 @@ export class Page {
     failed({ message }) {
         document.documentElement.dataset.state = "failed";
         Object.assign(part("verdict"), { className: "verdict bad" }).dataset.key = "";
-        const text = message === STOPPED ? "Stopped: the image is that of the script before." : `The device stopped: ${message}.`;
+        const text = message === STOPPED ? "Stopped: the image is that of the script before."
+                                         : `The device stopped: ${message}.`;
         part("verdict").replaceChildren(element("p", {}, text));
     }
 
@@ -314,13 +335,15 @@ export class Page {
         } else {
             const other = ended(beside.text);
             const asked = { last: this.shown, what: this.what, other };
-            this.jobs.ask("beside", asked).then((told) => this.besides(told, beside.name, other), (error) => this.failed(error));
+            this.jobs.ask("beside", asked)
+                .then((told) => this.besides(told, beside.name, other), (error) => this.failed(error));
         }
         const isAsked = field("changed").checked && this.shown > 1;
         if (!isAsked) return;
         const { shown } = this;
         this.jobs.ask("changed", { last: shown, what: this.what }).then(({ difference }) => {
-            this.showDifference(difference, `line ${shown} changes`, `Line ${shown} changes no pixel of what is shown.`);
+            this.showDifference(
+                difference, `line ${shown} changes`, `Line ${shown} changes no pixel of what is shown.`);
         }, (error) => this.failed(error));
     }
 
@@ -334,7 +357,8 @@ export class Page {
     besides(told, name, other) {
         this.view.showBeside(told.picture);
         if (told.isSameSize) this.pixels.ask({ last: this.shown, other });
-        const until = told.refused ? ` ${name} is drawn as far as its line ${told.refused.line}, which is refused.` : "";
+        const until =
+            told.refused ? ` ${name} is drawn as far as its line ${told.refused.line}, which is refused.` : "";
         if (!told.picture) this.tellDifference(`${name} has no image.${until}`);
         else if (!told.isSameSize) this.tellDifference(`${name} has a target of another size.${until}`);
         else this.showDifference(told.difference, "differ", `Nothing of what is shown differs from ${name}.`, until);
@@ -359,7 +383,8 @@ export class Page {
         const largest = names.map((name, at) => `${name} ${most[at]}`).join(", ");
         const many = `${counted(count)} of ${counted(mask.length)} pixels`;
         const where = `in columns ${box.left} to ${box.right - 1} and rows ${box.top} to ${box.bottom - 1}`;
-        this.tellDifference(`${verb === "differ" ? `${many} differ` : `${verb} ${many}`}, ${where}; at most by ${largest}.${more}`);
+        this.tellDifference(
+            `${verb === "differ" ? `${many} differ` : `${verb} ${many}`}, ${where}; at most by ${largest}.${more}`);
     }
 
     /** @param {string} text */
@@ -391,7 +416,8 @@ export class Page {
         }
         const { kind, when, advice } = this.language.meaning(refused.number);
         const where = this.whereOf(refused.line, place.isLocated ? place.start + 1 : 0);
-        const leads = element("button", { type: "button", className: "where", title: "go there" }, `${where}: ${kind} ${refused.number}.`);
+        const leads = element("button", { type: "button", className: "where", title: "go there" },
+            `${where}: ${kind} ${refused.number}.`);
         leads.onclick = () => this.editor.goTo(place.line, place.start, place.end);
         part("verdict").replaceChildren(
             element("p", {}, leads, " ", ...withCode(when)),
@@ -464,7 +490,8 @@ export class Page {
     }
 
     listen() {
-        const on = (/** @type {string} */ id, /** @type {string} */ event, /** @type {() => void} */ heard) => part(id).addEventListener(event, heard);
+        const on = (/** @type {string} */ id, /** @type {string} */ event, /** @type {() => void} */ heard) =>
+            part(id).addEventListener(event, heard);
         on("menu", "change", () => this.choose(field("menu").value));
         on("remove", "click", () => this.remove());
         on("slider", "input", () => this.goTo(Number(field("slider").value)));
@@ -516,7 +543,8 @@ export class Page {
             const text = await file.text();
             const known = this.texts.find(file.name);
             const isKnown = known && known.text === text;
-            const entry = known && isKnown ? known : this.texts.add({ group: YOURS, name: this.texts.unique(file.name), text });
+            const entry =
+                known && isKnown ? known : this.texts.add({ group: YOURS, name: this.texts.unique(file.name), text });
             this.address(fragmentOfName(entry.name));
             this.open(entry);
         } catch (error) {
@@ -525,7 +553,10 @@ export class Page {
         field("file").value = "";
     }
 
-    /** Saves what is shown: colours as they are, with their alpha where it is shown, and depth and stencil as the picture that they make. */
+    /**
+     * Saves what is shown: colours as they are, with their alpha where it is shown, and depth and stencil as the
+     * picture that they make.
+     */
     async saveImage() {
         if (!this.picture) {
             this.note("There is no image to be saved.");
@@ -567,7 +598,8 @@ export class Page {
 function keptOf(text) {
     const notes = [
         /\r/.test(text) && "Its carriage returns are left out here: the program takes none.",
-        text && !/[\r\n]$/.test(text) && "Its last line is ended by a line feed here: the program takes no line without one.",
+        text && !/[\r\n]$/.test(text) &&
+            "Its last line is ended by a line feed here: the program takes no line without one.",
     ];
     return notes.filter(Boolean).join(" ");
 }

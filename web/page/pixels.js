@@ -10,8 +10,14 @@ import { View } from "./view.js";
 /** @typedef {import("../engine/history.js").Step} Step */
 /** @typedef {import("../engine/playing.js").PixelValue} PixelValue */
 /** @typedef {import("./view.js").Pixel} Pixel */
-/** @typedef {{onLine: (line: number) => void, onTouched: (lines: number[]) => void, labelOf: (line: number) => string | null}} Hears */
-/** @typedef {{last: number, other: string | null}} Played the line up to which the image shows the script, or 0, and the text beside it */
+/**
+ * @typedef {{onLine: (line: number) => void, onTouched: (lines: number[]) => void, labelOf: (line: number) => string |
+ * null}} Hears
+ */
+/**
+ * @typedef {{last: number, other: string | null}} Played the line up to which the image shows the script, or 0, and
+ * the text beside it
+ */
 
 const REST = 250;
 const BLOCK = 16;
@@ -103,7 +109,8 @@ export class Pixels {
         const { width, height } = this.view.size;
         const by = event.shiftKey ? STRIDE : 1;
         const from = this.pinned;
-        this.pinned = from ? this.view.within({ x: from.x + by * move[0], y: from.y + by * move[1] }) : { x: width >> 1, y: height >> 1 };
+        this.pinned = from ? this.view.within({ x: from.x + by * move[0], y: from.y + by * move[1] })
+                           : { x: width >> 1, y: height >> 1 };
         this.isSaid = true;
         this.show(this.pinned);
         this.view.reveal();
@@ -140,11 +147,14 @@ export class Pixels {
         }
         const { width, height } = this.view.size;
         const area = { left, top, width: Math.min(BLOCK, width - left), height: Math.min(BLOCK, height - top) };
-        this.jobs.ask("pixels", { last: this.played.last, area, other: this.played.other }).then(({ values, besides }) => {
-            this.values.set(key, new Map(values.map((/** @type {PixelValue} */ value, /** @type {number} */ at) =>
-                [`${value.x} ${value.y}`, { value, beside: besides ? besides[at] : null }])));
-            this.showValue();
-        }, (error) => this.failed(error));
+        this.jobs.ask("pixels", { last: this.played.last, area, other: this.played.other })
+            .then(({ values, besides }) => {
+                this.values.set(key,
+                    new Map(values.map(
+                        (/** @type {PixelValue} */ value, /** @type {number} */ at) => [`${value.x} ${value.y}`,
+                            { value, beside: besides ? besides[at] : null }])));
+                this.showValue();
+            }, (error) => this.failed(error));
     }
 
     showValue() {
@@ -175,6 +185,7 @@ export class Pixels {
 
     /** @param {Error} error */
     failed({ message }) {
-        part("changes").replaceChildren(element("p", { className: "quiet" }, message === STOPPED ? "Stopped." : `${message}.`));
+        part("changes").replaceChildren(
+            element("p", { className: "quiet" }, message === STOPPED ? "Stopped." : `${message}.`));
     }
 }

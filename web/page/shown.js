@@ -24,7 +24,8 @@ const FACES = ["front_face", "back_face"];
  * @param {OnLine} onLine
  */
 export function lineButton(line, onLine) {
-    return element("button", { type: "button", className: "line", title: `go to line ${line}`, onclick: () => onLine(line) }, String(line));
+    return element("button",
+        { type: "button", className: "line", title: `go to line ${line}`, onclick: () => onLine(line) }, String(line));
 }
 
 // ---- words
@@ -45,7 +46,8 @@ export function wordHelp(language, { text, column, line }) {
     const named = word.arguments.length && at >= 0 ? at % word.arguments.length : -1;
     /** @type {(Node | string)[]} */
     const shown = [element("code", {}, word.name)];
-    word.arguments.forEach((argument, place) => shown.push(" ", element(place === named ? "b" : "span", {}, argument.name)));
+    word.arguments.forEach(
+        (argument, place) => shown.push(" ", element(place === named ? "b" : "span", {}, argument.name)));
     if (!word.counts) shown.push(" and so on");
     const value = named < 0 ? [] : [element("div", {}, ...valueHelp(word.arguments[named], words[at + first]))];
     return [...value, element("div", {}, ...shown)];
@@ -59,7 +61,8 @@ export function wordHelp(language, { text, column, line }) {
  * @returns {(Node | string)[]}
  */
 function valueHelp({ name, range, values, unit }, text) {
-    const shown = Object.entries(values).map(([value, meaning]) => element(value === text ? "b" : "span", {}, `${value} ${meaning}`));
+    const shown = Object.entries(values).map(
+        ([value, meaning]) => element(value === text ? "b" : "span", {}, `${value} ${meaning}`));
     if (shown.length) return [`${name}: `, ...shown.flatMap((it, at) => (at ? [", ", it] : [it]))];
     if (!unit || !/^-?[0-9]+$/.test(text || "")) return [`${name} is ${range}`];
     const [parts, of] = unit;
@@ -99,7 +102,9 @@ export function stateShown(language, { actor, settings, commands, open, list }, 
         element("td", {}, element("code", {}, setting.word)),
         element("td", {}, setting.line ? lineButton(setting.line, onLine) : ""),
         element("td", {}, settingText(language, setting))));
-    if (open.length) rows.push(element("tr", {}, element("td", {}, "open queries"), element("td"), element("td", {}, open.join(", "))));
+    if (open.length)
+        rows.push(
+            element("tr", {}, element("td", {}, "open queries"), element("td"), element("td", {}, open.join(", "))));
     return [
         element("p", {}, head), ...(list ? [recordedHint(actor, list, onLine)] : []),
         element("table", { className: "states" }, element("tbody", {}, ...rows)),
@@ -114,7 +119,8 @@ export function stateShown(language, { actor, settings, commands, open, list }, 
  * @param {OnLine} onLine
  */
 function recordedHint(actor, { number, finish, by }, onLine) {
-    if (!finish) return quietly("Nothing of it is seen: no line ", element("code", {}, `${actor} finish`), " ends the list.");
+    if (!finish)
+        return quietly("Nothing of it is seen: no line ", element("code", {}, `${actor} finish`), " ends the list.");
     const call = element("code", {}, `i exec ${actor} ${number}`);
     if (!by.length) return quietly("Nothing of it is seen: no line ", call, " executes the list.");
     const buttons = by.slice(0, 5).flatMap((line, at) => [at ? ", " : "", lineButton(line, onLine)]);
@@ -132,7 +138,10 @@ function settingText(language, { word: name, line, numbers, count }) {
     const word = language.tables.words[name];
     if (!word.counts) {
         const rows = count / word.arguments.length;
-        return `${counted(rows)} ${name === "vb" ? (rows === 1 ? "vertex" : "vertices") : rows === 1 ? "index" : "indices"}`;
+        return `${counted(rows)} ${
+            name === "vb"    ? (rows === 1 ? "vertex" : "vertices")
+                : rows === 1 ? "index"
+                             : "indices"}`;
     }
     const given = line ? numbers : (language.tables.defaults[name] || "").split(" ").filter(Boolean);
     if (!given.length) return name === "topology" ? "not set" : "none";
@@ -185,10 +194,13 @@ export function pixelShown(value, deepest, beside) {
 function factsShown(head, { colour, depth, stencil }, deepest) {
     /** @type {[string, (Node | string)[]][]} */
     const facts = [
-        ["colour", colourShown(colour)], ["depth", [`${depth} (${(depth / deepest).toFixed(4)})`]], ["stencil", [String(stencil)]],
+        ["colour", colourShown(colour)],
+        ["depth", [`${depth} (${(depth / deepest).toFixed(4)})`]],
+        ["stencil", [String(stencil)]],
     ];
     const list = element("dl", { className: "facts mono" }, element("div", {}, element("dt", {}, head)));
-    for (const [name, value] of facts) list.append(element("div", {}, element("dt", {}, `${name} `), element("dd", {}, ...value)));
+    for (const [name, value] of facts)
+        list.append(element("div", {}, element("dt", {}, `${name} `), element("dd", {}, ...value)));
     return list;
 }
 
@@ -213,15 +225,20 @@ export function stepsShown(language, steps, isWhole, { onLine, labelOf }) {
     const wanted = isWhole ? steps : steps.filter(({ before, after }) => !same(before, after));
     if (!wanted.length) return quietly(steps.length ? "No line changed it." : "No line touched it.");
     const shown = wanted.slice(-MOST_STEPS);
-    const head = ["line", "call", "outcome", "colour", "depth", "stencil"].map((name) => element("th", { scope: "col" }, name));
-    const start = element("tr", {}, element("td"), element("td", { className: "quiet" }, "a new target"), element("td"), ...heldShown(steps[0].before, null));
+    const head =
+        ["line", "call", "outcome", "colour", "depth", "stencil"].map((name) => element("th", { scope: "col" }, name));
+    const start = element("tr", {}, element("td"), element("td", { className: "quiet" }, "a new target"), element("td"),
+        ...heldShown(steps[0].before, null));
     const left = wanted.length - shown.length;
-    const more = element("tr", {}, element("td", { className: "quiet", colSpan: 6 }, `${counted(left)} more before these`));
-    const rows = shown.map((step) => element("tr", {},
-        element("td", {}, lineButton(step.line, onLine), ...(step.by ? [" by ", lineButton(step.by, onLine)] : [])),
-        callShown(step, labelOf(step.line)),
-        element("td", { className: same(step.before, step.after) ? "words quiet" : "words" }, outcomeText(language, step)),
-        ...heldShown(step.after, step.before)));
+    const more =
+        element("tr", {}, element("td", { className: "quiet", colSpan: 6 }, `${counted(left)} more before these`));
+    const rows = shown.map(
+        (step) => element("tr", {},
+            element("td", {}, lineButton(step.line, onLine), ...(step.by ? [" by ", lineButton(step.by, onLine)] : [])),
+            callShown(step, labelOf(step.line)),
+            element("td", { className: same(step.before, step.after) ? "words quiet" : "words" },
+                outcomeText(language, step)),
+            ...heldShown(step.after, step.before)));
     const body = element("tbody", {}, left ? more : start, ...rows);
     return element("table", { className: "changes" }, element("thead", {}, element("tr", {}, ...head)), body);
 }
@@ -238,7 +255,8 @@ function callShown({ word, triangle }, label) {
     const { number, of, colour, depth } = triangle;
     const [swatch] = colourShown(colour);
     const title = `its colour is ${colour.join(" ")}, and its depth there ${depth}`;
-    return element("td", { className: "words", title }, swatch, of === 1 ? named : `${named}, triangle ${number} of ${of}`);
+    return element(
+        "td", { className: "words", title }, swatch, of === 1 ? named : `${named}, triangle ${number} of ${of}`);
 }
 
 /**
@@ -253,7 +271,8 @@ export function outcomeText(language, { outcome, states, triangle, before, after
     const names = [...new Set([values(9)[ds[9]], values(13)[ds[13]]])].join(" or ");
     /** @type {Record<string, string>} */
     const more = {
-        "left out by the predicate": `: query ${states.predicate.split(" ")[0]} counted ${states.predicate.endsWith(" 1") ? "a pixel" : "none"}`,
+        "left out by the predicate":
+            `: query ${states.predicate.split(" ")[0]} counted ${states.predicate.endsWith(" 1") ? "a pixel" : "none"}`,
         "culled": ` by ${language.tables.words.raster.arguments[0].values[states.raster.split(" ")[0]]}`,
         "outside the scissor rectangle": ` ${states.scissor}`,
         "the depth test fails": `: ${triangle && triangle.depth} ${values(2)[ds[2]]} ${before.depth}`,
@@ -272,7 +291,8 @@ export function outcomeText(language, { outcome, states, triangle, before, after
 function heldShown(now, before) {
     return /** @type {const} */ (["colour", "depth", "stencil"]).map((name) => {
         const shown = name === "colour" ? colourShown(now.colour) : [String(now[name])];
-        return element("td", { className: before && String(before[name]) === String(now[name]) ? "quiet" : "" }, ...shown);
+        return element(
+            "td", { className: before && String(before[name]) === String(now[name]) ? "quiet" : "" }, ...shown);
     });
 }
 

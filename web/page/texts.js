@@ -1,7 +1,10 @@
-// The scripts of the menu: those that came with the page, and those that its user has opened or edited, which the browser keeps.
+// The scripts of the menu: those that came with the page, and those that its user has opened or edited, which the
+// browser keeps.
 
 /** @typedef {import("../engine/labels.js").Mark} Mark */
-/** @typedef {{group: string, name: string, text: string, labels?: Mark[]}} Entry a script, and the names of its lines */
+/**
+ * @typedef {{group: string, name: string, text: string, labels?: Mark[]}} Entry a script, and the names of its lines
+ */
 
 const PREFIX = "yuzuratchet:";
 const REST = 300;

@@ -1,5 +1,5 @@
-// The image, and one beside it: canvases of the targets' size, shown in squares, with a veil over what isn't meant, and a frame round the pixel
-// that is asked for.
+// The image, and one beside it: canvases of the targets' size, shown in squares, with a veil over what isn't meant, and
+// a frame round the pixel that is asked for.
 
 import { element } from "./elements.js";
 
@@ -7,7 +7,8 @@ import { element } from "./elements.js";
 /** @typedef {{x: number, y: number}} Pixel */
 
 // pixels of the screen for a pixel of the target
-const ZOOMS = [1 / 16, 1 / 8, 1 / 4, 1 / 2, 1, 2, 3, 4, 5, 6, 8, 10, 12, 16, 20, 24, 32, 40, 48, 64, 80, 96, 128, 160, 192, 256];
+const ZOOMS =
+    [1 / 16, 1 / 8, 1 / 4, 1 / 2, 1, 2, 3, 4, 5, 6, 8, 10, 12, 16, 20, 24, 32, 40, 48, 64, 80, 96, 128, 160, 192, 256];
 const MARGIN = 16;
 const LEAST_FRAME = 5;
 const VEIL = [127, 127, 127, 200];
@@ -28,7 +29,8 @@ class Pane {
     show(picture) {
         const { width, height } = picture || { width: 0, height: 0 };
         if (width !== this.size.width || height !== this.size.height) {
-            for (const canvas of [this.canvas, this.veil]) Object.assign(canvas, { width: Math.max(1, width), height: Math.max(1, height) });
+            for (const canvas of [this.canvas, this.veil])
+                Object.assign(canvas, { width: Math.max(1, width), height: Math.max(1, height) });
             this.size = { width, height };
         }
         const context = this.canvas.getContext("2d");
@@ -50,7 +52,8 @@ class Pane {
     }
 
     /**
-     * Takes so many of the page's pixels for one of the target. The browser itself puts a canvas on whole pixels of the screen.
+     * Takes so many of the page's pixels for one of the target. The browser itself puts a canvas on whole pixels of the
+     * screen.
      *
      * @param {number} scale
      */
@@ -72,7 +75,8 @@ class Pane {
         if (!pixel || this.frame.hidden) return;
         const side = Math.max(scale, LEAST_FRAME);
         const [left, top] = [pixel.x, pixel.y].map((at) => at * scale - (side - scale) / 2);
-        Object.assign(this.frame.style, { left: `${left}px`, top: `${top}px`, width: `${side}px`, height: `${side}px` });
+        Object.assign(
+            this.frame.style, { left: `${left}px`, top: `${top}px`, width: `${side}px`, height: `${side}px` });
     }
 }
 
@@ -178,8 +182,10 @@ export class View {
         const middle = { clientX: (stage.left + stage.right) / 2, clientY: (stage.top + stage.bottom) / 2 };
         if (!this.marked) return middle;
         const box = this.main.canvas.getBoundingClientRect();
-        const [clientX, clientY] = [box.left + (this.marked.x + 0.5) * this.scale, box.top + (this.marked.y + 0.5) * this.scale];
-        const isSeen = clientX >= stage.left && clientX <= stage.right && clientY >= stage.top && clientY <= stage.bottom;
+        const [clientX, clientY] =
+            [box.left + (this.marked.x + 0.5) * this.scale, box.top + (this.marked.y + 0.5) * this.scale];
+        const isSeen =
+            clientX >= stage.left && clientX <= stage.right && clientY >= stage.top && clientY <= stage.bottom;
         return isSeen ? { clientX, clientY } : middle;
     }
 
@@ -190,7 +196,8 @@ export class View {
      * @param {{clientX: number, clientY: number}} [at]
      */
     step(by, at) {
-        const next = by > 0 ? ZOOMS.find((zoom) => zoom > this.zoom) : [...ZOOMS].reverse().find((zoom) => zoom < this.zoom);
+        const next =
+            by > 0 ? ZOOMS.find((zoom) => zoom > this.zoom) : [...ZOOMS].reverse().find((zoom) => zoom < this.zoom);
         if (next) this.choose(next, at);
     }
 
@@ -216,7 +223,8 @@ export class View {
     pixelAt({ clientX, clientY, target }) {
         const pane = target === this.beside.canvas ? this.beside : this.main;
         const box = pane.canvas.getBoundingClientRect();
-        return this.within({ x: Math.floor((clientX - box.left) / this.scale), y: Math.floor((clientY - box.top) / this.scale) });
+        return this.within(
+            { x: Math.floor((clientX - box.left) / this.scale), y: Math.floor((clientY - box.top) / this.scale) });
     }
 
     /**

@@ -22,7 +22,8 @@ test("each word of a line is an actor, a word, a number or wrong", () => {
     assert.equal(kinds("d0 exec d0 0 1"), "actor wrong wrong wrong wrong");
     assert.equal(kinds("d8 flush"), "wrong wrong");
     assert.equal(kinds("i raster 3 0 0 0"), "actor word number number number wrong");
-    assert.equal(kinds("i vb 0 -5 0 1 2 3 4 0 0 -1"), "actor word number number number number number number number number number wrong");
+    assert.equal(kinds("i vb 0 -5 0 1 2 3 4 0 0 -1"),
+        "actor word number number number number number number number number number wrong");
     assert.equal(kinds("i target 4 4"), "actor wrong wrong wrong");
     assert.equal(kinds(""), "wrong");
     assert.deepEqual(language.tokens("i draw 30 0", 2)[2], { text: "30", start: 7, end: 9, kind: "number" });

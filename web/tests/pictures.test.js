@@ -32,7 +32,11 @@ function chunksOf(bytes) {
 }
 
 test("a PNG has the bytes of a picture as they are", async () => {
-    const picture = { width: 2, height: 2, pixels: Uint8ClampedArray.from([200, 100, 50, 3, 1, 2, 3, 0, 255, 254, 253, 255, 9, 8, 7, 128]) };
+    const picture = {
+        width: 2,
+        height: 2,
+        pixels: Uint8ClampedArray.from([200, 100, 50, 3, 1, 2, 3, 0, 255, 254, 253, 255, 9, 8, 7, 128])
+    };
     const bytes = Buffer.from(await (await encodePng(picture, true)).arrayBuffer());
     assert.equal(bytes.toString("hex", 0, 8), "89504e470d0a1a0a");
     assert.ok(bytes.toString("hex").endsWith("0000000049454e44ae426082"), "the sum of the last chunk is another");

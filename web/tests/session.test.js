@@ -45,7 +45,8 @@ test("queries that are open behind a line are ended", () => {
 
 test("what runs, in the order of execution, each under its state", () => {
     const session = new Session(script).takeTo(script.count).end();
-    const told = session.performed.map(({ at, by, list }) => [at, by, list.items.map(({ line, state }) => `${line} ${state.vb} ${state.predicate}`)]);
+    const told = session.performed.map(
+        ({ at, by, list }) => [at, by, list.items.map(({ line, state }) => `${line} ${state.vb} ${state.predicate}`)]);
     assert.deepEqual(told, [
         [11, null, ["8 0 0"]], [11, 11, ["4 3 0"]], [12, null, []], [12, 12, ["6 3 0"]], [16, null, ["15 0 14"]],
     ]);
@@ -80,6 +81,7 @@ test("a list's and a strip's triangles, the leading vertex first", () => {
 test("a name holds from its line on, up to the next one", () => {
     /** @type {import("../engine/labels.js").Mark[]} */
     const marks = [[2, "floor"], [5, null], [7, "wall"]];
-    assert.deepEqual([1, 2, 4, 5, 6, 7, 99].map((line) => labelOf(marks, line)), [null, "floor", "floor", null, null, "wall", "wall"]);
+    assert.deepEqual([1, 2, 4, 5, 6, 7, 99].map((line) => labelOf(marks, line)),
+        [null, "floor", "floor", null, null, "wall", "wall"]);
     assert.equal(labelOf([], 3), null);
 });

@@ -31,7 +31,8 @@ test("what is edited is there again", () => {
     texts.change(entry, "b");
     texts.flush();
     const again = new Texts([...GALLERY], storage, assert.fail);
-    assert.deepEqual(again.entries.map(({ name, text }) => `${name}: ${text}`), ["fan, edited: b", "fan: target 1 1\n"]);
+    assert.deepEqual(
+        again.entries.map(({ name, text }) => `${name}: ${text}`), ["fan, edited: b", "fan: target 1 1\n"]);
     again.remove(again.find("fan, edited"));
     assert.equal(storage.length, 0);
     assert.equal(new Texts([...GALLERY], storage, assert.fail).entries.length, 1);
