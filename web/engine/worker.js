@@ -13,10 +13,14 @@ import { stateAt } from "./state.js";
 import { decodeTarga, opaque } from "./targa.js";
 
 /** @typedef {import("./planes.js").Planes} Planes */
+/** @typedef {import("./planes.js").Range} Range */
 /** @typedef {import("./targa.js").Picture} Picture */
 /** @typedef {(done: number, all: number) => void} Tell */
 
 /** @typedef {import("./language.js").Tables} Tables */
+
+const COLOURS = ["opaque", "alpha"];
+const COLOUR_CHANNELS = 4;
 
 /** @type {Device | null} */
 let device = null;
@@ -60,10 +64,7 @@ const JOBS = {
     planes({ last, size, what, range, step }, tell) {
         const planes = planesOf(script, last, size, step, tell);
         const found = rangeOf(planes.depth, known().limits.deepest);
-        return {
-            picture: pictureOf(what, planes, { near: range.near ?? found.near, far: range.far ?? found.far }),
-            range: found
-        };
+        return { picture: pictureOf(what, planes, within(range, found)), range: found };
     },
 
     pixels({ last, area, other }) {
@@ -81,21 +82,18 @@ const JOBS = {
     },
 
     changed({ last, what }, tell) {
-        const [before, after] = [last - 1, last].map((line) => valuesOf(script, line, what, tell));
-        return {
-            difference: before && after ? difference(before.values, after.values, after.width, after.channels) : null
-        };
+        const [before, after] = [last - 1, last].map((line) => targetOf(script, line, what, tell));
+        return { difference: before && after ? differenceOf(before, after, what) : null };
     },
 
-    beside({ last, what, other }, tell) {
+    beside({ last, what, range, other }, tell) {
         const another = new Script(bytesOf(other));
-        const told = play(draw, another, another.count);
-        if (!told.image.length) return { refused: told.refused, picture: null, difference: null, isSameSize: false };
-        const [mine, others] = [valuesOf(script, last, what, tell), valuesOf(another, told.shown, what, tell)];
-        const isSameSize = Boolean(mine && others && mine.width === others.width && mine.height === others.height);
-        const found =
-            mine && others && isSameSize ? difference(mine.values, others.values, mine.width, mine.channels) : null;
-        return { refused: told.refused, picture: others && others.picture, difference: found, isSameSize };
+        const { refused } = play(draw, another, another.count);
+        const [mine, others] = [targetOf(script, last, what, tell), targetOf(another, another.count, what, tell)];
+        if (!mine || !others) return { refused, picture: null, difference: null, isSameSize: false };
+        const isSameSize = mine.width === others.width && mine.height === others.height;
+        const found = isSameSize ? differenceOf(mine, others, what) : null;
+        return { refused, picture: besidePicture(mine, others, what, range), difference: found, isSameSize };
     },
 
     history({ last, x, y }, tell) {
@@ -128,38 +126,58 @@ function pictureOf(what, planes, range) {
     return what === "depth" ? depthPicture(planes, range, known().limits.deepest) : stencilPicture(planes);
 }
 
+/** @typedef {Picture & {planes: Planes | null}} Target colours, and the planes where one of these is shown */
+
 /**
- * The values of a target that are shown, as rows of so many channels a pixel, and their picture; null where there is no
- * image.
+ * What a script has drawn up to a line, or null where there is no image.
  *
  * @param {Script} of
  * @param {number} last
  * @param {string} what
  * @param {Tell} tell
+ * @returns {Target | null}
  */
-function valuesOf(of, last, what, tell) {
+function targetOf(of, last, what, tell) {
     const { image, shown } = play(draw, of, last);
     if (!image.length) return null;
     const colours = decodeTarga(image);
-    const { width, height } = colours;
-    if (what === "alpha" || what === "opaque") {
-        return {
-            width,
-            height,
-            values: colours.pixels,
-            channels: 4,
-            picture: what === "alpha" ? colours : opaque(colours)
-        };
-    }
-    const planes = planesOf(of, shown, colours, 1, tell);
-    const values = what === "depth" ? planes.depth : planes.stencil;
-    return {
-        width,
-        height,
-        values,
-        channels: 1,
-        picture: pictureOf(what, planes, rangeOf(planes.depth, known().limits.deepest))
-    };
+    return { ...colours, planes: COLOURS.includes(what) ? null : planesOf(of, shown, colours, 1, tell) };
+}
+
+/**
+ * Where two targets differ in what is shown of them.
+ *
+ * @param {Target} one
+ * @param {Target} other
+ * @param {string} what
+ */
+function differenceOf(one, other, what) {
+    const values = (/** @type {Target} */ { planes, pixels }) =>
+        planes ? (what === "depth" ? planes.depth : planes.stencil) : pixels;
+    return difference(values(one), values(other), one.width, one.planes ? 1 : COLOUR_CHANNELS);
+}
+
+/**
+ * The picture of a target beside one of whose depths the range is taken.
+ *
+ * @param {Target} mine
+ * @param {Target} others
+ * @param {string} what
+ * @param {Range} range
+ */
+function besidePicture(mine, others, what, range) {
+    if (!mine.planes || !others.planes) return what === "opaque" ? opaque(others) : others;
+    return pictureOf(what, others.planes, within(range, rangeOf(mine.planes.depth, known().limits.deepest)));
+}
+
+/**
+ * The range that is given, as far as it is.
+ *
+ * @param {Range} range
+ * @param {{near: number, far: number}} found
+ */
+function within(range, found) {
+    return { near: range.near ?? found.near, far: range.far ?? found.far };
 }
 
 /**

@@ -276,9 +276,8 @@ export class Page {
      * @param {number} step
      */
     askPlane({ width, height }, step) {
-        const { what } = this;
-        const [near, far] = ["near", "far"].map((id) => (field(id).value === "" ? null : Number(field(id).value)));
-        this.jobs.ask("planes", { last: this.shown, size: { width, height }, what, range: { near, far }, step })
+        const { what, range: given } = this;
+        this.jobs.ask("planes", { last: this.shown, size: { width, height }, what, range: given, step })
             .then(({ picture, range }) => {
                 field("near").placeholder = String(range.near);
                 field("far").placeholder = String(range.far);
@@ -313,6 +312,12 @@ export class Page {
         return field("what").value;
     }
 
+    /** The depths that are shown white and dark, or null for those of the target. */
+    get range() {
+        const [near, far] = ["near", "far"].map((id) => (field(id).value === "" ? null : Number(field(id).value)));
+        return { near, far };
+    }
+
     askState() {
         const label = this.labelOf(this.shown);
         part("state-line").textContent = this.shown ? `line ${this.shown}${label ? `, ${label}` : ""}` : "the line";
@@ -334,7 +339,7 @@ export class Page {
             this.view.showBeside(null);
         } else {
             const other = ended(beside.text);
-            const asked = { last: this.shown, what: this.what, other };
+            const asked = { last: this.shown, what: this.what, range: this.range, other };
             this.jobs.ask("beside", asked)
                 .then((told) => this.besides(told, beside.name, other), (error) => this.failed(error));
         }
@@ -498,7 +503,7 @@ export class Page {
         on("back", "click", () => this.goTo(this.last - 1));
         on("on", "click", () => this.goTo(this.last + 1));
         on("what", "change", () => this.shownOtherwise());
-        for (const id of ["near", "far"]) on(id, "change", () => this.showPicture());
+        for (const id of ["near", "far"]) on(id, "change", () => this.shownOtherwise());
         for (const id of ["changed", "beside"]) on(id, "change", () => this.compare());
         on("stop", "click", () => this.jobs.stop());
         on("smaller", "click", () => this.view.step(-1));
