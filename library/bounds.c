@@ -4,9 +4,11 @@
  */
 #include "yuzuratchet.h"
 
-static const char pixel_answer[] = "pixel 4095 4095 255 255 255 255 16777215 255\n";
-static const char query_answer[] = "query 63 18446744073709551615\n";
-static const char refused_answer[] = "refused 18446744073709551615 107\n";
+enum {
+    PIXEL_ANSWER = sizeof "pixel 4095 4095 255 255 255 255 16777215 255\n" - 1,
+    QUERY_ANSWER = sizeof "query 63 18446744073709551615\n" - 1,
+    REFUSED_ANSWER = sizeof "refused 18446744073709551615 107\n" - 1
+};
 
 enum { HEADER = 18, PIXEL = 4, GREATEST_SIDE = 4096 };
 
@@ -42,14 +44,14 @@ uint64_t yuzuratchet_image_bound(const uint8_t *script, size_t script_size) {
 }
 
 uint64_t yuzuratchet_lines_bound(const uint8_t *script, size_t script_size) {
-    uint64_t bound = sizeof refused_answer - 1;
+    uint64_t bound = REFUSED_ANSWER;
     if (script_size == 0) return bound;
     struct rest text = {script, script + script_size};
     while (text.at != text.end) {
         if (takes(&text, "i pixel "))
-            bound += sizeof pixel_answer - 1;
+            bound += PIXEL_ANSWER;
         else if (takes(&text, "i query "))
-            bound += sizeof query_answer - 1;
+            bound += QUERY_ANSWER;
         while (text.at != text.end && *text.at != '\n') text.at++;
         takes(&text, "\n");
     }
