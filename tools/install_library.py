@@ -37,6 +37,7 @@ from typing import Any
 
 import package_path
 from yuzuratchet import __version__
+from yuzuratchet.library import STATUSES
 from yuzuratchet.messages import FAULTS, REFUSALS
 
 LIBRARY = package_path.TOP / "library"
@@ -95,11 +96,13 @@ def calls() -> list[str]:
     return re.findall(r"^ +(yuzuratchet_\w+);$", MAP.read_text(encoding="ascii"), re.M)
 
 
-def refusals() -> str:
-    """The texts of refused lines, as texts.c takes them."""
-    rows = sorted({**FAULTS, **REFUSALS}.items())
+def texts() -> str:
+    """The texts of statuses and refused lines, as texts.c takes them."""
     # (a string of JSON in ASCII is one of C, since these texts have neither tabs nor letters of other alphabets)
-    return "".join(f"REFUSAL({number}, {json.dumps(it.when)}, {json.dumps(it.advice)})\n" for number, it in rows)
+    rows = [f"STATUS({number}, {json.dumps(text)})\n" for number, text in STATUSES.items()]
+    for number, it in sorted({**FAULTS, **REFUSALS}.items()):
+        rows.append(f"REFUSAL({number}, {json.dumps(it.when)}, {json.dumps(it.advice)})\n")
+    return "".join(rows)
 
 
 def whole_object(archive: pathlib.Path, folder: pathlib.Path) -> pathlib.Path:
@@ -107,7 +110,7 @@ def whole_object(archive: pathlib.Path, folder: pathlib.Path) -> pathlib.Path:
     run(["ar", "x", archive], cwd=folder)
     proved = folder / "proved.o"
     (folder / run(["ar", "t", archive]).split()[0]).rename(proved)
-    (folder / "refusals.inc").write_text(refusals(), encoding="ascii")
+    (folder / "texts.inc").write_text(texts(), encoding="ascii")
     objects = [proved]
     for name in SOURCES:
         made = folder / f"{name}.o"

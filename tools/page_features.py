@@ -573,7 +573,9 @@ class FeatureTests(PlayingTests):
         self.browser.wait("document.getElementById('pixel').textContent.includes('beside')")
         self.act("what", "change", "depth")
         self.browser.wait("document.getElementById('difference').textContent.startsWith('Nothing of what is shown')")
-        check(self.browser.value(f"{DIGEST}(document.querySelector('#other canvas'))") == self.canvas(), "depths differ")
+        check(
+            self.browser.value(f"{DIGEST}(document.querySelector('#other canvas'))") == self.canvas(), "depths differ"
+        )
         self.act("what", "change", "opaque")
         self.set("beside", "large")
         self.browser.wait("document.getElementById('difference').textContent.includes('another size')")

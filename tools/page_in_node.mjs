@@ -113,7 +113,7 @@ function blamed(device, name, bytes) {
     console.log(JSON.stringify(refused && [refused.line, refused.number, place && place.start, place && place.end]));
 }
 
-const device = await Device.of(fs.readFileSync(module));
+const device = await Device.of(fs.readFileSync(module), tables.library);
 for (const name of names)
     ({ gallery, history, steps, memory, blamed })[task](
         device, name, new Uint8Array(fs.readFileSync(path.join(folder, name))));

@@ -45,7 +45,7 @@ from results import Results, check, told
 from yuzuratchet import __version__
 from yuzuratchet.arguments import whole_number
 from yuzuratchet.errors import ProgramMissing
-from yuzuratchet.library import VARIABLE
+from yuzuratchet.library import STATUSES, VARIABLE
 from yuzuratchet.messages import FAULTS, REFUSALS
 from yuzuratchet.program import find_program
 
@@ -128,7 +128,7 @@ class LibraryTests:
         check(described == calls, f"the manual describes {described}")
         statuses = re.findall(r"^    (YUZURATCHET_\w+) = \d+,?$", header, re.M)
         missing = [it for it in statuses if f".It Dv {it} " not in manual and f", Dv {it} " not in manual]
-        check(len(statuses) == 10 and not missing, f"the manual lacks {missing}")
+        check(len(statuses) == len(STATUSES) and not missing, f"the manual lacks {missing}")
         seen = [line.split() for line in output(["nm", "-g", "--defined-only", self.archive]).decode().splitlines()]
         check(sorted(it[2] for it in seen if len(it) == 3) == calls, f"the archive has the names {seen}")
 
@@ -237,7 +237,7 @@ class LibraryTests:
         for (kind, number), text in found.items():
             message = messages.get(int(number))
             if kind == "status":
-                check(int(number) < 10 or text == "no call ends with this status", f"status {number}: {text}")
+                check(text == STATUSES.get(int(number), "no call ends with this status"), f"status {number}: {text}")
             elif message is None:
                 check(
                     text in ("no line is refused with this number", "look into docs/SCRIPT.md"),
@@ -245,9 +245,7 @@ class LibraryTests:
                 )
             else:
                 check(text == (message.when if kind == "refusal" else message.advice), f"{kind} {number}: {text}")
-        statuses = {text for (kind, _), text in found.items() if kind == "status"}
-        check(len(statuses) == 11, f"{len(statuses)} texts of statuses")
-        return f"{len(messages)} refusals, 10 statuses"
+        return f"{len(messages)} refusals, {len(STATUSES)} statuses"
 
     def small_stack(self, compiler: str) -> str:
         """A call does on the stack of a small thread; how much it takes is seen on a large one."""

@@ -44,6 +44,7 @@ from yuzuratchet import Scene, YuzuratchetError, load_script, page
 from yuzuratchet.backends import draw
 from yuzuratchet.check import located
 from yuzuratchet.explain import explain
+from yuzuratchet.labels import Labels
 
 TOP = package_path.TOP
 STDOUT = TOP / "crates" / "gallery" / "stdout"
@@ -281,15 +282,16 @@ def test_in_node(results: Results, node: str | None, module: pathlib.Path) -> No
 
 def with_a_script(tests: PlayingTests, folder: pathlib.Path) -> None:
     """The page of `yuzuratchet view` shows its script first."""
-    text = "target 3 2\ni clearc 1 2 3 255\ni draw 3 0\n"
+    text, labels = "target 3 2\ni clearc 1 2 3 255\ni draw 3 0\n", Labels([(2, "ground"), (3, "a <sail>")])
     built = (folder / "index.html").read_text(encoding="utf-8")
     path = folder / "with-a-script.html"
-    path.write_text(page.with_script(built, "a </script> & more.txt", text), encoding="utf-8")
+    path.write_text(page.with_script(built, "a </script> & more.txt", text, labels), encoding="utf-8")
     tests.browser.open("about:blank")
     tests.browser.open(path.as_uri())
     tests.browser.wait(PLAYED)
     check(tests.value("text") == text, "another script is shown")
-    check(tests.text("#verdict .where") == "Line 3, column 3: refusal 7.", tests.text("#verdict"))
+    check(tests.text("#verdict .where") == "Line 3, column 3 (in a <sail>): refusal 7.", tests.text("#verdict"))
+    tests.browser.wait("document.getElementById('state-line').textContent === 'line 2, ground'")
     check(tests.text("#size") == "3 × 2, lines 1 to 2", tests.text("#size"))
 
 

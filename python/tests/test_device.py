@@ -306,7 +306,9 @@ def test_the_statuses_are_those_of_the_header() -> None:
         name.lower(): int(value)
         for name, value in re.findall(r"^ {4}YUZURATCHET_(\w+) = (\d+)", header(), re.M)
     }
-    assert DEVICE["library"]["statuses"] == said
+    statuses = DEVICE["library"]["statuses"]
+    assert {name: it["number"] for name, it in statuses.items()} == said
+    assert len({it["text"] for it in statuses.values()}) == len(said)
 
 
 def test_the_report_is_that_of_the_header() -> None:

@@ -1,9 +1,10 @@
 // The device: the WebAssembly module behind one function, draw. library/MODULE.md has the module's calls.
 //
-// The module takes areas of its own memory, by addresses of 64 bits, and tells what it wrote in a report of 32 bytes.
+// The module takes areas of its own memory, by addresses of 64 bits, and tells what it wrote in a report, whose layout
+// and whose statuses are those of yuzuratchet.h.
 
-const DONE = 0, REFUSED = 1;
-const REPORT_SIZE = 32;
+import { bytesOf } from "./script.js";
+
 // what the device answers to a script without a byte, since the module takes no such area
 const NO_SCRIPT = "refused 1 102\n";
 
@@ -12,6 +13,9 @@ const NO_SCRIPT = "refused 1 102\n";
  * a line is refused)
  */
 /** @typedef {(script: Uint8Array) => Drawn} Draw */
+
+/** @typedef {{number: number, text: string}} Status */
+/** @typedef {{statuses: Record<string, Status>, report: Record<string, number>}} Layout places of a report by names */
 
 /**
  * @typedef {object} Calls what the module exports
@@ -25,16 +29,24 @@ const NO_SCRIPT = "refused 1 102\n";
  */
 
 export class Device {
-    /** @param {ArrayBuffer | Uint8Array} module */
-    static async of(module) {
+    /**
+     * @param {ArrayBuffer | Uint8Array} module
+     * @param {Layout} layout
+     */
+    static async of(module, layout) {
         const { instance } = await WebAssembly.instantiate(module, {});
-        return new Device(instance);
+        return new Device(instance, layout);
     }
 
-    /** @param {WebAssembly.Instance} instance */
-    constructor(instance) {
+    /**
+     * @param {WebAssembly.Instance} instance
+     * @param {Layout} layout
+     */
+    constructor(instance, { statuses, report }) {
         /** @type {Calls} */
         this.calls = /** @type {any} */ (instance.exports);
+        this.statuses = statuses;
+        this.report = report;
     }
 
     /** 300 is version 0.3.0. */
@@ -50,8 +62,8 @@ export class Device {
      * @returns {Drawn}
      */
     draw(script) {
-        if (!script.length)
-            return { status: REFUSED, lines: new TextEncoder().encode(NO_SCRIPT), image: new Uint8Array(0) };
+        const { refused } = this.statuses;
+        if (!script.length) return { status: refused.number, lines: bytesOf(NO_SCRIPT), image: new Uint8Array(0) };
         /** @type {bigint[]} */
         const areas = [];
         const take = (/** @type {bigint} */ size) => {
@@ -77,16 +89,24 @@ export class Device {
      */
     drawTaken(text, size, take) {
         const bounds = [this.calls.yuzuratchet_lines_bound(text, size), this.calls.yuzuratchet_image_bound(text, size)];
-        const [lines, image, report] = [...bounds, BigInt(REPORT_SIZE)].map(take);
+        const [lines, image, report] = [...bounds, BigInt(this.report.size)].map(take);
         const status = this.calls.yuzuratchet_draw(text, size, lines, bounds[0], image, bounds[1], report);
-        if (status > REFUSED)
-            throw new Error(`the device has no memory for this script, or refuses its areas (status ${status})`);
-        const told = new DataView(this.calls.memory.buffer, Number(report), REPORT_SIZE);
-        const [written, drawn] = [0, 8].map((at) => Number(told.getBigUint64(at, true)));
-        return {
-            status, lines: this.bytes(lines, written).slice(),
-            image: status === DONE ? this.bytes(image, drawn).slice() : new Uint8Array(0),
-        };
+        const { done, refused } = this.statuses;
+        if (status !== done.number && status !== refused.number) throw new Error(`${this.textOf(status)} (${status})`);
+        const told = new DataView(this.calls.memory.buffer, Number(report), this.report.size);
+        const [written, drawn] =
+            [this.report.lines_size, this.report.image_size].map((at) => Number(told.getBigUint64(at, true)));
+        return { status, lines: this.bytes(lines, written).slice(), image: this.bytes(image, drawn).slice() };
+    }
+
+    /**
+     * What a status means.
+     *
+     * @param {number} status
+     */
+    textOf(status) {
+        const known = Object.values(this.statuses).find(({ number }) => number === status);
+        return known ? known.text : "the device ends otherwise";
     }
 
     /**

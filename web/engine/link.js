@@ -4,6 +4,9 @@
 import { packed } from "./png.js";
 import { bytesOf, textOf } from "./script.js";
 
+// so many bytes at once become letters
+const PIECE = 1 << 13;
+
 /** @typedef {{name: string, text: string | null}} Linked a script's name, and its text unless it is one of the menu */
 
 /**
@@ -60,7 +63,7 @@ async function unpacked(bytes) {
  */
 function spelled(bytes) {
     let letters = "";
-    for (let at = 0; at < bytes.length; at += 4096) letters += String.fromCharCode(...bytes.subarray(at, at + 4096));
+    for (let at = 0; at < bytes.length; at += PIECE) letters += String.fromCharCode(...bytes.subarray(at, at + PIECE));
     return btoa(letters).replace(/\+/g, "-").replace(/\//g, "_").replace(/=+$/, "");
 }
 

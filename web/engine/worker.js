@@ -47,7 +47,7 @@ function known() {
 /** @type {Record<string, (job: any, tell: Tell) => object | Promise<object>>} */
 const JOBS = {
     async start({ module, tables: given }) {
-        device = await Device.of(module);
+        device = await Device.of(module, given.library);
         tables = given;
         return { version: device.version };
     },

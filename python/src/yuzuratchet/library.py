@@ -23,16 +23,15 @@ FOLDERS: Final = (Path.home() / ".local" / "lib", Path("/usr/local/lib"))
 
 OLDEST: Final = 300
 
-STATUS: Final[dict[str, int]] = DEVICE["library"]["statuses"]
+_STATUSES: Final = DEVICE["library"]["statuses"]
+STATUS: Final[dict[str, int]] = {name: it["number"] for name, it in _STATUSES.items()}
+"""The numbers of the statuses, by their names."""
+
+STATUSES: Final[dict[int, str]] = {it["number"]: it["text"] for it in _STATUSES.values()}
+"""What each means."""
+
 DONE, REFUSED = STATUS["done"], STATUS["refused"]
 TOO_SMALL: Final = (STATUS["lines_too_small"], STATUS["image_too_small"])
-STATUSES: Final = {
-    STATUS["no_memory"]: "memory for the answer lines or the image was refused",
-    STATUS["null_pointer"]: "a pointer is null",
-    STATUS["empty_area"]: "an area is empty",
-    STATUS["size_too_large"]: "an area is too large",
-    STATUS["overlap"]: "two areas overlap",
-}
 
 LINE_SIZE: Final[int] = DEVICE["answers"]["longest_line"]
 

@@ -114,6 +114,7 @@ def tables() -> dict[str, object]:
         "limits": LIMITS,
         "defaults": dict(line.partition(" ")[::2] for line in DEVICE["default_state"]),
         "messages": message_table(),
+        "library": DEVICE["library"],
     }
 
 
@@ -176,4 +177,3 @@ def _json(name: str, value: object) -> str:
 def _packed(name: str, data: bytes) -> str:
     text = base64.b64encode(gzip.compress(data, 9, mtime=0)).decode("ascii")
     return f'<script type="text/plain" id="{name}">{text}</script>'
-
