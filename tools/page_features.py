@@ -124,6 +124,7 @@ class FeatureTests(PlayingTests):
         check(self.text("#verdict .where") == "Line 3, column 3: fault 104.", self.text("#verdict .where"))
         check("see the table of words" in self.text("#verdict .advice"), self.text("#verdict .advice"))
         check(self.text("#size").endswith("lines 1 to 2"), self.text("#size"))
+        check(self.text("#answers") == "A script with a fault answers nothing.", self.text("#answers"))
         check(self.value("menu") == "first_triangle, edited", "the edited script isn't in the menu")
         self.choose("refused/begin-64")
         check("refusal 11" in self.text("#verdict .where"), self.text("#verdict"))

@@ -248,7 +248,9 @@ export class Page {
         part("size").textContent =
             told.picture ? `${told.picture.width} \u00d7 ${told.picture.height}${partly}` : "no image";
         part("size").title = `drawn in ${told.milliseconds.toFixed(1)} ms`;
-        part("answers").replaceChildren(answersShown(told.answers, told.questions, (line) => this.goTo(line)));
+        const isFaulty = told.refused !== null && this.language.meaning(told.refused.number).kind === "fault";
+        part("answers").replaceChildren(
+            answersShown(told.answers, told.questions, isFaulty, (line) => this.goTo(line)));
         document.documentElement.dataset.milliseconds = told.milliseconds.toFixed(2);
         this.pixels.ask({ last: this.shown, other: null });
         this.askState();

@@ -303,9 +303,11 @@ function heldShown(now, before) {
  *
  * @param {string[]} answers
  * @param {number[]} questions
+ * @param {boolean} isFaulty whether nothing was played, since the script has a fault
  * @param {OnLine} onLine
  */
-export function answersShown(answers, questions, onLine) {
+export function answersShown(answers, questions, isFaulty, onLine) {
+    if (isFaulty) return quietly("A script with a fault answers nothing.");
     if (!answers.length) return quietly("The lines so far ask nothing.");
     const rows = answers.slice(0, MOST_ANSWERS).map((answer, at) => element("tr", {},
         element("td", {}, questions[at] ? lineButton(questions[at], onLine) : ""), element("td", {}, answer)));
