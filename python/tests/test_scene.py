@@ -502,7 +502,8 @@ def test_many_vertices_are_set_fast() -> None:
 def test_states_of_another_kind() -> None:
     context = drawable().immediate
     calls: list[Callable[[Any], None]] = [context.rs_set_state, context.om_set_depth_stencil]
-    for call in (*calls, context.om_set_blend):
+    calls.append(context.om_set_blend)
+    for call in calls:
         for state in (None, 3, CullMode.NONE, StencilFace()):
             with pytest.raises(TypeError, match="^state: a [A-Za-z]+State is wanted, and not "):
                 call(state)

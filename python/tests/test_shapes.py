@@ -191,7 +191,8 @@ def test_meshes_are_moved_and_turned() -> None:
     for axis, wanted in (("x", (1, -3, 2)), ("y", (3, 2, -1)), ("z", (-2, 1, 3))):
         assert body.turned(90, axis).points[0] == pytest.approx(wanted)
     calls: list[Callable[[], object]] = [lambda: body.turned(90, "w"), lambda: body.mirrored("xy")]
-    for call in (*calls, lambda: body.scaled(0)):
+    calls.append(lambda: body.scaled(0))
+    for call in calls:
         with pytest.raises(ArgumentError):
             call()
 
