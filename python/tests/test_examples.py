@@ -24,7 +24,7 @@ def run_example(path: Path, room: Path, program: Path) -> None:
     subprocess.run([sys.executable, "-B", path], cwd=room, env=environment, check=True)
 
 
-@pytest.mark.parametrize("path", SCENES, ids=lambda it: it.stem)
+@pytest.mark.parametrize("path", SCENES, ids=[it.stem for it in SCENES])
 def test_an_example(path: Path, tmp_path: Path, program: Path) -> None:
     run_example(path, tmp_path, program)
     script, picture = f"{path.stem}.txt", f"{path.stem}.png"
@@ -32,7 +32,7 @@ def test_an_example(path: Path, tmp_path: Path, program: Path) -> None:
     assert (load(tmp_path / picture) == load(EXAMPLES / picture)).all()
 
 
-@pytest.mark.parametrize("path", SCENES, ids=lambda it: it.stem)
+@pytest.mark.parametrize("path", SCENES, ids=[it.stem for it in SCENES])
 def test_an_example_is_short(path: Path) -> None:
     assert len(path.read_text(encoding="utf-8").splitlines()) < 40
 

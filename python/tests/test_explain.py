@@ -20,6 +20,7 @@ from yuzuratchet.explain import explain
 from yuzuratchet.explanation import (
     Content,
     Outcome,
+    Step,
     as_json,
     changing,
     heading,
@@ -35,6 +36,7 @@ from yuzuratchet.states import (
     CullMode,
     DepthStencilState,
     LogicOp,
+    PrimitiveTopology,
     RasterizerState,
     StencilFace,
 )
@@ -42,6 +44,10 @@ from yuzuratchet.states import (
 
 def outcomes(scene: Scene, x: int, y: int, program: Path) -> list[Outcome]:
     return [step.outcome for step in explain(scene, x, y, program=program).steps]
+
+
+def triangle_of(step: Step) -> int | None:
+    return step.covering.triangle if step.covering else None
 
 
 def test_random_scenes(program: Path) -> None:
@@ -90,7 +96,7 @@ def test_what_refuses(program: Path) -> None:
 def test_strips_and_cuts(program: Path) -> None:
     text = (DATA / "rows" / "cut-strip.txt").read_bytes()
     found = explain(read_script(text), 3, 0, program=program)
-    assert [(it.covering.triangle, it.outcome) for it in found.steps] == [(1, Outcome.DRAWN)]
+    assert [(triangle_of(it), it.outcome) for it in found.steps] == [(1, Outcome.DRAWN)]
 
 
 def marked_scene() -> Scene:
@@ -267,12 +273,12 @@ def test_more_triangles_than_a_buffer_takes(fast_program: Path) -> None:
     for context in scene.deferred[:2]:
         far = [(100, 100, 0, "#000000")] * 30_000
         context.ia_set_vertices([*far, *rectangle(0, 0, 8, 8, colour="#ff0000"), *far])
-        context.ia_set_topology(4)
+        context.ia_set_topology(PrimitiveTopology.TRIANGLELIST)
         context.rs_set_state(RasterizerState(cull_mode=CullMode.NONE))
         context.draw(60_006)
         scene.immediate.execute(context.finish_command_list())
     found = explain(scene, 1, 6, program=fast_program)
-    assert [(it.covering.triangle, it.executed_by, it.outcome) for it in found.steps] == [
+    assert [(triangle_of(it), it.executed_by, it.outcome) for it in found.steps] == [
         (10_001, 7, Outcome.DRAWN),
         (10_001, 13, Outcome.DEPTH_FAILED),
     ]

@@ -3,7 +3,7 @@
 from __future__ import annotations
 
 from pathlib import Path
-from typing import Callable
+from typing import Any, Callable
 
 import pytest
 
@@ -11,10 +11,12 @@ from yuzuratchet import (
     ArgumentError,
     BlendState,
     CallRefused,
+    ColorWriteEnable,
     CommandList,
     CullMode,
     DepthStencilState,
     Line,
+    LogicOp,
     PrimitiveTopology,
     RasterizerState,
     Scene,
@@ -26,6 +28,7 @@ from yuzuratchet.limits import BUFFER_LENGTH, DEEPEST, FARTHEST_PIXEL, LIST_COMM
 
 TRIANGLE = [(0, 0, 0, (10, 20, 30, 40)), (4, 0, 0, (10, 20, 30, 40)), (0, 4, 0, (10, 20, 30, 40))]
 LIST = PrimitiveTopology.TRIANGLELIST
+Call = Callable[[], object]
 
 
 def lines_of(scene: Scene) -> list[str]:
@@ -63,7 +66,7 @@ def test_each_call_has_its_line() -> None:
     context.rs_set_scissor(1, 2, 3, 4)
     face = StencilFace(stencil_pass_op=StencilOp.INCR)
     context.om_set_depth_stencil(DepthStencilState(stencil_enable=True, front_face=face), 7)
-    context.om_set_blend(BlendState(True, 10, 5))
+    context.om_set_blend(BlendState(True, LogicOp.XOR, ColorWriteEnable(5)))
     context.set_predication((9, True))
     context.set_predication(None)
     context.draw_indexed(3, base=0)
@@ -209,7 +212,8 @@ def test_open_queries() -> None:
     with pytest.raises(CallRefused, match="5 is open since line 5") as raised:
         context.begin(5)
     assert raised.value.number == 9
-    for call in (context.flush, lambda: context.pixel(0, 0), lambda: context.get_data(5)):
+    calls: list[Call] = [context.flush, lambda: context.pixel(0, 0), lambda: context.get_data(5)]
+    for call in calls:
         with pytest.raises(CallRefused) as raised:
             call()
         assert raised.value.number == 9
@@ -407,7 +411,8 @@ def test_sides_are_whole_numbers(sides: tuple[object, object]) -> None:
 
 def test_flags_are_no_numbers() -> None:
     context = drawable().immediate
-    for call in (lambda: context.draw(True), lambda: context.pixel(0, False)):
+    calls: list[Call] = [lambda: context.draw(True), lambda: context.pixel(0, False)]
+    for call in calls:
         with pytest.raises(TypeError, match="takes whole numbers, and not (True|False)"):
             call()
     context.set_predication((3, 1))  # type: ignore[arg-type]
@@ -496,7 +501,9 @@ def test_many_vertices_are_set_fast() -> None:
 
 def test_states_of_another_kind() -> None:
     context = drawable().immediate
-    for call in (context.rs_set_state, context.om_set_depth_stencil, context.om_set_blend):
+    calls: list[Callable[[Any], None]] = [context.rs_set_state, context.om_set_depth_stencil]
+    calls.append(context.om_set_blend)
+    for call in calls:
         for state in (None, 3, CullMode.NONE, StencilFace()):
             with pytest.raises(TypeError, match="^state: a [A-Za-z]+State is wanted, and not "):
                 call(state)

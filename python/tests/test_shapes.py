@@ -190,7 +190,9 @@ def test_meshes_are_moved_and_turned() -> None:
     # clockwise along the axis: y goes to z, z to x, x to y
     for axis, wanted in (("x", (1, -3, 2)), ("y", (3, 2, -1)), ("z", (-2, 1, 3))):
         assert body.turned(90, axis).points[0] == pytest.approx(wanted)
-    for call in (lambda: body.turned(90, "w"), lambda: body.mirrored("xy"), lambda: body.scaled(0)):
+    calls: list[Callable[[], object]] = [lambda: body.turned(90, "w"), lambda: body.mirrored("xy")]
+    calls.append(lambda: body.scaled(0))
+    for call in calls:
         with pytest.raises(ArgumentError):
             call()
 
