@@ -17,4 +17,5 @@ pub mod Recorded
 pub mod Session
 pub mod Predication
 pub mod Refusals
+pub mod Accepted
 pub mod Tiles

@@ -1,14 +1,14 @@
 -- When a call is refused: of each call its rows, a refusal and its test, in the order in which they are looked at (this project's own; the numbers stand in `Error`).
-use Rattle.std.specs.Prelude.{ℕ, ◌+◌, ◌≡◌, ◌⊎◌, ℤ, pos, ◌+ℤ◌, int_le, int_lt, nat_lt, nat_le, ◌==◌, Bool, true, false, not, ◌&&◌, ◌||◌, List, [], ◌∷◌, ◌++◌, length, Option, Some, None, is_none, Result, Ok, Err, if◌then◌else◌}
+use Rattle.std.specs.Prelude.{ℕ, ◌+◌, ◌≡◌, ◌⊎◌, ℤ, pos, ◌+ℤ◌, int_le, int_lt, unsigned_abs, nat_lt, nat_le, ◌==◌, Bool, false, not, ◌&&◌, ◌||◌, List, [], ◌∷◌, ◌++◌, length, Option, Some, None, is_none, Result, Ok, Err, if◌then◌else◌}
 use Rattle.std.specs.List.{list_any, list_all}
 use Rattle.gfxspec.specs.declared.TheConstants.{SIDE_LIMIT, DEPTH_MAX, BUFFER_LIMIT, LIST_LIMIT, QUERY_LIMIT, ISSUE_LIMIT, WORKER_LIMIT}
 use Rattle.gfxspec.specs.declared.error.GfxError.{GfxError}
 use Rattle.gfxspec.specs.declared.error.GfxError.TheVariants.{OutOfMemory, VertexRange, VertexCount, DrawRange, IndexRange, TopologyUnset, ScissorRect, QueryOpen, QueryNotOpen, QueryNumber, QueryLeftOpen, ListTooLong, TooManyIssues, PixelRange, WorkerCount, NotIssued, PredicateInList}
 use Rattle.gfxspec.specs.declared.geometry.PixelRect.{PixelRect}
 use Rattle.gfxspec.specs.declared.geometry.Size.{Size}
+use Rattle.gfxspec.specs.declared.geometry.Vertex.{Vertex}
 use Rattle.gfxspec.specs.declared.state.Topology.{Topology}
 use Rattle.gfxspec.specs.declared.state.Topology.TheVariants.{TriangleList, TriangleStrip}
-use Rattle.gfxspec.specs.Vertices.{is_in_range}
 use Rattle.gfxspec.specs.State.{Settings}
 use Rattle.gfxspec.specs.Assembly.{is_cut, part, draw_primitives, draw_indexed_primitives}
 use Rattle.gfxspec.specs.Commands.{Command, SetVertices, SetIndices, SetTopology, SetRaster, SetScissor, SetDepthStencil, SetBlend, SetPredication, Draw, DrawIndexed, ClearColor, ClearDepthStencil, Begin, End, Kept}
@@ -30,6 +30,10 @@ AnswersBy rows (Err e) = (first_row rows ≡ Some e) ⊎ ((first_row rows ≡ No
 
 abbrev pub is_among : ℕ → List ℕ → Bool
 is_among q qs = list_any (λ p. p == q) qs
+
+-- a vertex whose position and depth are in range
+abbrev pub is_in_range : Vertex → Bool
+is_in_range v = nat_le (unsigned_abs v.x) 268435456 && (nat_le (unsigned_abs v.y) 268435456 && nat_le v.z DEPTH_MAX)
 
 -- out of order, or beyond what a target may have
 abbrev pub is_bad_scissor : PixelRect → Bool
@@ -126,26 +130,3 @@ pixel_rows size opened x y = pixel_rows_by [] size opened x y
 
 abbrev pub query_rows : List ℕ → Option ℕ → ℕ → List Row
 query_rows opened last query = query_rows_by [] opened last query
-
--- ---- lists of accepted commands
-
--- settings that accepted commands can leave
-pub record AreSound (s : Settings) : Type 0 where
-  pub vertex_count : nat_lt BUFFER_LIMIT (length s.vertices) ≡ false
-  pub in_range : list_all is_in_range s.vertices ≡ true
-  pub index_count : nat_lt BUFFER_LIMIT (length s.indices) ≡ false
-  pub scissor : is_bad_scissor s.scissor ≡ false
-  pub predicate : is_bad_predicate s.predicate ≡ false
-
--- a command that was accepted behind those of its list; kept settings stand at the front alone
-abbrev pub IsAccepted : List Command → Command → Type 0
-IsAccepted earlier (Kept s) = (earlier ≡ []) × AreSound s
-IsAccepted earlier c = first_row (list_rows earlier c) ≡ None
-
-abbrev pub AcceptedBehind : List Command → List Command → Type 0
-AcceptedBehind earlier [] = Unit {0}
-AcceptedBehind earlier (c ∷ cs) = IsAccepted earlier c × AcceptedBehind (earlier ++ c ∷ []) cs
-
--- the commands of a list, each accepted behind those before it
-abbrev pub AreAccepted : List Command → Type 0
-AreAccepted commands = AcceptedBehind [] commands

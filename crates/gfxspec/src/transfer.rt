@@ -19,6 +19,8 @@ pub enum GatherError {
 const PIECE: usize = 32_768;
 
 /// All bytes of a source, to its end.
+// Apart: who reads a script should not keep room for a piece on the stack while the script is drawn.
+#[inline(never)]
 pub fn gather<S: Source, A: Allocator>(alloc: A, source: &mut S) -> Result<Vec<u8, A>, GatherError>
     requires { S.failures source.old < 2 ^ 63 }
     ensures all { S.tells source.old → IfOk result (λ v. v.items ≡ S.rest source.old) }
