@@ -1,0 +1,7 @@
+use Rattle.std.proofs.Common.{◌≡◌, ◌+◌, ◌<◌, ℕ, get_or}
+use Rattle.tileblock.specs.Surface.{pixel_of}
+use Rattle.device_calls.specs.Rows.{color_cell, no_cell}
+use Rattle.device_calls.proofs.rows.store_colors.Given as goal
+
+abbrev pub invariant-loop-k : goal.invariant-loop-k
+invariant-loop-k l = (j : ℕ) → j < l.k → get_or l.row j no_cell ≡ color_cell l.bgra (pixel_of l.target (l.left + j) l.y)

@@ -1,0 +1,3 @@
+mod DeviceSteps
+mod ContextSteps
+mod ListSteps

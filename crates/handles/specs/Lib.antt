@@ -1,0 +1,4 @@
+pub mod Heap
+pub mod Devices
+pub mod Contexts
+pub mod Lists
