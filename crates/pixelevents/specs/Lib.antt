@@ -1,0 +1,4 @@
+pub mod History
+pub mod Laws
+pub mod Places
+pub mod Sessions

@@ -1,0 +1,5 @@
+pub mod Covering
+pub mod Taking
+pub mod Listing
+pub mod Placing
+pub mod Standing

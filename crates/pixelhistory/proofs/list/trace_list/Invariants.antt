@@ -1,0 +1,7 @@
+use Rattle.cmdlist.specs.Seen.{state_value}
+use Rattle.binner.specs.Compiling.{told}
+use Rattle.pixelhistory.proofs.Listing.{SoFar}
+use Rattle.pixelhistory.proofs.list.trace_list.Given as goal
+
+abbrev pub invariant-loop-command : goal.invariant-loop-command
+invariant-loop-command g l = SoFar (told l.results) l.commands l.x l.y l.command-index (state_value l.state) l.fn.trace l.trace

@@ -1,0 +1,139 @@
+//! The history of a pixel under a list.
+
+ghost use Rattle.std.specs.Prelude.{◌≡◌, ◌<◌, ◌≤◌, ◌+◌, ◌^◌, [], ℕ, List, length, map, IfOk, OnOk};
+ghost use Rattle.gfxspec.specs.Limits.{side_bound};
+ghost use Rattle.gfxspec.specs.Recorded.{drawn_items, items, items_at};
+ghost use Rattle.gfxspec.specs.Accepted.{AreAccepted};
+ghost use Rattle.gfxspec.specs.Predication.{performed};
+ghost use Rattle.meaning.specs.OneMore.{triangles_of as count_of, performed_items};
+ghost use Rattle.cmdlist.specs.Seen.{state_value, command_value};
+ghost use Rattle.binner.specs.Ready.{IsDrawable};
+ghost use Rattle.binner.specs.Setups.{drawn_by};
+ghost use Rattle.binner.specs.Compiling.{told};
+ghost use Rattle.pixelevents.specs.History.{history_from};
+ghost use Rattle.pixelhistory.specs.Tracing.{GoesPast};
+
+use crate::draws::{draw_of, is_withheld};
+use crate::trace::{Trace, trace_color_clear, trace_depth_stencil_clear, trace_draw};
+use cmdlist::{Command, State};
+use gfxspec::Pixel;
+use pixelevents::Event;
+use std::alloc::{AllocError, Allocator};
+
+/// Goes past what a command draws, if it is a draw.
+fn trace_drawing<A: Allocator + Copy>(
+    trace: &mut Trace<A>,
+    command: &Command<A>,
+    state: &State<'_>,
+    x: u32,
+    y: u32,
+) -> Result<(), AllocError>
+    requires drawable { IsDrawable (state_value state.now) (command_value command.now) }
+    requires x { x < side_bound }
+    requires y { y < side_bound }
+    requires few { trace.old.items + length (drawn_by (state_value state.now) (command_value command.now)) < 2 ^ 63 }
+    ensures { (opened : List ℕ) → OnOk result (GoesPast (drawn_items (state_value state.now) opened (drawn_by (state_value state.now) (command_value command.now))) x y trace.old trace.new) }
+{
+    let Some(draw) = draw_of(command, state) else {
+        return Ok(());
+    };
+    trace_draw(trace, &draw, state, x, y)
+}
+
+/// Goes past what a command draws or clears under a state.
+fn trace_command<A: Allocator + Copy>(
+    trace: &mut Trace<A>,
+    command: &Command<A>,
+    state: &State<'_>,
+    x: u32,
+    y: u32,
+) -> Result<(), AllocError>
+    requires drawable { IsDrawable (state_value state.now) (command_value command.now) }
+    requires x { x < side_bound }
+    requires y { y < side_bound }
+    requires few { trace.old.items + count_of (state_value state.now) (command_value command.now) + 1 < 2 ^ 63 }
+    ensures { (opened : List ℕ) → OnOk result (GoesPast (items_at (state_value state.now) opened (command_value command.now)) x y trace.old trace.new) }
+{
+    match command {
+        Command::Draw(_, _) => trace_drawing(trace, command, state, x, y),
+        Command::DrawIndexed(_, _, _) => trace_drawing(trace, command, state, x, y),
+        Command::ClearColor(rgba) => trace_color_clear(trace, *rgba),
+        Command::ClearDepthStencil(depth, stencil) => trace_depth_stencil_clear(
+            trace, *depth, *stencil,
+        ),
+        _ => Ok(()),
+    }
+}
+
+/// Goes past what a command draws or clears under a state, unless the state's predicate withholds it.
+fn trace_performed<A: Allocator + Copy>(
+    trace: &mut Trace<A>,
+    command: &Command<A>,
+    state: &State<'_>,
+    results: &[bool; 64],
+    x: u32,
+    y: u32,
+) -> Result<(), AllocError>
+    requires drawable { IsDrawable (state_value state.now) (command_value command.now) }
+    requires x { x < side_bound }
+    requires y { y < side_bound }
+    requires few { trace.old.items + count_of (state_value state.now) (command_value command.now) + 1 < 2 ^ 63 }
+    ensures { (opened : List ℕ) → OnOk result (GoesPast (performed_items (told results.now) (state_value state.now) opened (command_value command.now)) x y trace.old trace.new) }
+{
+    if is_withheld(results, state.predicate) {
+        return Ok(());
+    }
+    trace_command(trace, command, state, x, y)
+}
+
+/// How many items a trace has room for before a list.
+const ITEM_ROOM: u64 = 1 << 62;
+
+/// Goes past what the commands of a list draw and clear, from the default state on and under the results before the list.
+/// A trace without room for their numbers counts as one without memory.
+pub fn trace_list<A: Allocator + Copy>(
+    trace: &mut Trace<A>,
+    commands: &[Command<A>],
+    results: &[bool; 64],
+    x: u32,
+    y: u32,
+) -> Result<(), AllocError>
+    requires accepted { AreAccepted (map command_value commands.now) }
+    requires x { x < side_bound }
+    requires y { y < side_bound }
+    ensures { OnOk result (GoesPast (items (performed (told results.now) (map command_value commands.now))) x y trace.old trace.new) }
+{
+    if trace.items >= ITEM_ROOM {
+        return Err(AllocError);
+    }
+    let mut state = State::new();
+    for command in commands {
+        trace_performed(trace, command, &state, results, x, y)?;
+        state.change(command);
+    }
+    Ok(())
+}
+
+/// The history of a pixel under the commands of a list, from what it held and from the default state on, under the results
+/// of queries before the list.
+pub fn history_of<A: Allocator + Copy>(
+    commands: &[Command<A>],
+    results: &[bool; 64],
+    x: u32,
+    y: u32,
+    old: Pixel,
+    alloc: A,
+) -> Result<Vec<Event, A>, AllocError>
+    requires accepted { AreAccepted (map command_value commands.now) }
+    requires x { x < side_bound }
+    requires y { y < side_bound }
+    ensures { IfOk result (λ events. events.items ≡ history_from 0 (items (performed (told results.now) (map command_value commands.now))) x y old) }
+{
+    let mut trace = Trace {
+        pixel: old,
+        items: 0,
+        events: Vec::new(alloc),
+    };
+    trace_list(&mut trace, commands, results, x, y)?;
+    Ok(trace.events)
+}
