@@ -7,7 +7,8 @@ use Rattle.std.specs.Fmt.{digits, digits_onto, digit_glyph}
 use Rattle.std.proofs.lemmas.Bool.Decides.{nat_tests}
 use Rattle.answers.specs.declared.line.Answer.{Answer}
 use Rattle.answers.specs.declared.line.Answer.TheVariants.{Counted, Shown, Refused}
-use Rattle.answers.specs.Lines.{answer_words, answer_lines, lines_end, pixel_numbers}
+use Rattle.answers.specs.Lines.{answer_words, answer_lines, pixel_numbers}
+use Rattle.answers.specs.Ends.{lines_end}
 
 -- no line feed is among these bytes
 abbrev IsPlain : List ℕ → Type 0

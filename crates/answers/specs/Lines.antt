@@ -1,5 +1,5 @@
 -- What an answer line is.
-use Rattle.std.specs.Prelude.{ℕ, zero, suc, List, [], ◌∷◌, ◌++◌, ◌==◌, map, codes, decimal, if◌then◌else◌}
+use Rattle.std.specs.Prelude.{ℕ, List, [], ◌∷◌, ◌++◌, map, codes, decimal}
 use Rattle.std.specs.List.{flat_map, join_with_byte}
 use Rattle.gfxspec.specs.declared.pixel.Pixel.{Pixel as PixelValue}
 use Rattle.answers.specs.declared.line.Answer.{Answer}
@@ -19,9 +19,3 @@ answer_line a = join_with_byte 32 (answer_words a) ++ 10 ∷ []
 
 abbrev pub answer_lines : List Answer → List ℕ
 answer_lines answers = flat_map answer_line answers
-
--- where the first n lines of a text end, or the text
-abbrev pub lines_end : ℕ → List ℕ → ℕ
-lines_end zero text = 0
-lines_end (suc n) [] = 0
-lines_end (suc n) (b ∷ bs) = suc (lines_end (if b == 10 then n else suc n) bs)

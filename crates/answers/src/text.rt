@@ -2,7 +2,8 @@
 
 ghost use Rattle.std.specs.Prelude.{◌≡◌, ◌++◌, List, length, take, option_to_list, OnOk, OnErr};
 ghost use Rattle.answers.specs.declared.line.Answer.{Answer};
-ghost use Rattle.answers.specs.Lines.{answer_lines, lines_end};
+ghost use Rattle.answers.specs.Lines.{answer_lines};
+ghost use Rattle.answers.specs.Ends.{lines_end};
 
 use crate::line::{Answer, answer_line};
 use std::alloc::{AllocError, Allocator};

@@ -1,4 +1,4 @@
-//! All slabs, as one memory of chunks: the chunk with the number 256 s + c is chunk c of slab s.
+//! All slabs, as one memory of chunks: the chunk with the number 16 s + c is chunk c of slab s.
 ghost use Rattle.std.specs.Prelude.{◌≡◌, ◌+◌, ◌<◌, ◌≤◌, ◌∷◌, ◌++◌, [], length, if◌then◌else◌, is_ok, IfOk, slice_set};
 ghost use Rattle.std.specs.Vec.{vec_capacity};
 ghost use Rattle.binmem.specs.Held.{pushed, begun, linked, fresh, held_at};
@@ -42,7 +42,7 @@ impl<'a> Chunks<'a> {
 /// The slabs, with the rights to free them.
 pub struct Slabs<A: Allocator> {
     slabs: Vec<Slab, A>,
-    rights: Vec<Release<[Chunk; 256], A>, A>,
+    rights: Vec<Release<[Chunk; 16], A>, A>,
     alloc: A,
 }
 
@@ -70,7 +70,7 @@ impl<A: Allocator> Drop for Slabs<A> {
     }
 }
 
-fn free_all<A: Allocator>(slabs: Vec<Slab, A>, rights: Vec<Release<[Chunk; 256], A>, A>)
+fn free_all<A: Allocator>(slabs: Vec<Slab, A>, rights: Vec<Release<[Chunk; 16], A>, A>)
     requires { AreOwned slabs.items rights.items }
 {
     let mut slabs = slabs;
@@ -100,8 +100,8 @@ impl<A: Allocator + Copy> Slabs<A> {
     #[cold]
     #[inline(never)]
     pub(crate) fn grow(&mut self) -> Result<u32, AllocError>
-        ensures chunks { self.new ≡ (if is_ok result then self.old ++ fresh (length self.old) 256 else self.old) }
-        ensures first { IfOk result (λ first. (first ≡ length self.old) × (first + 256 < 4294967296)) }
+        ensures chunks { self.new ≡ (if is_ok result then self.old ++ fresh (length self.old) 16 else self.old) }
+        ensures first { IfOk result (λ first. (first ≡ length self.old) × (first + 16 < 4294967296)) }
     {
         let count = self.slabs.len();
         if count >= MAX_SLABS {

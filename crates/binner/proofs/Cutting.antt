@@ -7,7 +7,7 @@ use Rattle.gfxspec.specs.State.{Settings}
 use Rattle.gfxspec.specs.Commands.{Command, Begin, Kept}
 use Rattle.gfxspec.specs.Recorded.{settings_after, items, issues, query_begun}
 use Rattle.gfxspec.specs.Predication.{performed}
-use Rattle.gfxspec.specs.Refusals.{AreSound, AreAccepted}
+use Rattle.gfxspec.specs.Accepted.{AreSound, AreAccepted}
 use Rattle.meaning.specs.OneMore.{settings_with, performed_items}
 use Rattle.meaning.proofs.Nearest.{settings_after-push}
 use Rattle.meaning.proofs.Withheld.{items_performed-push}

@@ -4,7 +4,7 @@ use Rattle.std.proofs.lemmas.List.{take_all}
 use Rattle.gfxspec.specs.State.{Settings}
 use Rattle.gfxspec.specs.Commands.{Command, Begin}
 use Rattle.gfxspec.specs.Recorded.{settings_after, open_after, items, issues, triangle_count}
-use Rattle.gfxspec.specs.Refusals.{AreAccepted}
+use Rattle.gfxspec.specs.Accepted.{AreAccepted}
 use Rattle.gfxspec.specs.Predication.{performed}
 use Rattle.meaning.specs.OneMore.{settings_with, triangles_of, performed_items}
 use Rattle.meaning.proofs.Nearest.{settings_after-push}

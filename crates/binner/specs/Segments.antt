@@ -5,7 +5,7 @@ use Rattle.gfxspec.specs.Items.{Item}
 use Rattle.gfxspec.specs.Commands.{Command, Draw, DrawIndexed}
 use Rattle.gfxspec.specs.Recorded.{items, issues, query_begun, settings_after}
 use Rattle.gfxspec.specs.Predication.{performed}
-use Rattle.gfxspec.specs.Refusals.{AreSound}
+use Rattle.gfxspec.specs.Accepted.{AreSound}
 use Rattle.gfxspec.specs.State.{Settings}
 use Rattle.meaning.specs.OneMore.{settings_with, performed_items}
 use Rattle.binner.specs.Ready.{IsDrawable}

@@ -5,8 +5,8 @@
 
 ghost use Rattle.std.specs.Prelude.{◌≡◌, map, IfOk, OnOk, IfSome, IsTrue, All};
 ghost use Rattle.std.specs.List.{list_all};
-ghost use Rattle.gfxspec.specs.Vertices.{is_in_range};
-ghost use Rattle.gfxspec.specs.Refusals.{AreAccepted};
+ghost use Rattle.gfxspec.specs.Refusals.{is_in_range};
+ghost use Rattle.gfxspec.specs.Accepted.{AreAccepted};
 ghost use Rattle.assemble.specs.Triangle.{primitive_of};
 ghost use Rattle.assemble.specs.Drawing.{IsInRange, triangles_of};
 ghost use Rattle.cmdlist.specs.Seen.{command_value, state_value};

@@ -4,7 +4,7 @@ ghost use Rattle.std.specs.Prelude.{◌≡◌, map, IsTrue, IfOk, IfErr, List, l
 ghost use Rattle.gfxspec.specs.declared.error.GfxError.TheVariants.{OutOfMemory};
 ghost use Rattle.gfxspec.specs.Limits.{is_size};
 ghost use Rattle.gfxspec.specs.Tiles.{tile_count};
-ghost use Rattle.gfxspec.specs.Refusals.{AreAccepted};
+ghost use Rattle.gfxspec.specs.Accepted.{AreAccepted};
 ghost use Rattle.cmdlist.specs.Seen.{command_value};
 ghost use Rattle.binmem.specs.Lists.{no_words};
 ghost use Rattle.gfxspec.specs.Recorded.{issues as issues_of};

@@ -2,7 +2,7 @@
 
 ghost use Rattle.std.specs.Prelude.{◌≡◌, ◌<◌, ◌≤◌, ◌+◌, ◌++◌, ◌∷◌, [], ℕ, List, length, slice_index_or, false, IsTrue, IfOk, IfSome, OnOk, Some, All};
 ghost use Rattle.std.specs.List.{list_all};
-ghost use Rattle.gfxspec.specs.Vertices.{is_in_range};
+ghost use Rattle.gfxspec.specs.Refusals.{is_in_range};
 ghost use Rattle.gfxspec.specs.Items.{Item, ColorCleared, DepthStencilCleared};
 ghost use Rattle.gfxspec.specs.Recorded.{drawn_items, items_at};
 ghost use Rattle.gfxspec.specs.Predication.{withholds, performed};
@@ -16,7 +16,7 @@ ghost use Rattle.binner.specs.Compiling.{HasCompiled, IsSound, IsCurrent, HasRoo
 ghost use Rattle.std.specs.Prelude.{map};
 ghost use Rattle.binner.specs.declared.entry.Current.{Current};
 ghost use Rattle.gfxspec.specs.State.{Settings};
-ghost use Rattle.gfxspec.specs.Refusals.{AreAccepted};
+ghost use Rattle.gfxspec.specs.Accepted.{AreAccepted};
 ghost use Rattle.meaning.specs.OneMore.{settings_with};
 
 use crate::ahead::{DrawSetups, Parts, take_ahead};

@@ -2,7 +2,7 @@
 
 ghost use Rattle.std.specs.Prelude.{◌≡◌, [], IfSome, IsNone, IsTrue};
 ghost use Rattle.std.specs.List.{list_all};
-ghost use Rattle.gfxspec.specs.Vertices.{is_in_range};
+ghost use Rattle.gfxspec.specs.Refusals.{is_in_range};
 ghost use Rattle.gfxspec.specs.Assembly.{draw_primitives, draw_indexed_primitives};
 ghost use Rattle.gfxspec.specs.Commands.{Draw as DrawCall, DrawIndexed as IndexedCall};
 ghost use Rattle.assemble.specs.Drawing.{IsInRange, triangles_of};

@@ -3,7 +3,7 @@
 ghost use Rattle.std.specs.Prelude.{◌≡◌, ◌++◌, [], ℕ, Bool, map, OnOk};
 ghost use Rattle.gfxspec.specs.Recorded.{items, issues as issues_of};
 ghost use Rattle.gfxspec.specs.Predication.{performed};
-ghost use Rattle.gfxspec.specs.Refusals.{AreAccepted};
+ghost use Rattle.gfxspec.specs.Accepted.{AreAccepted};
 ghost use Rattle.cmdlist.specs.Seen.{command_value};
 ghost use Rattle.binner.specs.Segments.{cut_items};
 

@@ -13,7 +13,8 @@ use Rattle.gfxspec.specs.Commands.{Command, SetPredication, DrawIndexed, Begin, 
 use Rattle.gfxspec.specs.Recorded.{settings_after, issues, query_begun, query_named, queries_named, queries_open, triangle_count}
 use Rattle.gfxspec.specs.declared.error.GfxError.{GfxError}
 use Rattle.gfxspec.specs.State.{Settings as PlainSettings}
-use Rattle.gfxspec.specs.Refusals.{Row, first_row, list_rows, too_long, is_among, is_bad_predicate, AreSound, IsAccepted, AreAccepted}
+use Rattle.gfxspec.specs.Refusals.{Row, first_row, list_rows, too_long, is_among, is_bad_predicate}
+use Rattle.gfxspec.specs.Accepted.{AreSound, IsAccepted, AreAccepted}
 use Rattle.meaning.specs.OneMore.{settings_with, queries_with}
 use Rattle.meaning.proofs.Nearest.{settings_after-push}
 use Rattle.meaning.proofs.Growing.{issues-push, triangle_count-push, queries_open-push, accepted-push, open_few}

@@ -3,7 +3,8 @@ use Rattle.std.specs.Prelude.{ℕ, ◌≡◌, ◌≤◌, Bool, true, false, List
 use Rattle.gfxspec.specs.declared.TheConstants.{LIST_LIMIT}
 use Rattle.gfxspec.specs.Commands.{Command, Begin, Kept}
 use Rattle.gfxspec.specs.Recorded.{settings_after, issues, queries_named, queries_open, triangle_count}
-use Rattle.gfxspec.specs.Refusals.{first_row, list_rows, too_long, AreAccepted}
+use Rattle.gfxspec.specs.Refusals.{first_row, list_rows, too_long}
+use Rattle.gfxspec.specs.Accepted.{AreAccepted}
 use Rattle.meaning.specs.OneMore.{triangles_of}
 use Rattle.cmdlist.specs.Seen.{settings_value, command_value}
 use Rattle.cmdlist.specs.declared.context.DeferredContext.TheInside as context

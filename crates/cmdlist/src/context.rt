@@ -3,10 +3,11 @@
 ghost use Rattle.std.specs.Prelude.{◌≡◌, ◌<◌, ◌++◌, ◌∷◌, [], length, map, nat_le, option_map, replicate, slice_index_or, IfErr, IfOk, IsTrue, OnErr, OnOk, Some, false, true};
 ghost use Rattle.std.specs.List.{list_all};
 ghost use Rattle.arrayvec.specs.ArrayVec.{array_vec_len};
-ghost use Rattle.gfxspec.specs.Vertices.{is_in_range};
+ghost use Rattle.gfxspec.specs.Refusals.{is_in_range};
 ghost use Rattle.gfxspec.specs.Commands.{Kept};
 ghost use Rattle.gfxspec.specs.Recorded.{issues, query_begun, query_named, queries_named, queries_open, after_finish};
-ghost use Rattle.gfxspec.specs.Refusals.{AnswersBy, AreAccepted, AreSound, first_row, list_rows, finish_rows, some_open, is_among, is_bad_scissor, is_bad_predicate, is_begun_predicate, too_long};
+ghost use Rattle.gfxspec.specs.Refusals.{AnswersBy, first_row, list_rows, finish_rows, some_open, is_among, is_bad_scissor, is_bad_predicate, is_begun_predicate, too_long};
+ghost use Rattle.gfxspec.specs.Accepted.{AreAccepted, AreSound};
 ghost use Rattle.meaning.specs.OneMore.{queries_with};
 ghost use Rattle.cmdlist.specs.Recorder.{is_begin, marked_by};
 ghost use Rattle.cmdlist.specs.Calls.{call_value};

@@ -3,7 +3,8 @@
 ghost use Rattle.std.specs.Prelude.{◌≡◌, ◌≤◌, ℕ, List, length, Some, IfOk, IfErr, OnOk, None};
 ghost use Rattle.std.specs.List.{list_all};
 ghost use Rattle.gfxspec.specs.Assembly.{draw_primitives, draw_indexed_primitives};
-ghost use Rattle.gfxspec.specs.Refusals.{AreSound, first_row, is_used_well};
+ghost use Rattle.gfxspec.specs.Refusals.{first_row, is_used_well};
+ghost use Rattle.gfxspec.specs.Accepted.{AreSound};
 ghost use Rattle.cmdlist.specs.Seen.{state_value};
 ghost use Rattle.cmdlist.specs.DrawRows.{draw_rows, draw_indexed_rows};
 

@@ -2,7 +2,7 @@
 
 ghost use Rattle.std.specs.Prelude.{◌≡◌, ◌≤◌, map, length};
 ghost use Rattle.gfxspec.specs.declared.TheConstants.{LIST_LIMIT};
-ghost use Rattle.gfxspec.specs.Refusals.{AreAccepted};
+ghost use Rattle.gfxspec.specs.Accepted.{AreAccepted};
 
 use crate::command::Command;
 use std::alloc::Allocator;

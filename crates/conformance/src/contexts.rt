@@ -1,8 +1,11 @@
-//! What no script reaches: the execution of submissions, and each growth refused in turn, behind which the context goes on.
-//! Worked scenes run from bytes to bytes in the gallery, and that each call uses its workers is tested in `scripts`.
+//! What no script reaches: the execution of submissions, the calls that take a number of threads, each call as a method,
+//! executions that wait, and each growth refused in turn, behind which the context goes on. Worked scenes run from bytes to bytes in the gallery.
 
 mod growths;
+mod methods;
 mod next;
+mod threads;
+mod waiting;
 
 use crate::calls::list_of;
 use cmdlist::{Call, CommandList};

@@ -78,7 +78,8 @@ fn left_by_crew<A: Allocator + Copy + Send + Sync, R: Threads + Wait + Sync, G: 
     list: &CommandList<A>,
     crew: &RunCrew<'_, '_, A, R, G>,
 ) -> Result<Left, GfxError> {
-    context.execute_by_crew(list, false, crew)?;
+    context.enqueue_execution_by_crew(list, false, crew)?;
+    context.flush_by_crew(crew)?;
     left(context)
 }
 

@@ -144,7 +144,8 @@ fn drawn_by_crew<A: Allocator + Copy + Send + Sync, R: Threads + Wait + Sync, G:
 ) -> Result<u64, GfxError> {
     let list = large_list(alloc)?;
     let mut context = ImmediateContext::new(alloc, SIZE.width, SIZE.height)?;
-    context.execute_by_crew(&list, true, crew)?;
+    context.enqueue_execution_by_crew(&list, true, crew)?;
+    context.flush_by_crew(crew)?;
     shown(&mut context)
 }
 

@@ -110,8 +110,8 @@ fn add<A: Allocator + Drop>(queues: &mut Vec<WorkQueue<A>, A>, queue: WorkQueue<
     let _ = queues.push(queue);
 }
 
-/// Queues for so many workers, or for fewer where memory refuses one. Number n is dealt to worker n mod `workers`. A deque,
-/// a push, or a way to steal that memory refuses is left out.
+/// Queues for so many workers, or for as many as there are tiles; none for one alone. Number n is dealt to worker n mod the
+/// number of workers. A queue, a deque, a push, or a way to steal that memory refuses is left out.
 pub fn deal_queues<A: Allocator + Copy + Clone + Drop>(
     alloc: A,
     workers: u32,
@@ -122,14 +122,13 @@ pub fn deal_queues<A: Allocator + Copy + Clone + Drop>(
     ensures all { All (λ t. t ≡ tiles) result.items }
 {
     let mut queues: Vec<WorkQueue<A>, A> = Vec::new(alloc);
+    let workers = workers.min(tiles);
+    if workers < 2 {
+        return queues;
+    }
     for worker in 0..workers {
-        let own = if worker < tiles {
-            OwnQueue::deal(alloc, worker, workers, tiles)
-        } else {
-            None
-        };
         let queue = WorkQueue {
-            own,
+            own: OwnQueue::deal(alloc, worker, workers, tiles),
             stealers: Vec::new(alloc),
             tiles,
         };

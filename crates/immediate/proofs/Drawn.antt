@@ -5,7 +5,8 @@ use Rattle.gfxspec.specs.declared.error.GfxError.{GfxError}
 use Rattle.std.specs.List.{list_any, cons_option}
 use Rattle.gfxspec.specs.Recorded.{items, issues, queries_open, query_begun, after_finish, settings_after, is_drawing}
 use Rattle.gfxspec.specs.Predication.{performed, performed_behind, result_of, withholds}
-use Rattle.gfxspec.specs.Refusals.{AreAccepted, is_among}
+use Rattle.gfxspec.specs.Refusals.{is_among}
+use Rattle.gfxspec.specs.Accepted.{AreAccepted}
 use Rattle.meaning.specs.Contexts.{Context, HasRun, shown, answered, performed_next, counted_or, last_begun, result_at}
 use Rattle.meaning.proofs.Folding.{after_items-append}
 use Rattle.meaning.proofs.Performed.{performed_alike}

@@ -5,5 +5,7 @@ mod Storing
 mod Ran
 mod Idle
 mod Runs
+mod Tracing
 mod Drawn
+mod Making
 pub mod Waiting

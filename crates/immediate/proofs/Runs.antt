@@ -14,7 +14,8 @@ use Rattle.meaning.specs.Contexts.{result_after, result_at, with_counts, perform
 use Rattle.meaning.proofs.Contexts.{result_same, performed_results_stored}
 use Rattle.meaning.proofs.Predicates.{performed_same}
 use Rattle.gfxspec.specs.Predication.{performed, result_of}
-use Rattle.gfxspec.specs.Refusals.{Row, first_row, AreAccepted}
+use Rattle.gfxspec.specs.Refusals.{Row, first_row}
+use Rattle.gfxspec.specs.Accepted.{AreAccepted}
 use Rattle.port.specs.declared.submission.Submission.{Submission}
 use Rattle.tileblock.specs.Surface.{Surface, IsWhole, pixel_of}
 use Rattle.binner.specs.Compiled.{Compilation, IsCompilation, MeansList}

@@ -5,7 +5,7 @@ use Rattle.std.proofs.lemmas.Bool.Decides.{nat_tests}
 use Rattle.std.proofs.lemmas.List.{get_or-set_same, get_or-set_other, get_or_past}
 use Rattle.gfxspec.specs.Commands.{Command}
 use Rattle.gfxspec.specs.Predication.{performed, result_of}
-use Rattle.gfxspec.specs.Refusals.{AreAccepted}
+use Rattle.gfxspec.specs.Accepted.{AreAccepted}
 use Rattle.meaning.specs.Contexts.{result_at}
 use Rattle.meaning.proofs.Predicates.{performed_same}
 use Rattle.binner.specs.Compiling.{told}

@@ -3,3 +3,5 @@ pub mod Next
 pub mod Issues
 pub mod Outputs
 pub mod Batched
+pub mod Engines
+pub mod Tasks

@@ -1,34 +1,45 @@
 //! The immediate context.
 
-ghost use Rattle.std.specs.Prelude.{true, false, ◌≡◌, ◌<◌, ◌≤◌, ◌++◌, [], ℕ, List, IfSome, is_none, not, IfOk, IfErr, OnOk, OnErr, MatchOption, MatchResult, Some, None, Ok, Err, unwrap_or, if◌then◌else◌};
+ghost use Rattle.std.specs.Prelude.{true, false, ◌≡◌, ◌<◌, ◌≤◌, ◌++◌, [], ℕ, List, map, IfSome, is_none, not, IfOk, IfErr, OnOk, OnErr, MatchOption, MatchResult, Some, None, Ok, Err, unwrap_or, if◌then◌else◌};
 ghost use Rattle.std.specs.List.{list_any};
 ghost use Rattle.gfxspec.specs.declared.TheConstants.{QUERY_LIMIT};
 ghost use Rattle.gfxspec.specs.declared.error.GfxError.TheVariants.{OutOfMemory};
 ghost use Rattle.gfxspec.specs.Recorded.{items, issues, queries_open, is_drawing, after_finish};
 ghost use Rattle.gfxspec.specs.Refusals.{AnswersBy, flush_rows, pixel_rows, query_rows, flush_rows_by, pixel_rows_by, query_rows_by, worker_rows};
+ghost use Rattle.gfxspec.specs.Accepted.{AreAccepted};
 ghost use Rattle.tileblock.specs.Surface.{IsWhole, pixel_of, size_rows};
 ghost use Rattle.meaning.specs.Standing.{IsNew};
 ghost use Rattle.meaning.specs.Contexts.{result_at};
 ghost use Rattle.immediate.specs.Issues.{begins};
 ghost use Rattle.immediate.specs.Next.{ExecutesNext};
 ghost use Rattle.immediate.specs.Outputs.{Outputs};
-ghost use Rattle.immediate.specs.Held.{context_of, shown, answered, Stays, Runs, Enqueues, IsExamined};
+ghost use Rattle.immediate.specs.declared.task.Task.TheVariants.{Settle};
+ghost use Rattle.immediate.specs.Engines.{IsEngine, MayList, IsListed, MayCompile, AreMade, MayDraw, IsDrawnBy};
+ghost use Rattle.immediate.specs.Tasks.{Performs};
+ghost use Rattle.immediate.specs.Held.{context_of, shown, answered, Stays, Ran, Executed, MayHaveRun, Runs, Enqueues, IsExamined};
+ghost use Rattle.cmdlist.specs.Seen.{command_value};
 
 use crate::counts::some_begins;
 use crate::crew::RunCrew;
-use crate::executions::{Executions, wait_list};
+use crate::drawing::{Drawn, draw_alone, draw_by_crew, draw_in_threads};
+use crate::engine::{Engine, EngineBy, EngineOf};
+use crate::executions::{Executions, wait};
 use crate::output::Output;
-use crate::pending::{
-    run_all, run_all_alone, run_all_by_crew, run_waiting_alone, run_waiting_by_crew,
-};
-use cmdlist::{Call, CommandList, DeferredContext, DeviceContext};
-use gfxspec::{GfxError, Pixel, QUERY_LIMIT, WORKER_LIMIT};
+use crate::pending::{run_all, run_waiting};
+use crate::room::some_begin;
+use crate::task::Task;
+use binmem::Bins;
+use binner::{Compiled, compile, compile_parallel};
+use cmdlist::{Call, Command, CommandList, DeferredContext, DeviceContext};
+use gfxspec::{GfxError, Pixel, QUERY_LIMIT, Size, WORKER_LIMIT};
 use port::{DrainPass, Ports, Submission};
+use segmentrun::{Lists, SegmentJob, compile_alone, compile_by_crew};
 use std::alloc::Allocator;
 use std::marker::Model;
 use std::sync::Wait;
 use std::thread::Threads;
 use tileblock::Target;
+use tileprog::TileProgram;
 use workers::Gate;
 
 /// Begins the pending list anew behind an execution: with the kept state, which it holds already, or with nothing.
@@ -38,6 +49,14 @@ fn begin_anew<A: Allocator + Copy>(alloc: A, pending: &mut DeferredContext<A>, r
     if !restore {
         *pending = DeferredContext::new(alloc);
     }
+}
+
+/// The task of a flush: nothing is executed behind the pending commands, and the state stays.
+const FLUSH: Task = Task::Execute { restore: true };
+
+/// The commands that a flush executes.
+fn no_commands<A: Allocator>() -> [Command<A>; 0] {
+    []
 }
 
 /// The answer for a submission whose list was executed: its port and number, or why the execution was refused, and then it
@@ -57,10 +76,10 @@ fn executed<A: Allocator>(
 /// The context that executes and answers.
 #[derive(Drop)]
 pub struct ImmediateContext<A: Allocator> {
-    alloc: A,
-    output: Output<A>,
-    waiting: Executions<A>,
-    pending: DeferredContext<A>,
+    pub(crate) alloc: A,
+    pub(crate) output: Output<A>,
+    pub(crate) waiting: Executions<A>,
+    pub(crate) pending: DeferredContext<A>,
 }
 
 impl<A: Allocator> Model for ImmediateContext<A> {
@@ -81,6 +100,14 @@ impl<A: Allocator + Copy> ImmediateContext<A> {
         self.output.target()
     }
 
+    /// The stored pixel of a place: what it holds, where nothing waits and no draw or clear is pending.
+    pub fn stored_pixel(&self, x: u32, y: u32) -> Pixel
+        requires inside { (x < self.now.surface.size.width) × (y < self.now.surface.size.height) }
+        ensures { result ≡ pixel_of self.now.surface x y }
+    {
+        self.output.target().pixel(x, y)
+    }
+
     /// The stored count of a query, 0 where it has none: the count of its last issue, where none is pending.
     pub fn counted(&self, query: u32) -> u64
         ensures { result ≡ unwrap_or (result_at self.now.results query) 0 }
@@ -92,7 +119,7 @@ impl<A: Allocator + Copy> ImmediateContext<A> {
     }
 
     /// Whether the pending commands may run with as many threads. Refused with QueryOpen, WorkerCount.
-    fn examine_run(&self, workers: u32) -> Result<(), GfxError>
+    pub(crate) fn examine_run(&self, workers: u32) -> Result<(), GfxError>
         ensures rows { IsExamined (flush_rows_by (worker_rows workers) (queries_open self.now.pending)) result }
         ensures few { OnOk result (workers ≤ 15) }
     {
@@ -159,18 +186,141 @@ impl<A: Allocator + Copy + Send> ImmediateContext<A> {
         })
     }
 
+    /// Runs what waits, and not the pending commands.
+    fn settle<E: EngineOf<A>>(&mut self, engine: &E) -> Result<(), GfxError>
+        requires engine { IsEngine (E.may_list engine.now) (E.lists engine.now) (E.may_compile engine.now) (E.compiles engine.now) (E.may_draw engine.now) (E.draws engine.now) }
+        ensures ok { OnOk result (Stays self.old self.new × (self.new.waiting ≡ [])) }
+        ensures memory { IfErr result (λ e. e ≡ OutOfMemory) }
+        ensures left { OnErr result (Stays self.old self.new) }
+    {
+        if self.waiting.are_none() {
+            return Ok(());
+        }
+        run_waiting(&mut self.output, &mut self.waiting, engine)
+    }
+
+    /// Runs the pending commands, and then those of a list.
+    fn run<E: EngineOf<A>>(
+        &mut self,
+        list: &[Command<A>],
+        restore: bool,
+        engine: &E,
+    ) -> Result<(), GfxError>
+        requires engine { IsEngine (E.may_list engine.now) (E.lists engine.now) (E.may_compile engine.now) (E.compiles engine.now) (E.may_draw engine.now) (E.draws engine.now) }
+        requires accepted { AreAccepted (map command_value list.now) }
+        ensures ok { OnOk result (Ran (map command_value list.now) restore self.old self.new) }
+        ensures memory { IfErr result (λ e. e ≡ OutOfMemory) }
+        ensures left { OnErr result (MayHaveRun self.old self.new) }
+    {
+        run_all(
+            &mut self.output,
+            &mut self.waiting,
+            &mut self.pending,
+            engine,
+        )?;
+        self.output.run(list, engine)?;
+        begin_anew(self.alloc, &mut self.pending, restore);
+        Ok(())
+    }
+
+    /// Leaves the pending commands and those of a list behind them waiting, so many workers beside the caller being to run them. It
+    /// says whether they wait; if not, nothing is changed.
+    fn wait(&mut self, list: &[Command<A>], restore: bool, workers: u32) -> bool
+        requires accepted { AreAccepted (map command_value list.now) }
+        ensures waits { result ≡ true → Executed (map command_value list.now) restore self.old self.new }
+        ensures same { result ≡ false → self.new ≡ self.old }
+    {
+        wait(&mut self.waiting, &mut self.pending, list, restore, workers)
+    }
+
+    /// Executes a list: it and the pending commands wait, where they begin no query and there is room for them, also once what
+    /// waits has run. Else all run at once.
+    fn enqueue<E: EngineOf<A>>(
+        &mut self,
+        list: &[Command<A>],
+        restore: bool,
+        engine: &E,
+    ) -> Result<(), GfxError>
+        requires engine { IsEngine (E.may_list engine.now) (E.lists engine.now) (E.may_compile engine.now) (E.compiles engine.now) (E.may_draw engine.now) (E.draws engine.now) }
+        requires accepted { AreAccepted (map command_value list.now) }
+        ensures ok { OnOk result (Executed (map command_value list.now) restore self.old self.new) }
+        ensures memory { IfErr result (λ e. e ≡ OutOfMemory) }
+        ensures left { OnErr result (MayHaveRun self.old self.new) }
+    {
+        if some_begin(self.pending.commands()) || some_begin(list) {
+            return self.run(list, restore, engine);
+        }
+        if self.wait(list, restore, engine.workers()) {
+            return Ok(());
+        }
+        self.settle(engine)?;
+        if self.wait(list, restore, engine.workers()) {
+            return Ok(());
+        }
+        self.run(list, restore, engine)
+    }
+
+    /// Performs a task by an engine.
+    fn perform<
+        E: Engine<
+            Command = Command<A>,
+            Bins = Bins<A>,
+            Listed = Result<Compiled<A>, (GfxError, Bins<A>)>,
+            Job = SegmentJob<A>,
+            Lists = (Result<Lists<A>, GfxError>, SegmentJob<A>),
+            Target = Target<A>,
+            Program = TileProgram<A>,
+            Drawn = Drawn<A>,
+        >,
+    >(&mut self, task: Task, list: &[Command<A>], engine: &E) -> Result<(), GfxError>
+        requires engine { IsEngine (E.may_list engine.now) (E.lists engine.now) (E.may_compile engine.now) (E.compiles engine.now) (E.may_draw engine.now) (E.draws engine.now) }
+        requires accepted { AreAccepted (map command_value list.now) }
+        ensures { Performs task (map command_value list.now) self.old self.new result }
+    {
+        match task {
+            Task::Settle => self.settle(engine),
+            Task::Execute { restore } => self.run(list, restore, engine),
+            Task::Enqueue { restore } => self.enqueue(list, restore, engine),
+        }
+    }
+
+    /// Performs a task on the caller's thread.
+    fn perform_alone(&mut self, task: Task, list: &[Command<A>]) -> Result<(), GfxError>
+        requires { AreAccepted (map command_value list.now) }
+        ensures { Performs task (map command_value list.now) self.old self.new result }
+    {
+        let alloc = self.alloc;
+        let engine = EngineBy::new(
+            0,
+            |commands: &[Command<A>], size: Size, results: &[bool; 64], bins: Bins<A>| -> Result<
+                Compiled<A>,
+                (GfxError, Bins<A>),
+            >
+                requires { MayList commands.now size bins }
+                ensures { IsListed commands.now size results.now result }
+            { compile(alloc, commands, size, results, bins) },
+            |job: SegmentJob<A>, bins: Option<Bins<A>>| -> (
+                Result<Lists<A>, GfxError>,
+                SegmentJob<A>,
+            )
+                requires { MayCompile job bins }
+                ensures { AreMade job result }
+            { compile_alone(job, bins) },
+            |program: TileProgram<A>, target: &mut Target<A>| -> Drawn<A>
+                requires { MayDraw program target.old }
+                ensures { IsDrawnBy program target.old target.new result }
+            { draw_alone(&alloc, program, target) },
+        );
+        self.perform(task, list, &engine)
+    }
+
     /// Runs the pending commands. It changes no meaning, and leaves the kept state as the one pending command. Refused with
     /// QueryOpen, OutOfMemory.
     pub fn flush_alone(&mut self) -> Result<(), GfxError>
         ensures { Runs (flush_rows (queries_open self.old.pending)) [] true self.old self.new result }
     {
         self.examine_run(0)?;
-        run_all_alone(
-            self.alloc,
-            &mut self.output,
-            &mut self.waiting,
-            &mut self.pending,
-        )
+        self.perform_alone(FLUSH, &no_commands())
     }
 
     /// Runs the pending commands, and then those of a list, which begins from the default state. With `restore` the
@@ -178,10 +328,8 @@ impl<A: Allocator + Copy + Send> ImmediateContext<A> {
     pub fn execute_alone(&mut self, list: &CommandList<A>, restore: bool) -> Result<(), GfxError>
         ensures { Runs (flush_rows (queries_open self.old.pending)) list.now restore self.old self.new result }
     {
-        self.flush_alone()?;
-        self.output.run_alone(list.commands())?;
-        begin_anew(self.alloc, &mut self.pending, restore);
-        Ok(())
+        self.examine_run(0)?;
+        self.perform_alone(Task::Execute { restore }, list.commands())
     }
 
     /// What a pixel holds after all accepted commands; it runs the pending ones. Refused with PixelRange, QueryOpen,
@@ -191,13 +339,8 @@ impl<A: Allocator + Copy + Send> ImmediateContext<A> {
         ensures value { IfOk result (λ p. p ≡ shown self.old x y) }
     {
         self.examine_pixel(x, y, 0)?;
-        run_all_alone(
-            self.alloc,
-            &mut self.output,
-            &mut self.waiting,
-            &mut self.pending,
-        )?;
-        Ok(self.output.target().pixel(x, y))
+        self.perform_alone(FLUSH, &no_commands())?;
+        Ok(self.stored_pixel(x, y))
     }
 
     /// The count of the last issue of a query that has ended; it runs the pending commands. Refused with QueryNumber,
@@ -207,12 +350,7 @@ impl<A: Allocator + Copy + Send> ImmediateContext<A> {
         ensures value { IfOk result (λ count. Some count ≡ answered self.old query) }
     {
         self.examine_query(query, 0)?;
-        run_all_alone(
-            self.alloc,
-            &mut self.output,
-            &mut self.waiting,
-            &mut self.pending,
-        )?;
+        self.perform_alone(FLUSH, &no_commands())?;
         Ok(self.counted(query))
     }
 
@@ -239,17 +377,11 @@ impl<A: Allocator + Copy + Send> ImmediateContext<A> {
         executed(next, ran)
     }
 
-    /// Runs what waits, where something does, and not the pending commands. It changes no meaning. Refused with OutOfMemory alone, and
-    /// then nothing ran.
+    /// Runs what waits, where something does, and not the pending commands. It changes no meaning. Refused with OutOfMemory alone.
     pub fn settle_alone(&mut self) -> Result<(), GfxError>
-        ensures ok { OnOk result (Stays self.old self.new × (self.new.waiting ≡ [])) }
-        ensures memory { IfErr result (λ e. e ≡ OutOfMemory) }
-        ensures err { OnErr result (self.new ≡ self.old) }
+        ensures { Performs Settle [] self.old self.new result }
     {
-        if self.waiting.are_none() {
-            return Ok(());
-        }
-        run_waiting_alone(&mut self.output, &mut self.waiting)
+        self.perform_alone(Task::Settle, &no_commands())
     }
 
     /// Executes a list, as `execute_alone` does, and may leave it and the pending commands waiting: what waits runs when a call next
@@ -263,21 +395,94 @@ impl<A: Allocator + Copy + Send> ImmediateContext<A> {
         ensures { Enqueues (flush_rows (queries_open self.old.pending)) list.now restore self.old self.new result }
     {
         self.examine_run(0)?;
-        if wait_list(
-            self.alloc,
-            &mut self.waiting,
-            &mut self.pending,
-            list,
-            restore,
-            0,
-        ) {
-            return Ok(());
-        }
-        self.execute_alone(list, restore)
+        self.perform_alone(Task::Enqueue { restore }, list.commands())
     }
 }
 
 impl<A: Allocator + Copy + Send + Sync> ImmediateContext<A> {
+    /// Performs a task by a crew beside the caller.
+    fn perform_by_crew<R: Threads + Wait + Sync, G: Gate>(
+        &mut self,
+        task: Task,
+        list: &[Command<A>],
+        crew: &RunCrew<'_, '_, A, R, G>,
+    ) -> Result<(), GfxError>
+        requires { AreAccepted (map command_value list.now) }
+        ensures { Performs task (map command_value list.now) self.old self.new result }
+    {
+        let alloc = self.alloc;
+        let rt = crew.rt;
+        let workers = crew.workers();
+        let engine = EngineBy::new(
+            workers,
+            |commands: &[Command<A>], size: Size, results: &[bool; 64], bins: Bins<A>| -> Result<
+                Compiled<A>,
+                (GfxError, Bins<A>),
+            >
+                requires { MayList commands.now size bins }
+                ensures { IsListed commands.now size results.now result }
+            {
+                if workers == 0 {
+                    return compile(alloc, commands, size, results, bins);
+                }
+                compile_parallel(rt, alloc, commands, size, results, bins)
+            },
+            |job: SegmentJob<A>, bins: Option<Bins<A>>| -> (
+                Result<Lists<A>, GfxError>,
+                SegmentJob<A>,
+            )
+                requires { MayCompile job bins }
+                ensures { AreMade job result }
+            { compile_by_crew(crew.rt, &crew.compiling, job, bins, crew.gate) },
+            |program: TileProgram<A>, target: &mut Target<A>| -> Drawn<A>
+                requires { MayDraw program target.old }
+                ensures { IsDrawnBy program target.old target.new result }
+            { draw_by_crew(crew, program, target) },
+        );
+        self.perform(task, list, &engine)
+    }
+
+    /// Performs a task with as many threads beside the caller, which start for each of its runs.
+    fn perform_in_threads<R: Threads + Sync, G: Gate + Sync>(
+        &mut self,
+        task: Task,
+        list: &[Command<A>],
+        rt: &R,
+        workers: u32,
+        gate: &G,
+    ) -> Result<(), GfxError>
+        requires accepted { AreAccepted (map command_value list.now) }
+        requires workers { workers ≤ 15 }
+        ensures { Performs task (map command_value list.now) self.old self.new result }
+    {
+        if workers == 0 {
+            return self.perform_alone(task, list);
+        }
+        let alloc = self.alloc;
+        let engine = EngineBy::new(
+            0,
+            |commands: &[Command<A>], size: Size, results: &[bool; 64], bins: Bins<A>| -> Result<
+                Compiled<A>,
+                (GfxError, Bins<A>),
+            >
+                requires { MayList commands.now size bins }
+                ensures { IsListed commands.now size results.now result }
+            { compile_parallel(rt, alloc, commands, size, results, bins) },
+            |job: SegmentJob<A>, bins: Option<Bins<A>>| -> (
+                Result<Lists<A>, GfxError>,
+                SegmentJob<A>,
+            )
+                requires { MayCompile job bins }
+                ensures { AreMade job result }
+            { compile_alone(job, bins) },
+            |program: TileProgram<A>, target: &mut Target<A>| -> Drawn<A>
+                requires { MayDraw program target.old × (workers ≤ 15) }
+                ensures { IsDrawnBy program target.old target.new result }
+            { draw_in_threads(rt, &alloc, program, target, workers, gate) },
+        );
+        self.perform(task, list, &engine)
+    }
+
     /// `flush_alone` with as many threads beside the caller. Refused with QueryOpen, WorkerCount, OutOfMemory.
     pub fn flush<R: Threads + Sync, G: Gate + Sync>(
         &mut self,
@@ -288,15 +493,7 @@ impl<A: Allocator + Copy + Send + Sync> ImmediateContext<A> {
         ensures { Runs (flush_rows_by (worker_rows workers) (queries_open self.old.pending)) [] true self.old self.new result }
     {
         self.examine_run(workers)?;
-        run_all(
-            self.alloc,
-            &mut self.output,
-            &mut self.waiting,
-            &mut self.pending,
-            rt,
-            workers,
-            gate,
-        )
+        self.perform_in_threads(FLUSH, &no_commands(), rt, workers, gate)
     }
 
     /// `execute_alone` with as many threads beside the caller. Refused with QueryOpen, WorkerCount, OutOfMemory.
@@ -310,11 +507,14 @@ impl<A: Allocator + Copy + Send + Sync> ImmediateContext<A> {
     ) -> Result<(), GfxError>
         ensures { Runs (flush_rows_by (worker_rows workers) (queries_open self.old.pending)) list.now restore self.old self.new result }
     {
-        self.flush(rt, workers, gate)?;
-        self.output
-            .run_with_workers(rt, list.commands(), workers, gate)?;
-        begin_anew(self.alloc, &mut self.pending, restore);
-        Ok(())
+        self.examine_run(workers)?;
+        self.perform_in_threads(
+            Task::Execute { restore },
+            list.commands(),
+            rt,
+            workers,
+            gate,
+        )
     }
 
     /// `pixel_alone` with as many threads beside the caller. Refused with PixelRange, QueryOpen, WorkerCount, OutOfMemory.
@@ -330,17 +530,8 @@ impl<A: Allocator + Copy + Send + Sync> ImmediateContext<A> {
         ensures value { IfOk result (λ p. p ≡ shown self.old x y) }
     {
         self.examine_pixel(x, y, workers)?;
-        run_all(
-            self.alloc,
-            &mut self.output,
-            &mut self.waiting,
-            &mut self.pending,
-            rt,
-            workers,
-            gate,
-        )?;
-        let target = self.output.target();
-        Ok(target.pixel(x, y))
+        self.perform_in_threads(FLUSH, &no_commands(), rt, workers, gate)?;
+        Ok(self.stored_pixel(x, y))
     }
 
     /// `get_data_alone` with as many threads beside the caller. Refused with QueryNumber, QueryOpen, WorkerCount,
@@ -356,17 +547,8 @@ impl<A: Allocator + Copy + Send + Sync> ImmediateContext<A> {
         ensures value { IfOk result (λ count. Some count ≡ answered self.old query) }
     {
         self.examine_query(query, workers)?;
-        run_all(
-            self.alloc,
-            &mut self.output,
-            &mut self.waiting,
-            &mut self.pending,
-            rt,
-            workers,
-            gate,
-        )?;
-        let count = self.counted(query);
-        Ok(count)
+        self.perform_in_threads(FLUSH, &no_commands(), rt, workers, gate)?;
+        Ok(self.counted(query))
     }
 
     /// Takes the next submission out of the ports, executes its list with as many threads beside the caller, and names it
@@ -393,59 +575,31 @@ impl<A: Allocator + Copy + Send + Sync> ImmediateContext<A> {
         let ran = self.execute(rt, &next.list, restore, workers, gate);
         executed(next, ran)
     }
-}
 
-impl<A: Allocator + Copy + Send + Sync> ImmediateContext<A> {
     /// `flush_alone` by a crew beside the caller. It may wait for a thread that has a tile in its hands. Refused with
     /// QueryOpen, OutOfMemory.
-    pub fn flush_by_crew<R: Wait, G: Gate>(
+    pub fn flush_by_crew<R: Threads + Wait + Sync, G: Gate>(
         &mut self,
         crew: &RunCrew<'_, '_, A, R, G>,
     ) -> Result<(), GfxError>
         ensures { Runs (flush_rows (queries_open self.old.pending)) [] true self.old self.new result }
     {
         self.examine_run(0)?;
-        run_all_by_crew(
-            self.alloc,
-            &mut self.output,
-            &mut self.waiting,
-            &mut self.pending,
-            crew,
-        )
-    }
-
-    /// `execute_alone` by a crew beside the caller. Refused with QueryOpen, OutOfMemory.
-    pub fn execute_by_crew<R: Wait, G: Gate>(
-        &mut self,
-        list: &CommandList<A>,
-        restore: bool,
-        crew: &RunCrew<'_, '_, A, R, G>,
-    ) -> Result<(), GfxError>
-        ensures { Runs (flush_rows (queries_open self.old.pending)) list.now restore self.old self.new result }
-    {
-        self.flush_by_crew(crew)?;
-        self.output.run_by_crew(list.commands(), crew)?;
-        begin_anew(self.alloc, &mut self.pending, restore);
-        Ok(())
+        self.perform_by_crew(FLUSH, &no_commands(), crew)
     }
 
     /// `settle_alone` by a crew beside the caller.
-    pub fn settle_by_crew<R: Wait, G: Gate>(
+    pub fn settle_by_crew<R: Threads + Wait + Sync, G: Gate>(
         &mut self,
         crew: &RunCrew<'_, '_, A, R, G>,
     ) -> Result<(), GfxError>
-        ensures ok { OnOk result (Stays self.old self.new × (self.new.waiting ≡ [])) }
-        ensures memory { IfErr result (λ e. e ≡ OutOfMemory) }
-        ensures err { OnErr result (self.new ≡ self.old) }
+        ensures { Performs Settle [] self.old self.new result }
     {
-        if self.waiting.are_none() {
-            return Ok(());
-        }
-        run_waiting_by_crew(&mut self.output, &mut self.waiting, crew)
+        self.perform_by_crew(Task::Settle, &no_commands(), crew)
     }
 
     /// `enqueue_execution_alone` by a crew beside the caller.
-    pub fn enqueue_execution_by_crew<R: Wait, G: Gate>(
+    pub fn enqueue_execution_by_crew<R: Threads + Wait + Sync, G: Gate>(
         &mut self,
         list: &CommandList<A>,
         restore: bool,
@@ -454,17 +608,7 @@ impl<A: Allocator + Copy + Send + Sync> ImmediateContext<A> {
         ensures { Enqueues (flush_rows (queries_open self.old.pending)) list.now restore self.old self.new result }
     {
         self.examine_run(0)?;
-        if wait_list(
-            self.alloc,
-            &mut self.waiting,
-            &mut self.pending,
-            list,
-            restore,
-            crew.workers(),
-        ) {
-            return Ok(());
-        }
-        self.execute_by_crew(list, restore, crew)
+        self.perform_by_crew(Task::Enqueue { restore }, list.commands(), crew)
     }
 }
 

@@ -1,16 +1,22 @@
 //! Executions that wait to run as one, and the pending commands among them.
 
-ghost use Rattle.std.specs.Prelude.{true, false, ◌≡◌, ◌++◌, [], IfSome, IsTrue};
+ghost use Rattle.std.specs.Prelude.{true, false, ◌≡◌, [], map, IfSome};
 ghost use Rattle.gfxspec.specs.Recorded.{items, issues};
+ghost use Rattle.gfxspec.specs.Accepted.{AreAccepted};
+ghost use Rattle.cmdlist.specs.Seen.{command_value};
 ghost use Rattle.immediate.specs.Held.{Executed, held_behind};
 ghost use Rattle.immediate.specs.Outputs.{Outputs, performed_over, cut_over};
 ghost use Rattle.immediate.specs.Batched.{executed_items};
 
 use crate::room::{Room, some_begin};
 use binner::{Segment, cut};
-use cmdlist::{Command, CommandList, DeferredContext};
+use cmdlist::{Command, DeferredContext};
+use gfxspec::Size;
+use segmentrun::SegmentJob;
 use std::alloc::Allocator;
 use std::marker::Model;
+use std::mem::replace;
+use std::ops::Range;
 
 /// Lists that wait to run as one, in their order, cut into segments. None of them begins a query.
 #[derive(Drop)]
@@ -29,7 +35,7 @@ impl<A: Allocator> Model for Executions<A> {
 }
 
 impl<A: Allocator> Executions<A> {
-    ghost use Rattle.std.specs.Prelude.{true, false, ◌≡◌, ◌++◌, [], IsTrue};
+    ghost use Rattle.std.specs.Prelude.{true, false, ◌≡◌, ◌≤◌, ◌++◌, [], length, drop, IsTrue};
     ghost use Rattle.gfxspec.specs.Recorded.{issues};
 
     /// No list.
@@ -49,21 +55,22 @@ impl<A: Allocator> Executions<A> {
         self.segments.is_empty()
     }
 
-    /// Forgets all.
-    pub(crate) fn clear(&mut self)
-        ensures { self.new ≡ [] }
+    /// How many segments there are.
+    pub(crate) fn count(&self) -> usize
+        ensures { result ≡ length self.now }
     {
-        self.segments.clear();
-        self.taken = Room::none();
+        self.segments.len()
     }
 
-    /// Whether a list may be added: it begins no query, and there is room for it.
-    fn takes(&self, list: &CommandList<A>) -> bool
-        ensures { IsTrue result → issues list.now ≡ [] }
+    /// Forgets so many from the first on.
+    pub(crate) fn forget(&mut self, count: usize)
+        requires { count ≤ length self.old }
+        ensures { self.new ≡ drop count self.old }
     {
-        let commands = list.commands();
-        let room = self.taken.and(Room::of(commands));
-        room.is_there() && !some_begin(commands)
+        self.segments.drain(..count);
+        if self.segments.is_empty() {
+            self.taken = Room::none();
+        }
     }
 
     /// Puts others behind these. It says whether there was room, and memory for it; if not, nothing is changed.
@@ -85,55 +92,68 @@ impl<A: Allocator> Executions<A> {
 }
 
 impl<A: Allocator + Copy> Executions<A> {
-    ghost use Rattle.std.specs.Prelude.{◌≡◌, [], ◌++◌, map, IfSome};
+    ghost use Rattle.std.specs.Prelude.{◌≡◌, ◌≤◌, [], ◌++◌, map, IsTrue, IfSome};
+    ghost use Rattle.gfxspec.specs.Limits.{is_size};
+    ghost use Rattle.segmentrun.specs.Running.{running};
+    ghost use Rattle.immediate.specs.Batched.{part};
     ghost use Rattle.gfxspec.specs.Recorded.{items, issues};
-    ghost use Rattle.gfxspec.specs.Refusals.{AreAccepted};
+    ghost use Rattle.gfxspec.specs.Accepted.{AreAccepted};
     ghost use Rattle.cmdlist.specs.Seen.{command_value};
     ghost use Rattle.immediate.specs.Outputs.{Outputs, performed_over, cut_over};
 
-    /// Pending commands; so many workers beside the caller are to run them. There is none where they begin a query, and without
-    /// memory.
-    pub(crate) fn behind(alloc: A, pending: &[Command<A>], workers: u32) -> Option<Executions<A>>
-        requires accepted { AreAccepted (map command_value pending.now) }
-        ensures unissued { IfSome result (λ e. issues (map command_value pending.now) ≡ []) }
-        ensures means { IfSome result (λ e. (output : Outputs) → cut_over output e ≡ items (performed_over output (map command_value pending.now))) }
+    /// The job of compiling the segments of some places, under these results of the queries: where all draw much, in a window for each
+    /// who works. The segments go with it.
+    pub(crate) fn job(
+        &mut self,
+        alloc: A,
+        places: Range<usize>,
+        size: Size,
+        results: &[bool; 64],
+        workers: u32,
+    ) -> SegmentJob<A>
+        requires size { IsTrue (is_size size) }
+        requires workers { workers ≤ 15 }
+        ensures size { result.size ≡ size }
+        ensures results { result.results ≡ results.now }
+        ensures segments { result.segments.items ≡ self.old }
+        ensures running { running result ≡ part places.start places.end self.old }
     {
-        if some_begin(pending) {
-            return None;
-        }
-        let taken = Room::of(pending);
-        let mut segments = Vec::new(alloc);
-        let Ok(()) = cut(alloc, pending, taken.triangles_each(workers), &mut segments) else {
-            return None;
-        };
-        Some(Executions { segments, taken })
+        let segments = replace(&mut self.segments, Vec::new(alloc));
+        let workers = if self.taken.is_large() { workers } else { 0 };
+        SegmentJob::new(alloc, segments, places, size, results, workers)
     }
 
-    /// Adds a list; so many workers beside the caller are to run it. Without memory all are given up.
-    fn with(self, list: &CommandList<A>, workers: u32) -> Option<Executions<A>>
-        requires unissued { issues list.now ≡ [] }
-        ensures means { IfSome result (λ e. (output : Outputs) → cut_over output e ≡ cut_over output self ++ items (performed_over output list.now)) }
+    /// The segments of a job come back.
+    pub(crate) fn take_back(&mut self, job: SegmentJob<A>)
+        ensures { self.new ≡ job.segments.items }
     {
-        let Executions {
-            mut segments,
-            taken,
-        } = self;
-        let commands = list.commands();
+        self.segments = job.into_segments();
+    }
+
+    /// Adds commands, which so many workers beside the caller are to run. Where they begin a query, and without memory, all are given up.
+    pub(crate) fn with(self, alloc: A, commands: &[Command<A>], workers: u32) -> Option<Self>
+        requires accepted { AreAccepted (map command_value commands.now) }
+        ensures unissued { IfSome result (λ e. issues (map command_value commands.now) ≡ []) }
+        ensures means { IfSome result (λ e. (output : Outputs) → cut_over output e ≡ cut_over output self ++ items (performed_over output (map command_value commands.now))) }
+    {
+        if some_begin(commands) {
+            return None;
+        }
         let room = Room::of(commands);
-        let alloc = *segments.allocator();
+        let mut segments = self.segments;
         let Ok(()) = cut(alloc, commands, room.triangles_each(workers), &mut segments) else {
             return None;
         };
         Some(Executions {
             segments,
-            taken: taken.and(room),
+            taken: self.taken.and(room),
         })
     }
 }
 
-/// The pending commands of a context, as what waits: the kept state alone is nothing. So many workers beside the caller are to run
-/// them. There is none where they begin a query, and without memory.
-fn pending_behind<A: Allocator + Copy>(
+/// The pending commands of a context as segments: the kept state alone is none. So many workers beside the caller are to run them.
+/// Where they begin a query, and without memory, there are none.
+fn pending_segments<A: Allocator + Copy>(
     alloc: A,
     pending: &DeferredContext<A>,
     workers: u32,
@@ -141,70 +161,47 @@ fn pending_behind<A: Allocator + Copy>(
     ensures unissued { IfSome result (λ e. issues pending.now ≡ []) }
     ensures means { IfSome result (λ e. (output : Outputs) → cut_over output e ≡ items (performed_over output pending.now)) }
 {
+    let none = Executions::none(alloc);
     if pending.is_kept_state_alone() {
-        return Some(Executions::none(alloc));
+        return Some(none);
     }
-    Executions::behind(alloc, pending.commands(), workers)
+    none.with(alloc, pending.commands(), workers)
 }
 
-/// The pending commands, and a list behind them.
-fn begin_behind<A: Allocator + Copy>(
+/// The segments of the pending commands, and of a list behind them: a list of nothing is none.
+fn segments_behind<A: Allocator + Copy>(
     alloc: A,
     pending: &DeferredContext<A>,
-    list: &CommandList<A>,
+    list: &[Command<A>],
     workers: u32,
 ) -> Option<Executions<A>>
-    ensures unissued { IfSome result (λ e. (issues pending.now ≡ []) × (issues list.now ≡ [])) }
-    ensures means { IfSome result (λ e. (output : Outputs) → cut_over output e ≡ executed_items output pending.now list.now) }
+    requires accepted { AreAccepted (map command_value list.now) }
+    ensures unissued { IfSome result (λ e. (issues pending.now ≡ []) × (issues (map command_value list.now) ≡ [])) }
+    ensures means { IfSome result (λ e. (output : Outputs) → cut_over output e ≡ executed_items output pending.now (map command_value list.now)) }
 {
-    let before = pending_behind(alloc, pending, workers)?;
-    if !before.takes(list) {
-        return None;
+    let before = pending_segments(alloc, pending, workers)?;
+    if list.is_empty() {
+        return Some(before);
     }
-    before.with(list, workers)
-}
-
-/// Puts the pending commands behind what waits, and begins their list anew with the kept state; so many workers beside the caller
-/// are to run all. It says whether they wait: where they begin a query, have no room, or without memory, nothing is changed.
-pub(crate) fn wait_pending<A: Allocator + Copy>(
-    alloc: A,
-    waiting: &mut Executions<A>,
-    pending: &mut DeferredContext<A>,
-    workers: u32,
-) -> bool
-    ensures waits { result ≡ true → (output : Outputs) → Executed [] true (held_behind output waiting.old pending.old) (held_behind output waiting.new pending.new) }
-    ensures same { result ≡ false → (waiting.new ≡ waiting.old) × (pending.new ≡ pending.old) }
-{
-    let Some(more) = pending_behind(alloc, pending, workers) else {
-        return false;
-    };
-    let Ok(next) = pending.next(true) else {
-        return false;
-    };
-    if !waiting.join(more) {
-        return false;
-    }
-    *pending = next;
-    true
+    before.with(alloc, list, workers)
 }
 
 /// Puts the pending commands and then a list behind what waits. With `restore` the pending list begins anew with the kept state, and
 /// without it with the default state; so many workers beside the caller are to run all. It says whether they wait: where they or the
 /// list begin a query, have no room, or without memory, nothing is changed.
-pub(crate) fn wait_list<A: Allocator + Copy>(
-    alloc: A,
+pub(crate) fn wait<A: Allocator + Copy>(
     waiting: &mut Executions<A>,
     pending: &mut DeferredContext<A>,
-    list: &CommandList<A>,
+    list: &[Command<A>],
     restore: bool,
     workers: u32,
 ) -> bool
-    ensures waits { result ≡ true → (output : Outputs) → Executed list.now restore (held_behind output waiting.old pending.old) (held_behind output waiting.new pending.new) }
+    requires accepted { AreAccepted (map command_value list.now) }
+    ensures waits { result ≡ true → (output : Outputs) → Executed (map command_value list.now) restore (held_behind output waiting.old pending.old) (held_behind output waiting.new pending.new) }
     ensures same { result ≡ false → (waiting.new ≡ waiting.old) × (pending.new ≡ pending.old) }
 {
-    // A list is accepted.
-    list.commands();
-    let Some(more) = begin_behind(alloc, pending, list, workers) else {
+    let alloc = *waiting.segments.allocator();
+    let Some(more) = segments_behind(alloc, pending, list, workers) else {
         return false;
     };
     let Ok(next) = pending.next(restore) else {

@@ -16,10 +16,13 @@ mod context;
 mod counts;
 mod crew;
 mod drawing;
+mod engine;
 mod executions;
+mod history;
 mod output;
 mod pending;
 mod room;
+mod task;
 
 pub use context::ImmediateContext;
 pub use crew::RunCrew;

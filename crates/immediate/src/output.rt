@@ -1,43 +1,41 @@
 //! The target and the query results, as the last run left them, and what a run makes of them.
 
-ghost use Rattle.std.specs.Prelude.{true, false, ◌≡◌, ℕ, ◌<◌, ◌≤◌, [], ◌∷◌, Some, None, Ok, Err, map, replicate, slice_index, IsTrue, OnOk, IfOk, IfErr, OnErr, IfSome, MatchOption, MatchResult};
+ghost use Rattle.std.specs.Prelude.{true, false, ◌≡◌, ℕ, ◌<◌, ◌≤◌, [], ◌∷◌, Some, None, Ok, Err, map, replicate, slice_index, All, OnOk, IfOk, IfErr, OnErr, IfSome, MatchOption, MatchResult};
 ghost use Rattle.std.specs.List.{list_any};
 ghost use Rattle.gfxspec.specs.declared.error.GfxError.TheVariants.{OutOfMemory};
 ghost use Rattle.gfxspec.specs.Items.{opening};
 ghost use Rattle.gfxspec.specs.Recorded.{issues};
 ghost use Rattle.binner.specs.Compiling.{told};
 ghost use Rattle.gfxspec.specs.Predication.{result_of};
-ghost use Rattle.gfxspec.specs.Refusals.{AnswersBy, AreAccepted};
+ghost use Rattle.gfxspec.specs.Refusals.{AnswersBy};
+ghost use Rattle.gfxspec.specs.Accepted.{AreAccepted};
 ghost use Rattle.gfxspec.specs.Tiles.{tile_count};
 ghost use Rattle.tileblock.specs.Surface.{IsWhole, pixel_of, size_rows};
 ghost use Rattle.binmem.specs.Lists.{no_words};
 ghost use Rattle.meaning.specs.Contexts.{result_at, with_counts};
 ghost use Rattle.cmdlist.specs.Seen.{command_value};
 ghost use Rattle.immediate.specs.Issues.{acts};
-ghost use Rattle.binner.specs.Segments.{AreCompiled, cut_items};
-ghost use Rattle.gfxspec.specs.Limits.{is_size};
+ghost use Rattle.binner.specs.Segments.{AreCompiled};
 ghost use Rattle.tileprog.specs.Programs.{lists_of};
+ghost use Rattle.tileprog.specs.Several.{CanRunBehind};
 ghost use Rattle.immediate.specs.Outputs.{HasRun, IsRunBy, cut_over};
-ghost use Rattle.immediate.specs.Batched.{HasDrawn};
+ghost use Rattle.immediate.specs.Batched.{HasDrawn, part};
+ghost use Rattle.immediate.specs.Engines.{IsEngine};
 
 use crate::counts::store_counts;
-use crate::crew::RunCrew;
-use crate::drawing::{Drawn, draw_alone, draw_by_crew, draw_with_workers};
+use crate::drawing::{Drawn, draw};
+use crate::engine::EngineOf;
 use crate::executions::Executions;
 use crate::room::Room;
 use binmem::Bins;
-use binner::{Compiled, Segment, compile, compile_parallel};
+use binner::Compiled;
 use cmdlist::Command;
-use gfxspec::{GfxError, Size};
-use segmentrun::{compile_alone, compile_by_crew};
-use std::alloc::Allocator;
+use gfxspec::GfxError;
+use std::alloc::{AllocError, Allocator};
 use std::marker::Model;
-use std::mem::replace;
-use std::sync::Wait;
-use std::thread::Threads;
+use std::ops::Range;
 use tileblock::Target;
 use tileprog::TileProgram;
-use workers::Gate;
 
 /// No query has a count.
 fn no_results() -> [Option<u64>; 64]
@@ -106,23 +104,20 @@ fn keep<A: Allocator + Copy>(
     Ok(())
 }
 
-/// Segments compiled by a crew: the first list, and those behind it. They are kept.
-fn lists_by_crew<A: Allocator + Copy + Send + Sync, R: Wait, G: Gate>(
-    segments: &mut Vec<Segment<A>, A>,
-    size: Size,
-    results: &[bool; 64],
-    crew: &RunCrew<'_, '_, A, R, G>,
-) -> Result<(Compiled<A>, Vec<Compiled<A>, A>), GfxError>
-    requires size { IsTrue (is_size size) }
-    ensures kept { segments.new.items ≡ segments.old.items }
-    ensures compiled { IfOk result (λ lists. AreCompiled size (cut_items (told results.now) segments.old.items) (lists.0 ∷ lists.1.items)) }
-    ensures memory { IfErr result (λ e. e ≡ OutOfMemory) }
+/// Lists without issues as a program: one alone takes no memory.
+fn program_of<A: Allocator + Copy>(
+    alloc: A,
+    first: Compiled<A>,
+    behind: Vec<Compiled<A>, A>,
+) -> Result<TileProgram<A>, AllocError>
+    requires unissued { first.issues ≡ 0 }
+    requires behind { All (CanRunBehind first.size) behind.items }
+    ensures { IfOk result (λ program. lists_of program ≡ first ∷ behind.items) }
 {
-    let nothing = Vec::new(*segments.allocator());
-    let all = replace(segments, nothing);
-    let (lists, back) = compile_by_crew(crew.rt, &crew.compiling, all, size, results, crew.gate);
-    *segments = back;
-    lists
+    if behind.is_empty() {
+        return Ok(TileProgram::new(first));
+    }
+    TileProgram::of_lists(alloc, first, behind)
 }
 
 /// A target, the count of each query's last issue, and empty bins that wait for the next list.
@@ -161,6 +156,13 @@ impl<A: Allocator> Output<A> {
             Some(result) => *result,
             None => None,
         }
+    }
+
+    /// The result of each query as a predicate, as the last run left it.
+    pub(crate) fn told(&self) -> [bool; 64]
+        ensures { (q : ℕ) → told result q ≡ result_of (result_at self.now.results q) }
+    {
+        told_by(&self.results)
     }
 }
 
@@ -224,231 +226,124 @@ impl<A: Allocator + Copy + Send> Output<A> {
         }
     }
 
-    /// Compiles commands for the target, under the results of the queries. Where none draws, clears or begins a query,
-    /// nothing is compiled. Refused with OutOfMemory alone.
-    fn compiled(&mut self, commands: &[Command<A>]) -> Result<Option<Compiled<A>>, GfxError>
-        requires { AreAccepted (map command_value commands.now) }
-        ensures same { self.new ≡ self.old }
-        ensures compiled { IfOk result (λ compiled. IsRunBy (map command_value commands.now) self.old compiled) }
-        ensures memory { IfErr result (λ e. e ≡ OutOfMemory) }
-    {
-        let Some(bins) = self.bins_for(commands)? else {
-            return Ok(None);
-        };
-        let size = self.target.size();
-        let told = told_by(&self.results);
-        let compiled = compile(self.alloc, commands, size, &told, bins);
-        self.end_compiling(compiled)
-    }
-
-    /// Segments of lists, compiled as one on the caller's thread, under the results of the queries. Refused with OutOfMemory alone.
-    fn compiled_segments(&mut self, segments: &[Segment<A>]) -> Result<Compiled<A>, GfxError>
-        ensures same { self.new ≡ self.old }
-        ensures compiled { IfOk result (λ c. AreCompiled self.old.surface.size (cut_over self.old segments.now) (c ∷ [])) }
-        ensures memory { IfErr result (λ e. e ≡ OutOfMemory) }
-    {
-        let bins = self.take_bins()?;
-        let told = told_by(&self.results);
-        match compile_alone(self.alloc, segments, self.target.size(), &told, bins) {
-            Ok(compiled) => Ok(compiled),
-            Err(bins) => {
-                self.bins = Some(bins);
-                Err(GfxError::OutOfMemory)
-            }
-        }
-    }
-
-    /// Runs segments of lists on the caller's thread. Refused with OutOfMemory alone, before any tile is taken.
-    pub(crate) fn run_segments_alone(&mut self, segments: &[Segment<A>]) -> Result<(), GfxError>
-        ensures ok { OnOk result (HasDrawn (cut_over self.old segments.now) self.old self.new) }
-        ensures memory { IfErr result (λ e. e ≡ OutOfMemory) }
-        ensures err { OnErr result (self.new ≡ self.old) }
-    {
-        let compiled = self.compiled_segments(segments)?;
-        let drawn = draw_alone(&self.alloc, compiled, &mut self.target);
-        let nothing: [Command<A>; 0] = [];
-        keep(drawn, &nothing, &mut self.results, &mut self.bins)
-    }
-
-    /// Runs commands on the caller's thread, with issues of their own, from the default state on. Refused with OutOfMemory
-    /// alone, before any tile is taken.
-    pub(crate) fn run_alone(&mut self, commands: &[Command<A>]) -> Result<(), GfxError>
-        requires accepted { AreAccepted (map command_value commands.now) }
-        ensures ok { OnOk result (HasRun (map command_value commands.now) self.old self.new) }
-        ensures memory { IfErr result (λ e. e ≡ OutOfMemory) }
-        ensures err { OnErr result (self.new ≡ self.old) }
-    {
-        let Some(compiled) = self.compiled(commands)? else {
-            return Ok(());
-        };
-        let drawn = draw_alone(&self.alloc, compiled, &mut self.target);
-        keep(drawn, commands, &mut self.results, &mut self.bins)
-    }
-}
-
-impl<A: Allocator + Copy + Send + Sync> Output<A> {
-    /// The same as `compiled`, with the triangles of large draws set up in threads where there are workers.
-    fn compiled_in_threads<R: Threads + Sync>(
+    /// Compiles commands for the target, under the results of the queries, by an engine. Where none draws, clears or begins a
+    /// query, nothing is compiled. Refused with OutOfMemory alone.
+    fn compiled<E: EngineOf<A>>(
         &mut self,
-        rt: &R,
         commands: &[Command<A>],
-        workers: u32,
+        engine: &E,
     ) -> Result<Option<Compiled<A>>, GfxError>
-        requires { AreAccepted (map command_value commands.now) }
+        requires engine { IsEngine (E.may_list engine.now) (E.lists engine.now) (E.may_compile engine.now) (E.compiles engine.now) (E.may_draw engine.now) (E.draws engine.now) }
+        requires accepted { AreAccepted (map command_value commands.now) }
         ensures same { self.new ≡ self.old }
         ensures compiled { IfOk result (λ compiled. IsRunBy (map command_value commands.now) self.old compiled) }
         ensures memory { IfErr result (λ e. e ≡ OutOfMemory) }
     {
-        if workers == 0 {
-            return self.compiled(commands);
-        }
         let Some(bins) = self.bins_for(commands)? else {
             return Ok(None);
         };
         let size = self.target.size();
         let told = told_by(&self.results);
-        let compiled = compile_parallel(rt, self.alloc, commands, size, &told, bins);
-        self.end_compiling(compiled)
+        let listed = engine.list(commands, size, &told, bins);
+        self.end_compiling(listed)
     }
 
-    /// The same as `run_alone` with as many threads beside the caller, each of which passes the gate.
-    pub(crate) fn run_with_workers<R: Threads + Sync, G: Gate + Sync>(
-        &mut self,
-        rt: &R,
-        commands: &[Command<A>],
-        workers: u32,
-        gate: &G,
-    ) -> Result<(), GfxError>
-        requires accepted { AreAccepted (map command_value commands.now) }
-        requires workers { workers ≤ 15 }
-        ensures ok { OnOk result (HasRun (map command_value commands.now) self.old self.new) }
-        ensures memory { IfErr result (λ e. e ≡ OutOfMemory) }
-        ensures err { OnErr result (self.new ≡ self.old) }
-    {
-        let Some(compiled) = self.compiled_in_threads(rt, commands, workers)? else {
-            return Ok(());
-        };
-        let drawn = draw_with_workers(rt, &self.alloc, compiled, &mut self.target, workers, gate);
-        keep(drawn, commands, &mut self.results, &mut self.bins)
-    }
-
-    /// The same as `run_segments_alone` with as many threads beside the caller, each of which passes the gate.
-    pub(crate) fn run_segments_with_workers<R: Threads + Sync, G: Gate + Sync>(
-        &mut self,
-        rt: &R,
-        segments: &[Segment<A>],
-        workers: u32,
-        gate: &G,
-    ) -> Result<(), GfxError>
-        requires workers { workers ≤ 15 }
-        ensures ok { OnOk result (HasDrawn (cut_over self.old segments.now) self.old self.new) }
-        ensures memory { IfErr result (λ e. e ≡ OutOfMemory) }
-        ensures err { OnErr result (self.new ≡ self.old) }
-    {
-        let compiled = self.compiled_segments(segments)?;
-        let drawn = draw_with_workers(rt, &self.alloc, compiled, &mut self.target, workers, gate);
-        let nothing: [Command<A>; 0] = [];
-        keep(drawn, &nothing, &mut self.results, &mut self.bins)
-    }
-
-    /// The same as `run_alone` by a crew beside the caller, which passes the gate too. Where the crew can't compile the commands the
-    /// caller does.
-    pub(crate) fn run_by_crew<R: Wait, G: Gate>(
+    /// Runs commands by an engine, with issues of their own, from the default state on. Refused with OutOfMemory alone, before any tile
+    /// is taken.
+    pub(crate) fn run<E: EngineOf<A>>(
         &mut self,
         commands: &[Command<A>],
-        crew: &RunCrew<'_, '_, A, R, G>,
+        engine: &E,
     ) -> Result<(), GfxError>
+        requires engine { IsEngine (E.may_list engine.now) (E.lists engine.now) (E.may_compile engine.now) (E.compiles engine.now) (E.may_draw engine.now) (E.draws engine.now) }
         requires accepted { AreAccepted (map command_value commands.now) }
         ensures ok { OnOk result (HasRun (map command_value commands.now) self.old self.new) }
         ensures memory { IfErr result (λ e. e ≡ OutOfMemory) }
         ensures err { OnErr result (self.new ≡ self.old) }
     {
-        if self.run_cut(commands, crew) {
+        if self.run_cut(commands, engine) {
             return Ok(());
         }
-        self.run_compiled(commands, crew)
+        self.run_listed(commands, engine)
     }
 
-    /// Runs commands that draw much and begin no query, cut into segments, by a crew that compiles them too. It says whether they
+    /// Runs commands that draw much and begin no query, cut into segments for those who work beside the caller. It says whether they
     /// ran: there may be no memory for it.
-    fn run_cut<R: Wait, G: Gate>(
-        &mut self,
-        commands: &[Command<A>],
-        crew: &RunCrew<'_, '_, A, R, G>,
-    ) -> bool
+    fn run_cut<E: EngineOf<A>>(&mut self, commands: &[Command<A>], engine: &E) -> bool
+        requires engine { IsEngine (E.may_list engine.now) (E.lists engine.now) (E.may_compile engine.now) (E.compiles engine.now) (E.may_draw engine.now) (E.draws engine.now) }
         requires accepted { AreAccepted (map command_value commands.now) }
         ensures ran { result ≡ true → HasRun (map command_value commands.now) self.old self.new }
         ensures same { result ≡ false → self.new ≡ self.old }
     {
-        if !Room::of(commands).is_large() {
+        let workers = engine.workers();
+        if workers == 0 || !Room::of(commands).is_large() {
             return false;
         }
-        let Some(cut) = Executions::behind(self.alloc, commands, crew.workers()) else {
+        let none = Executions::none(self.alloc);
+        let Some(mut cut) = none.with(self.alloc, commands, workers) else {
             return false;
         };
-        let Executions {
-            mut segments,
-            taken,
-        } = cut;
-        self.run_segments_by_crew(&mut segments, taken, crew)
-            .is_ok()
+        let count = cut.count();
+        self.run_waiting(&mut cut, 0..count, engine).is_ok()
     }
 
-    /// Commands that the caller compiles, run by a crew.
-    fn run_compiled<R: Wait, G: Gate>(
+    /// Runs commands that are compiled as one list.
+    fn run_listed<E: EngineOf<A>>(
         &mut self,
         commands: &[Command<A>],
-        crew: &RunCrew<'_, '_, A, R, G>,
+        engine: &E,
     ) -> Result<(), GfxError>
+        requires engine { IsEngine (E.may_list engine.now) (E.lists engine.now) (E.may_compile engine.now) (E.compiles engine.now) (E.may_draw engine.now) (E.draws engine.now) }
         requires accepted { AreAccepted (map command_value commands.now) }
         ensures ok { OnOk result (HasRun (map command_value commands.now) self.old self.new) }
         ensures memory { IfErr result (λ e. e ≡ OutOfMemory) }
         ensures err { OnErr result (self.new ≡ self.old) }
     {
-        let Some(compiled) = self.compiled(commands)? else {
+        let Some(compiled) = self.compiled(commands, engine)? else {
             return Ok(());
         };
-        let job = TileProgram::new(compiled);
-        let drawn = draw_by_crew(crew, job, &mut self.target);
+        let drawn = draw(engine, TileProgram::new(compiled), &mut self.target);
         keep(drawn, commands, &mut self.results, &mut self.bins)
     }
 
-    /// The lists of segments as a job: compiled by a crew, or on the caller's thread where they draw little.
-    fn program_by_crew<R: Wait, G: Gate>(
+    /// The lists of segments that wait, those of some places, as a program. What waits is kept.
+    fn program<E: EngineOf<A>>(
         &mut self,
-        segments: &mut Vec<Segment<A>, A>,
-        room: Room,
-        crew: &RunCrew<'_, '_, A, R, G>,
+        waiting: &mut Executions<A>,
+        places: Range<usize>,
+        engine: &E,
     ) -> Result<TileProgram<A>, GfxError>
+        requires engine { IsEngine (E.may_list engine.now) (E.lists engine.now) (E.may_compile engine.now) (E.compiles engine.now) (E.may_draw engine.now) (E.draws engine.now) }
         ensures same { self.new ≡ self.old }
-        ensures kept { segments.new.items ≡ segments.old.items }
-        ensures compiled { IfOk result (λ job. AreCompiled self.old.surface.size (cut_over self.old segments.old.items) (lists_of job)) }
+        ensures kept { waiting.new ≡ waiting.old }
+        ensures compiled { IfOk result (λ program. AreCompiled self.old.surface.size (cut_over self.old (part places.start places.end waiting.old)) (lists_of program)) }
         ensures memory { IfErr result (λ e. e ≡ OutOfMemory) }
     {
-        if !room.is_large() {
-            let compiled = self.compiled_segments(segments.as_slice())?;
-            return Ok(TileProgram::new(compiled));
-        }
-        let told = told_by(&self.results);
         let size = self.target.size();
-        let (first, behind) = lists_by_crew(segments, size, &told, crew)?;
-        Ok(TileProgram::of_lists(self.alloc, first, behind)?)
+        let told = told_by(&self.results);
+        let bins = self.bins.take();
+        let job = waiting.job(self.alloc, places, size, &told, engine.workers());
+        let (lists, job) = engine.compile(job, bins);
+        waiting.take_back(job);
+        let (first, behind) = lists?;
+        Ok(program_of(self.alloc, first, behind)?)
     }
 
-    /// The same as `run_segments_alone` by a crew beside the caller, which passes the gate too.
-    pub(crate) fn run_segments_by_crew<R: Wait, G: Gate>(
+    /// Runs segments that wait, those of some places. They are kept. Refused with OutOfMemory alone, before any tile is taken.
+    pub(crate) fn run_waiting<E: EngineOf<A>>(
         &mut self,
-        segments: &mut Vec<Segment<A>, A>,
-        room: Room,
-        crew: &RunCrew<'_, '_, A, R, G>,
+        waiting: &mut Executions<A>,
+        places: Range<usize>,
+        engine: &E,
     ) -> Result<(), GfxError>
-        ensures kept { segments.new.items ≡ segments.old.items }
-        ensures ok { OnOk result (HasDrawn (cut_over self.old segments.old.items) self.old self.new) }
+        requires engine { IsEngine (E.may_list engine.now) (E.lists engine.now) (E.may_compile engine.now) (E.compiles engine.now) (E.may_draw engine.now) (E.draws engine.now) }
+        ensures kept { waiting.new ≡ waiting.old }
+        ensures ok { OnOk result (HasDrawn (cut_over self.old (part places.start places.end waiting.old)) self.old self.new) }
         ensures memory { IfErr result (λ e. e ≡ OutOfMemory) }
         ensures err { OnErr result (self.new ≡ self.old) }
     {
-        let job = self.program_by_crew(segments, room, crew)?;
-        let drawn = draw_by_crew(crew, job, &mut self.target);
+        let program = self.program(waiting, places, engine)?;
+        let drawn = draw(engine, program, &mut self.target);
         let nothing: [Command<A>; 0] = [];
         keep(drawn, &nothing, &mut self.results, &mut self.bins)
     }

@@ -1,27 +1,26 @@
-//! What runs the pending commands, and what waits.
+//! What runs what waits and the pending commands.
 
-ghost use Rattle.std.specs.Prelude.{true, ◌≡◌, ◌≤◌, [], IfErr, OnOk, OnErr};
+ghost use Rattle.std.specs.Prelude.{true, ◌≡◌, [], IfErr, OnOk, OnErr};
 ghost use Rattle.gfxspec.specs.declared.error.GfxError.TheVariants.{OutOfMemory};
-ghost use Rattle.immediate.specs.Batched.{HasDrawn};
+ghost use Rattle.immediate.specs.Batched.{HasDrawn, PartDrawn};
+ghost use Rattle.immediate.specs.Engines.{IsEngine};
 ghost use Rattle.immediate.specs.Outputs.{cut_over};
 ghost use Rattle.immediate.specs.Held.{Ran, MayHaveRun, held_of, held_behind};
 
-use crate::crew::RunCrew;
-use crate::executions::{Executions, wait_pending};
+use crate::engine::EngineOf;
+use crate::executions::{Executions, wait};
 use crate::output::Output;
-use cmdlist::{DeferredContext, DeviceContext};
+use cmdlist::{Command, DeferredContext, DeviceContext};
 use gfxspec::GfxError;
 use std::alloc::Allocator;
-use std::sync::Wait;
-use std::thread::Threads;
-use workers::Gate;
 
-/// Runs the pending commands on the caller's thread, and begins their list anew with the kept state. Where that is all that
-/// is pending, nothing is done.
-fn run_pending_alone<A: Allocator + Copy + Send>(
+/// Runs the pending commands, and begins their list anew with the kept state. Where that is all that is pending, nothing is done.
+fn run_pending<A: Allocator + Copy + Send, E: EngineOf<A>>(
     output: &mut Output<A>,
     pending: &mut DeferredContext<A>,
+    engine: &E,
 ) -> Result<(), GfxError>
+    requires engine { IsEngine (E.may_list engine.now) (E.lists engine.now) (E.may_compile engine.now) (E.compiles engine.now) (E.may_draw engine.now) (E.draws engine.now) }
     ensures ok { OnOk result (Ran [] true (held_of output.old pending.old) (held_of output.new pending.new)) }
     ensures memory { IfErr result (λ e. e ≡ OutOfMemory) }
     ensures same { OnErr result ((output.new ≡ output.old) × (pending.new ≡ pending.old)) }
@@ -30,164 +29,74 @@ fn run_pending_alone<A: Allocator + Copy + Send>(
         return Ok(());
     }
     let next = pending.next(true)?;
-    output.run_alone(pending.commands())?;
+    output.run(pending.commands(), engine)?;
     *pending = next;
     Ok(())
 }
 
-/// The same with as many threads beside the caller.
-fn run_pending<A: Allocator + Copy + Send + Sync, R: Threads + Sync, G: Gate + Sync>(
+/// Runs what waits one segment after the other, which takes the least memory. Where memory is refused, what ran waits no longer.
+fn run_each<A: Allocator + Copy + Send, E: EngineOf<A>>(
     output: &mut Output<A>,
-    pending: &mut DeferredContext<A>,
-    rt: &R,
-    workers: u32,
-    gate: &G,
+    waiting: &mut Executions<A>,
+    engine: &E,
 ) -> Result<(), GfxError>
-    requires workers { workers ≤ 15 }
-    ensures ok { OnOk result (Ran [] true (held_of output.old pending.old) (held_of output.new pending.new)) }
+    requires engine { IsEngine (E.may_list engine.now) (E.lists engine.now) (E.may_compile engine.now) (E.compiles engine.now) (E.may_draw engine.now) (E.draws engine.now) }
+    ensures ok { OnOk result (HasDrawn (cut_over output.old waiting.old) output.old output.new × (waiting.new ≡ [])) }
     ensures memory { IfErr result (λ e. e ≡ OutOfMemory) }
-    ensures same { OnErr result ((output.new ≡ output.old) × (pending.new ≡ pending.old)) }
+    ensures part { OnErr result (PartDrawn output.old waiting.old output.new waiting.new) }
 {
-    if pending.is_kept_state_alone() {
-        return Ok(());
+    let count = waiting.count();
+    for place in 0..count {
+        if let Err(refusal) = output.run_waiting(waiting, place..place + 1, engine) {
+            waiting.forget(place);
+            return Err(refusal);
+        }
     }
-    let begun = pending.next(true)?;
-    output.run_with_workers(rt, pending.commands(), workers, gate)?;
-    *pending = begun;
+    waiting.forget(count);
     Ok(())
 }
 
-/// The same by a crew beside the caller.
-fn run_pending_by_crew<A: Allocator + Copy + Send + Sync, R: Wait, G: Gate>(
+/// Runs what waits: all as one, or, where memory for that is refused, one segment after the other. Refused with OutOfMemory alone.
+pub(crate) fn run_waiting<A: Allocator + Copy + Send, E: EngineOf<A>>(
     output: &mut Output<A>,
-    pending: &mut DeferredContext<A>,
-    crew: &RunCrew<'_, '_, A, R, G>,
+    waiting: &mut Executions<A>,
+    engine: &E,
 ) -> Result<(), GfxError>
-    ensures ok { OnOk result (Ran [] true (held_of output.old pending.old) (held_of output.new pending.new)) }
+    requires engine { IsEngine (E.may_list engine.now) (E.lists engine.now) (E.may_compile engine.now) (E.compiles engine.now) (E.may_draw engine.now) (E.draws engine.now) }
+    ensures ok { OnOk result (HasDrawn (cut_over output.old waiting.old) output.old output.new × (waiting.new ≡ [])) }
     ensures memory { IfErr result (λ e. e ≡ OutOfMemory) }
-    ensures same { OnErr result ((output.new ≡ output.old) × (pending.new ≡ pending.old)) }
+    ensures part { OnErr result (PartDrawn output.old waiting.old output.new waiting.new) }
 {
-    if pending.is_kept_state_alone() {
-        return Ok(());
+    let count = waiting.count();
+    match output.run_waiting(waiting, 0..count, engine) {
+        Ok(()) => {
+            waiting.forget(count);
+            Ok(())
+        }
+        Err(_) => run_each(output, waiting, engine),
     }
-    let fresh = pending.next(true)?;
-    output.run_by_crew(pending.commands(), crew)?;
-    *pending = fresh;
-    Ok(())
 }
 
-/// Runs what waits, on the caller's thread. Refused with OutOfMemory alone, and then nothing ran.
-pub(crate) fn run_waiting_alone<A: Allocator + Copy + Send>(
-    output: &mut Output<A>,
-    waiting: &mut Executions<A>,
-) -> Result<(), GfxError>
-    ensures ok { OnOk result (HasDrawn (cut_over output.old waiting.old) output.old output.new × (waiting.new ≡ [])) }
-    ensures memory { IfErr result (λ e. e ≡ OutOfMemory) }
-    ensures same { OnErr result ((output.new ≡ output.old) × (waiting.new ≡ waiting.old)) }
-{
-    output.run_segments_alone(waiting.segments.as_slice())?;
-    waiting.clear();
-    Ok(())
-}
-
-/// The same with as many threads beside the caller.
-fn run_waiting<A: Allocator + Copy + Send + Sync, R: Threads + Sync, G: Gate + Sync>(
-    output: &mut Output<A>,
-    waiting: &mut Executions<A>,
-    rt: &R,
-    workers: u32,
-    gate: &G,
-) -> Result<(), GfxError>
-    requires workers { workers ≤ 15 }
-    ensures ok { OnOk result (HasDrawn (cut_over output.old waiting.old) output.old output.new × (waiting.new ≡ [])) }
-    ensures memory { IfErr result (λ e. e ≡ OutOfMemory) }
-    ensures same { OnErr result ((output.new ≡ output.old) × (waiting.new ≡ waiting.old)) }
-{
-    output.run_segments_with_workers(rt, waiting.segments.as_slice(), workers, gate)?;
-    waiting.clear();
-    Ok(())
-}
-
-/// The same by a crew beside the caller.
-pub(crate) fn run_waiting_by_crew<A: Allocator + Copy + Send + Sync, R: Wait, G: Gate>(
-    output: &mut Output<A>,
-    waiting: &mut Executions<A>,
-    crew: &RunCrew<'_, '_, A, R, G>,
-) -> Result<(), GfxError>
-    ensures ok { OnOk result (HasDrawn (cut_over output.old waiting.old) output.old output.new × (waiting.new ≡ [])) }
-    ensures memory { IfErr result (λ e. e ≡ OutOfMemory) }
-    ensures same { OnErr result ((output.new ≡ output.old) × (waiting.new ≡ waiting.old)) }
-{
-    output.run_segments_by_crew(&mut waiting.segments, waiting.taken, crew)?;
-    waiting.clear();
-    Ok(())
-}
-
-/// Runs what waits and then the pending commands, as one where these begin no query, on the caller's thread, and begins the pending
-/// list anew with the kept state. Refused with OutOfMemory alone.
-pub(crate) fn run_all_alone<A: Allocator + Copy + Send>(
-    alloc: A,
+/// Runs what waits and then the pending commands, as one where these begin no query, and begins the pending list anew with the
+/// kept state. Refused with OutOfMemory alone.
+pub(crate) fn run_all<A: Allocator + Copy + Send, E: EngineOf<A>>(
     output: &mut Output<A>,
     waiting: &mut Executions<A>,
     pending: &mut DeferredContext<A>,
+    engine: &E,
 ) -> Result<(), GfxError>
+    requires engine { IsEngine (E.may_list engine.now) (E.lists engine.now) (E.may_compile engine.now) (E.compiles engine.now) (E.may_draw engine.now) (E.draws engine.now) }
     ensures ok { OnOk result (Ran [] true (held_behind output.old waiting.old pending.old) (held_behind output.new waiting.new pending.new)) }
     ensures memory { IfErr result (λ e. e ≡ OutOfMemory) }
     ensures left { OnErr result (MayHaveRun (held_behind output.old waiting.old pending.old) (held_behind output.new waiting.new pending.new)) }
 {
     if waiting.are_none() {
-        return run_pending_alone(output, pending);
+        return run_pending(output, pending, engine);
     }
-    if wait_pending(alloc, waiting, pending, 0) {
-        return run_waiting_alone(output, waiting);
+    let nothing: [Command<A>; 0] = [];
+    if wait(waiting, pending, &nothing, true, engine.workers()) {
+        return run_waiting(output, waiting, engine);
     }
-    run_waiting_alone(output, waiting)?;
-    run_pending_alone(output, pending)
-}
-
-/// The same with as many threads beside the caller.
-pub(crate) fn run_all<A: Allocator + Copy + Send + Sync, R: Threads + Sync, G: Gate + Sync>(
-    alloc: A,
-    output: &mut Output<A>,
-    waiting: &mut Executions<A>,
-    pending: &mut DeferredContext<A>,
-    rt: &R,
-    workers: u32,
-    gate: &G,
-) -> Result<(), GfxError>
-    requires workers { workers ≤ 15 }
-    ensures ok { OnOk result (Ran [] true (held_behind output.old waiting.old pending.old) (held_behind output.new waiting.new pending.new)) }
-    ensures memory { IfErr result (λ e. e ≡ OutOfMemory) }
-    ensures left { OnErr result (MayHaveRun (held_behind output.old waiting.old pending.old) (held_behind output.new waiting.new pending.new)) }
-{
-    if waiting.are_none() {
-        return run_pending(output, pending, rt, workers, gate);
-    }
-    if wait_pending(alloc, waiting, pending, workers) {
-        return run_waiting(output, waiting, rt, workers, gate);
-    }
-    run_waiting(output, waiting, rt, workers, gate)?;
-    run_pending(output, pending, rt, workers, gate)
-}
-
-/// The same by a crew beside the caller.
-pub(crate) fn run_all_by_crew<A: Allocator + Copy + Send + Sync, R: Wait, G: Gate>(
-    alloc: A,
-    output: &mut Output<A>,
-    waiting: &mut Executions<A>,
-    pending: &mut DeferredContext<A>,
-    crew: &RunCrew<'_, '_, A, R, G>,
-) -> Result<(), GfxError>
-    ensures ok { OnOk result (Ran [] true (held_behind output.old waiting.old pending.old) (held_behind output.new waiting.new pending.new)) }
-    ensures memory { IfErr result (λ e. e ≡ OutOfMemory) }
-    ensures left { OnErr result (MayHaveRun (held_behind output.old waiting.old pending.old) (held_behind output.new waiting.new pending.new)) }
-{
-    if waiting.are_none() {
-        return run_pending_by_crew(output, pending, crew);
-    }
-    if wait_pending(alloc, waiting, pending, crew.workers()) {
-        return run_waiting_by_crew(output, waiting, crew);
-    }
-    run_waiting_by_crew(output, waiting, crew)?;
-    run_pending_by_crew(output, pending, crew)
+    run_waiting(output, waiting, engine)?;
+    run_pending(output, pending, engine)
 }

@@ -6,7 +6,8 @@ use Rattle.std.proofs.lemmas.List.{append-nil}
 use Rattle.gfxspec.specs.State.{Settings}
 use Rattle.gfxspec.specs.Commands.{Command, SetVertices, SetIndices, SetScissor, SetPredication, Kept}
 use Rattle.gfxspec.specs.Recorded.{settings_after}
-use Rattle.gfxspec.specs.Refusals.{Row, first_row, list_rows, some_open, flush_rows, AreSound, IsAccepted, AcceptedBehind, AreAccepted}
+use Rattle.gfxspec.specs.Refusals.{Row, first_row, list_rows, some_open, flush_rows}
+use Rattle.gfxspec.specs.Accepted.{AreSound, IsAccepted, AcceptedBehind, AreAccepted}
 use Rattle.meaning.specs.OneMore.{settings_with}
 use Rattle.meaning.proofs.Nearest.{settings_after-push}
 

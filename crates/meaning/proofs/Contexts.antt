@@ -10,7 +10,8 @@ use Rattle.gfxspec.specs.declared.pixel.Pixel.{Pixel}
 use Rattle.gfxspec.specs.Items.{Item, after_items, count_at, issue_count, opening}
 use Rattle.gfxspec.specs.Commands.{Command, Begin, Kept}
 use Rattle.gfxspec.specs.Recorded.{settings_after, queries_open, issues, items, after_finish}
-use Rattle.gfxspec.specs.Refusals.{first_row, command_rows, list_rows, query_rows, some_open, IsAccepted, AreAccepted}
+use Rattle.gfxspec.specs.Refusals.{first_row, command_rows, list_rows, query_rows, some_open}
+use Rattle.gfxspec.specs.Accepted.{IsAccepted, AreAccepted}
 use Rattle.gfxspec.specs.Session as session
 use Rattle.gfxspec.specs.Session.{Step, Records, Executes, Flushes, all_seen, all_run, items_of_session, open_now, settings_now, last_issue, last_of, begun_from}
 use Rattle.gfxspec.specs.Predication.{performed, result_of, results_behind, performed_session}

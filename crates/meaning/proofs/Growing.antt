@@ -14,7 +14,7 @@ use Rattle.gfxspec.specs.Items.{Drawn}
 use Rattle.gfxspec.specs.Commands.{Command, Draw, DrawIndexed, Begin, End}
 use Rattle.gfxspec.specs.Recorded.{settings_after, open_after, queries_open, ends, items_at, items_behind, items, drawn_items, is_drawn, triangle_count, issues, query_begun}
 use Rattle.meaning.specs.OneMore.{triangles_of, without, queries_with}
-use Rattle.gfxspec.specs.Refusals.{IsAccepted, AcceptedBehind, AreAccepted}
+use Rattle.gfxspec.specs.Accepted.{IsAccepted, AcceptedBehind, AreAccepted}
 
 -- the items of one more command stand at the end
 pub items_behind-push : (begun earlier cs : List Command) (c : Command) → items_behind begun earlier (cs ++ c ∷ []) ≡ items_behind begun earlier cs ++ items_at (settings_after (earlier ++ cs)) (open_after (begun ++ (earlier ++ cs))) c

@@ -10,7 +10,8 @@ use Rattle.gfxspec.specs.Items.{Item, issue_count, opening}
 use Rattle.gfxspec.specs.Commands.{Command, Kept}
 use Rattle.gfxspec.specs.Recorded.{settings_after, items, issues, is_drawing, after_finish}
 use Rattle.gfxspec.specs.Session.{Step, Records, Executes, Flushes, seen, all_seen, run, all_run, items_of_session, settings_now, open_now, last_of, last_issue, pending}
-use Rattle.gfxspec.specs.Refusals.{is_among, AreAccepted}
+use Rattle.gfxspec.specs.Refusals.{is_among}
+use Rattle.gfxspec.specs.Accepted.{AreAccepted}
 use Rattle.gfxspec.specs.Predication.{withholds, is_performed, performed, result_of, results_behind, performed_step, performed_from, performed_session}
 use Rattle.meaning.specs.Contexts.{counted_or}
 use Rattle.meaning.specs.Standing.{is_run, settled}

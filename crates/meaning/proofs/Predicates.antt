@@ -14,7 +14,8 @@ use Rattle.gfxspec.specs.Commands.{Command, SetPredication, Begin, Kept}
 use Rattle.gfxspec.specs.Recorded.{settings_after, predicate_set, issues, query_named, queries_named, queries_open, ends, is_drawing}
 use Rattle.gfxspec.specs.Session.{begun_from, last_of}
 use Rattle.gfxspec.specs.Predication.{withholds, performed_behind, performed}
-use Rattle.gfxspec.specs.Refusals.{list_rows, is_among, is_bad_predicate, is_begun_predicate, AreSound, IsAccepted, AcceptedBehind, AreAccepted}
+use Rattle.gfxspec.specs.Refusals.{list_rows, is_among, is_bad_predicate, is_begun_predicate}
+use Rattle.gfxspec.specs.Accepted.{AreSound, IsAccepted, AcceptedBehind, AreAccepted}
 use Rattle.meaning.specs.Contexts.{last_begun}
 use Rattle.meaning.proofs.Nearest.{settings_after-push}
 use Rattle.meaning.proofs.Growing.{issues-push}

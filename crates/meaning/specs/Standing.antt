@@ -10,7 +10,7 @@ use Rattle.gfxspec.specs.Recorded.{items, issues, settings_after, queries_open}
 use Rattle.gfxspec.specs.Session as session
 use Rattle.gfxspec.specs.Session.{Step, Records, Executes, Flushes, all_run, items_of_session, settings_now, open_now, last_issue}
 use Rattle.gfxspec.specs.Predication.{performed_session}
-use Rattle.gfxspec.specs.Refusals.{AreAccepted}
+use Rattle.gfxspec.specs.Accepted.{AreAccepted}
 use Rattle.meaning.specs.Contexts.{Context, counted_or, result_at, shown, answered}
 use Rattle.meaning.specs.Renumbering.{renumbered}
 

@@ -6,8 +6,8 @@ use Rattle.std.proofs.lemmas.List.Sums.{fold-append}
 use Rattle.gfxspec.specs.Commands.{Command}
 use Rattle.scenetext.specs.Scene.{Verb, Finish, Line}
 use Rattle.scenetext.specs.Spelling.{is_deferred}
-use Rattle.recorders.specs.Recording.{Recording, nothing_recorded, with_verb, with_line, recording_of}
-use Rattle.recorders.specs.Apart.{lists_behind, listed}
+use Rattle.recorders.specs.Recording.{Recording, nothing_recorded, with_verb, with_line, recording_of, listed}
+use Rattle.recorders.specs.Apart.{lists_behind}
 
 grows : (k : ℕ) (r : Recording) (ls : List Line) → (more : List (List Command)) × ((fold (with_line k) r ls).lists ≡ r.lists ++ more)
 grows k r [] = ([], sym (append-nil r.lists))

@@ -12,7 +12,8 @@ use Rattle.recorders.specs.declared.ports.Returned.{Returned}
 use Rattle.recorders.specs.declared.ports.Recorded.{Recorded}
 use Rattle.recorders.specs.declared.recorder.RecorderResult.{RecorderResult}
 use Rattle.recorders.specs.Sinks.{Way, Sender, lists_sent, sender_lists, sender_way}
-use Rattle.recorders.specs.Apart.{listed, IsListed}
+use Rattle.recorders.specs.Apart.{IsListed}
+use Rattle.recorders.specs.Recording.{listed}
 use Rattle.recorders.specs.Asking.{Asked}
 use Rattle.recorders.specs.Recorders.{IsRecording, end_in, port_of}
 use Rattle.recorders.specs.Rows.{AreRows, IsNext, with_list}

@@ -6,7 +6,8 @@ use Rattle.std.proofs.lemmas.List.{length-map, length_push, map-append, map-set,
 use Rattle.gfxspec.specs.Commands.{Command}
 use Rattle.scenetext.specs.Scene.{Line}
 use Rattle.recorders.specs.declared.ports.Recorded.{Recorded}
-use Rattle.recorders.specs.Apart.{listed, IsListed}
+use Rattle.recorders.specs.Apart.{IsListed}
+use Rattle.recorders.specs.Recording.{listed}
 use Rattle.recorders.specs.Rows.{row, with_list, IsNext, IsRow, AreRows}
 
 row_push : (ls : List Line) (k : ℕ) (xs : List (List Command)) (x : List Command) → IsRow ls k xs → x ≡ listed ls k (length xs) → IsRow ls k (xs ++ x ∷ [])

@@ -10,9 +10,8 @@ use Rattle.scenetext.specs.Scene.{Verb, Call, Finish, Line}
 use Rattle.scenetext.specs.Spelling.{is_deferred}
 use Rattle.recorders.specs.declared.ports.Recorded.{Recorded}
 use Rattle.recorders.specs.declared.refusal.RefusedLine.{RefusedLine}
-use Rattle.recorders.specs.Recording.{Recording, nothing_recorded, with_verb, with_line, recording_of}
-use Rattle.recorders.specs.Calls.{deferred_rows}
-use Rattle.recorders.specs.Apart.{line_at, a_line, listed, lists_behind, IsListed, AcceptsTo, Cause, refused_by, IsStopOf}
+use Rattle.recorders.specs.Recording.{Recording, nothing_recorded, with_verb, with_line, recording_of, deferred_rows, listed}
+use Rattle.recorders.specs.Apart.{line_at, a_line, lists_behind, IsListed, AcceptsTo, Cause, refused_by, IsStopOf}
 use Rattle.recorders.specs.Taking.{AtWork, starting, current_after, lists_after, given_by, VerbTaken, VerbRefused, TakenIf, HasTaken}
 use Rattle.recorders.specs.Recorders.{HasRecorded}
 use Rattle.recorders.proofs.Growing.{listed_early}

@@ -8,8 +8,7 @@ use Rattle.scenetext.specs.Scene.{Line, Immediate, Flush}
 use Rattle.scenetext.specs.Spelling.{is_deferred}
 use Rattle.recorders.specs.declared.ports.Recorded.{Recorded}
 use Rattle.recorders.specs.declared.refusal.RefusedLine.{RefusedLine}
-use Rattle.recorders.specs.Recording.{recording_of}
-use Rattle.recorders.specs.Calls.{deferred_rows}
+use Rattle.recorders.specs.Recording.{recording_of, deferred_rows, listed}
 
 abbrev pub a_line : Line
 a_line = record { actor = Immediate; verb = Flush }
@@ -22,10 +21,6 @@ line_at ls i = slice_index_or ls i a_line
 -- the finished lists of context k behind the first i lines, by its own lines alone
 abbrev pub lists_behind : List Line → ℕ → ℕ → List (List Command)
 lists_behind ls k i = (recording_of k (take i ls)).lists
-
--- list n of context k, in the whole scene
-abbrev pub listed : List Line → ℕ → ℕ → List Command
-listed ls k n = slice_index_or (recording_of k ls).lists n []
 
 -- a list is the one that its context and number name
 abbrev pub IsListed : List Line → Recorded (List Command) → Type 0

@@ -1,9 +1,8 @@
--- Verbs as calls on a context, and why a deferred one refuses them.
-use Rattle.std.specs.Prelude.{◌≡◌, List, [], Option, Some, None, Result, Ok}
+-- Verbs as calls on a context.
+use Rattle.std.specs.Prelude.{◌≡◌, List, Option, Some, None, Result, Ok}
 use Rattle.gfxspec.specs.declared.error.GfxError.{GfxError}
 use Rattle.gfxspec.specs.Commands.{Command}
-use Rattle.gfxspec.specs.Refusals.{Row, list_rows, finish_rows}
-use Rattle.scenetext.specs.Scene.{Verb, Call, Finish}
+use Rattle.scenetext.specs.Scene.{Verb, Call}
 use Rattle.cmdlist.specs.Calls.{RecordsCall}
 
 -- the call of a context that a verb is, if it is one
@@ -15,9 +14,3 @@ call_in verb = None
 abbrev pub TakesCall : {S : Type 0} → (S → List Command) → (S → Command → S) → S → Verb → S → Result (Unit {0}) GfxError → Type 0
 TakesCall recorded with old (Call c) new result = RecordsCall recorded with old c new result
 TakesCall recorded with old verb new result = (result ≡ Ok tt) × (new ≡ old)
-
--- the rows of a verb on a deferred context that is recording this list
-abbrev pub deferred_rows : List Command → Verb → List Row
-deferred_rows list (Call c) = list_rows list c
-deferred_rows list (Finish restore) = finish_rows list
-deferred_rows list verb = []

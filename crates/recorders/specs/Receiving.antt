@@ -13,7 +13,8 @@ use Rattle.recorders.specs.declared.recorder.RecorderResult.{RecorderResult}
 use Rattle.recorders.specs.declared.refusal.RecordingEnd.{RecordingEnd}
 use Rattle.recorders.specs.Ports.{at_port, in_order}
 use Rattle.recorders.specs.Sinks.{lists_sent}
-use Rattle.recorders.specs.Apart.{listed, IsListed}
+use Rattle.recorders.specs.Apart.{IsListed}
+use Rattle.recorders.specs.Recording.{listed}
 use Rattle.recorders.specs.Recorders.{AreEnded, end_in, port_of}
 use Rattle.recorders.specs.Asking.{Asked}
 use Rattle.recorders.specs.Ending.{AreEnds}

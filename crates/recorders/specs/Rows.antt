@@ -3,7 +3,7 @@ use Rattle.std.specs.Prelude.{ℕ, ◌≡◌, ◌<◌, List, [], ◌∷◌, ◌+
 use Rattle.gfxspec.specs.Commands.{Command}
 use Rattle.scenetext.specs.Scene.{Line}
 use Rattle.recorders.specs.declared.ports.Recorded.{Recorded}
-use Rattle.recorders.specs.Apart.{listed}
+use Rattle.recorders.specs.Recording.{listed}
 
 abbrev pub row : List (List (List Command)) → ℕ → List (List Command)
 row rows k = slice_index_or rows k []

@@ -9,7 +9,7 @@ use Rattle.scenetext.specs.Spelling.{is_deferred}
 use Rattle.recorders.specs.declared.ports.Recorded.{Recorded}
 use Rattle.recorders.specs.declared.refusal.ContextEnd.{ContextEnd}
 use Rattle.recorders.specs.declared.refusal.RefusedLine.{RefusedLine}
-use Rattle.recorders.specs.Calls.{deferred_rows}
+use Rattle.recorders.specs.Recording.{deferred_rows}
 use Rattle.recorders.specs.Apart.{Cause}
 
 -- a context, the list that it is recording, and how many it has finished before a line that it refused

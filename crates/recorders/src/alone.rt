@@ -42,7 +42,7 @@ impl<'a, A: Allocator> RecordedLists<'a, A> {
 
 impl<'a, A: Allocator> ListSource<CommandList<A>> for RecordedLists<'a, A> {
     ghost use Rattle.std.specs.Prelude.{◌<◌, None, length};
-    ghost use Rattle.recorders.specs.Apart.{listed};
+    ghost use Rattle.recorders.specs.Recording.{listed};
     ghost use Rattle.recorders.specs.Rows.{row};
     ghost use Rattle.recorders.specs.Ending.{EndsLack};
 
@@ -67,7 +67,7 @@ impl<'a, A: Allocator> ListSource<CommandList<A>> for RecordedLists<'a, A> {
         Ok(false)
     }
 
-    fn is_here(&self, context: u32, number: u32) -> bool {
+    fn is_here(&mut self, context: u32, number: u32) -> bool {
         self.rows.has(context, number)
     }
 

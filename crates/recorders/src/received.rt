@@ -158,7 +158,11 @@ impl<'a, A: Allocator + Copy, R: Threads + Wait> ListSource<CommandList<A>>
         Ok(false)
     }
 
-    fn is_here(&self, context: u32, number: u32) -> bool {
+    fn is_here(&mut self, context: u32, number: u32) -> bool {
+        if self.rows.has(context, number) {
+            return true;
+        }
+        self.take_all();
         self.rows.has(context, number)
     }
 

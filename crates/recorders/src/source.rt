@@ -31,10 +31,13 @@ pub trait ListSource<L> {
         ensures agrees { agrees self.new → agrees self.old }
         ensures found { IfOk result (λ there. MatchBool there (holds self.new context number) (lacks self.new context number)) };
 
-    /// Whether a list is here, without waiting for one that isn't.
-    fn is_here(&self, context: u32, number: u32) -> bool
+    /// Whether a list is here, once all that was sent is taken. It waits for nobody.
+    fn is_here(&mut self, context: u32, number: u32) -> bool
         requires { context < 8 }
-        ensures { IsTrue result → holds self.now context number };
+        ensures frame { frame self.new ≡ frame self.old }
+        ensures right { right self.new ≡ right self.old }
+        ensures agrees { agrees self.new → agrees self.old }
+        ensures here { IsTrue result → holds self.new context number };
 
     /// A list that is here.
     fn list(&self, context: u32, number: u32) -> &L

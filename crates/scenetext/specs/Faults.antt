@@ -1,4 +1,5 @@
 -- What is wrong with a text: the first faulty line, and the first row of the table of faults that applies to it.
+use Rattle.std.specs.Option.{option_map_or}
 use Rattle.std.specs.Prelude.{ℕ, ◌+◌, ◌≡◌, nat_le, Bool, ◌&&◌, ◌||◌, not, List, [], ◌∷◌, ◌++◌, length, drop, Option, Some, None, bytes_eq, codes, count_by, slice_index_or, if◌then◌else◌}
 use Rattle.std.specs.Str.Parse.{digits_value}
 use Rattle.scenetext.specs.declared.fault.Fault.{Fault}
@@ -100,3 +101,7 @@ pub record HasFault (text : List ℕ) (line number : ℕ) : Type 0 where
   pub fault : Fault
   pub first : fault_of text ≡ Some (line, fault)
   pub numbered : number ≡ number_of_fault fault
+
+-- the line at which reading ends: that of the fault, or the last
+abbrev pub last_read : List ℕ → ℕ
+last_read text = option_map_or (λ f. f.0) (fault_of text) (length (lines_of text))

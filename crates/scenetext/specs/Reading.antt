@@ -1,10 +1,11 @@
 -- What the parts of the reader promise.
-use Rattle.std.specs.Option.{option_map_or}
 use Rattle.std.specs.List.{join_with_byte, list_all, position_or_len}
 use Rattle.std.specs.Char.{is_ascii_digit}
 use Rattle.std.specs.Str.Parse.{AllDigits, digits_value}
-use Rattle.std.specs.Prelude.{ℕ, Bool, ◌≡◌, ◌⊎◌, ◌+◌, ◌==◌, ◌&&◌, slice_set, if◌then◌else◌, ◌<◌, ◌≤◌, ◌^◌, length, take, true, false, Option, Some, List, [], ◌∷◌, ◌++◌, slice_index, count_by}
+use Rattle.std.specs.Prelude.{ℕ, Bool, ◌≡◌, ◌⊎◌, ◌+◌, ◌==◌, ◌&&◌, slice_set, if◌then◌else◌, ◌<◌, ◌≤◌, ◌^◌, nat_le, length, take, true, false, Option, Some, List, [], ◌∷◌, ◌++◌, slice_index, count_by}
 use Rattle.scenetext.specs.declared.fault.Fault.{Fault}
+use Rattle.scenetext.specs.declared.range.Range.{Range}
+use Rattle.scenetext.specs.declared.range.TheConstants.{U32}
 use Rattle.scenetext.specs.declared.fault.ReadError.{ReadError}
 use Rattle.scenetext.specs.declared.fault.ReadError.TheVariants as errors
 use Rattle.scenetext.specs.declared.command.CommandWord.{CommandWord}
@@ -15,7 +16,7 @@ use Rattle.scenetext.specs.Text.{TextLine, lines_of, words_of, is_printable, has
 use Rattle.scenetext.specs.Numbers.{context_word}
 use Rattle.scenetext.specs.Commands.{Shape, name, shape, serves}
 use Rattle.scenetext.specs.Spelling.{actor_word, is_immediate_actor, verb_words, line_words, size_words, may_take, is_finish, IsActor, IsVerb, IsTarget}
-use Rattle.scenetext.specs.Faults.{number_of_fault, arguments_fault, finishes, first_line_fault, later_line_fault, first_fault, fault_of, HasFault}
+use Rattle.scenetext.specs.Faults.{number_of_fault, arguments_fault, finishes, first_line_fault, later_line_fault, first_fault, fault_of, last_read, HasFault}
 
 -- these words are the arguments of this verb
 pub record Reads (command : CommandWord) (words : List (List ℕ)) (v : Verb) : Type 0 where
@@ -161,10 +162,12 @@ abbrev pub RefusesNext : List ℕ → List ℕ → ReadError → Type 0
 RefusesNext finished text errors.Memory = Unit {0}
 RefusesNext finished text (errors.Fault f) = (e : TextLine) (es : List TextLine) → Counts (e ∷ es) finished → first_fault (e ∷ es) (lines_of text) ≡ Some (length (e ∷ es) + 1, f)
 
--- the line at which reading ends: that of the fault, or the last
-abbrev pub last_read : List ℕ → ℕ
-last_read text = option_map_or (λ f. f.0) (fault_of text) (length (lines_of text))
-
 -- why a text could not be read: its fault, or want of memory in a line that was reached
 abbrev pub Refused : List ℕ → ℕ × ℕ → Type 0
 Refused text e = HasFault text e.0 e.1 ⊎ ((e.1 ≡ 1) × (1 ≤ e.0) × (e.0 ≤ last_read text))
+
+-- the numbers that stand for the values of a type
+pub record Numbering (T : Type 0) : Type 0 where
+  pub range : Range
+  pub number : T → ℕ
+  pub small : nat_le range.high U32.high ≡ true

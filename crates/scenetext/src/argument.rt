@@ -7,7 +7,8 @@ ghost use Rattle.scenetext.specs.declared.range.TheConstants.{U32, BYTE, FLAG, I
 ghost use Rattle.scenetext.specs.Numbers.{fits_kind};
 ghost use Rattle.scenetext.specs.Spelling.{flag_number};
 ghost use Rattle.scenetext.specs.Faults.{word};
-ghost use Rattle.scenetext.specs.Ranges.{kind_of, IsIn, Numbering};
+ghost use Rattle.scenetext.specs.Ranges.{kind_of, IsIn};
+ghost use Rattle.scenetext.specs.Reading.{Numbering};
 
 use crate::fault::{Fault, ReadError};
 use crate::words::Words;

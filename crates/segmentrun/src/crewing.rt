@@ -1,12 +1,13 @@
-//! Segments that a crew compiles.
+//! Segments, compiled by the caller or by a crew.
 
-ghost use Rattle.std.specs.Prelude.{◌≡◌, ◌≤◌, ◌+◌, ◌∷◌, [], ℕ, List, length, IsTrue, IfOk, IfErr, Some, false};
+ghost use Rattle.std.specs.Prelude.{◌≡◌, ◌≤◌, ◌+◌, ◌∷◌, [], ℕ, List, length, IfSome, IfOk, IfErr, Some, false};
 ghost use mathlib.Core.Option.{some};
 ghost use lib.ListN.{get_elem?};
 ghost use Rattle.gfxspec.specs.declared.geometry.Size.{Size};
 ghost use Rattle.gfxspec.specs.declared.error.GfxError.TheVariants.{OutOfMemory};
 ghost use Rattle.gfxspec.specs.Items.{Item};
-ghost use Rattle.gfxspec.specs.Limits.{is_size};
+ghost use Rattle.gfxspec.specs.Tiles.{tile_count};
+ghost use Rattle.binmem.specs.Lists.{no_words};
 ghost use Rattle.board.specs.declared.view.Hand.TheVariants.{Empty};
 ghost use Rattle.board.specs.Known.{IsSeatOf, AreNew};
 ghost use Rattle.binner.specs.Compiled.{Compilation};
@@ -15,14 +16,16 @@ ghost use Rattle.binner.specs.Segments.{cut_items, AreCompiled};
 ghost use Rattle.segmentrun.specs.declared.job.SegmentJob.{SegmentJob};
 ghost use Rattle.segmentrun.specs.declared.job.OpenWindow.{OpenWindow};
 ghost use Rattle.segmentrun.specs.declared.job.DoneWindow.{DoneWindow};
+ghost use Rattle.segmentrun.specs.Running.{running};
 ghost use Rattle.segmentrun.specs.Windows.{joined};
 ghost use Rattle.segmentrun.specs.Collected.{AreOfWindows};
 
-use crate::compiling::compile_anew;
+use crate::compiling::compile_window;
 use crate::job::{OpenWindow, SegmentJob};
-use binner::{Compiled, Segment};
+use binmem::Bins;
+use binner::Compiled;
 use board::{Board, Finished, Seat};
-use gfxspec::{GfxError, Size};
+use gfxspec::GfxError;
 use std::alloc::Allocator;
 use std::sync::Wait;
 use tilecore::TileJob;
@@ -32,7 +35,7 @@ use workers::{Crew, Gate, run_by_crew};
 pub type SegmentCrew<'a, A> = Crew<'a, SegmentJob<A>, A>;
 
 /// A compiled list, and those behind it.
-type Lists<A> = (Compiled<A>, Vec<Compiled<A>, A>);
+pub type Lists<A> = (Compiled<A>, Vec<Compiled<A>, A>);
 
 /// Places the windows of a job on its board.
 fn place_all<'a, A: Allocator + Copy + Send>(
@@ -100,80 +103,79 @@ fn take_lists<'a, A: Allocator + Copy + Send>(
     Ok((first, behind))
 }
 
-/// Runs a job by a crew, over a new board and its seat. The segments come back.
-fn run_windows<'a, A: Allocator + Copy + Send + Sync, G: Gate, R: Wait>(
+/// Runs a job by a crew, over a new board and its seat. The job comes back.
+fn run_windows<'a, A: Allocator + Copy + Send, G: Gate, R: Wait>(
     rt: &R,
     crew: &SegmentCrew<'a, A>,
     board: Board<'a, SegmentJob<A>, A>,
     seat: Seat<SegmentJob<A>>,
     job: SegmentJob<A>,
     gate: &G,
-) -> (Result<Lists<A>, GfxError>, Vec<Segment<A>, A>)
+) -> (Result<Lists<A>, GfxError>, SegmentJob<A>)
     requires new { AreNew (λ (j : SegmentJob A). j.windows) (λ (j : SegmentJob A). 0) job false board seat }
     requires some { 1 ≤ job.windows }
-    ensures compiled { IfOk result.0 (λ lists. AreCompiled job.size (cut_items (told job.results) job.segments.items) (lists.0 ∷ lists.1.items)) }
+    ensures compiled { IfOk result.0 (λ lists. AreCompiled job.size (cut_items (told job.results) (running job)) (lists.0 ∷ lists.1.items)) }
     ensures memory { IfErr result.0 (λ e. e ≡ OutOfMemory) }
-    ensures back { result.1.items ≡ job.segments.items }
+    ensures back { result.1 ≡ job }
 {
     let mut seat = seat;
     let windows = job.tiles();
     place_all(&board, &mut seat, windows);
-    let (board, seat, done) = run_by_crew(rt, crew, board, seat, job, gate);
+    let (board, seat, job) = run_by_crew(rt, crew, board, seat, job, gate);
     let Ok(mut finished) = board.close(seat) else {
         unreachable!()
     };
     let lists = take_lists(*crew.allocator(), &mut finished, windows);
-    (lists, done.into_segments())
+    (lists, job)
 }
 
-/// Segments that the caller compiles, as one list.
+/// The segments of a job as one list, compiled by the caller, with these empty bins or with new ones.
 fn compile_here<A: Allocator + Copy>(
-    alloc: A,
-    segments: &[Segment<A>],
-    size: Size,
-    results: &[bool; 64],
+    job: &SegmentJob<A>,
+    bins: Option<Bins<A>>,
 ) -> Result<Lists<A>, GfxError>
-    requires size { IsTrue (is_size size) }
-    ensures compiled { IfOk result (λ lists. AreCompiled size (cut_items (told results.now) segments.now) (lists.0 ∷ lists.1.items)) }
+    requires { IfSome bins (λ bins. bins ≡ no_words (tile_count job.now.size)) }
+    ensures compiled { IfOk result (λ lists. AreCompiled job.now.size (cut_items (told job.now.results) (running job.now)) (lists.0 ∷ lists.1.items)) }
     ensures memory { IfErr result (λ e. e ≡ OutOfMemory) }
 {
-    let compiled = compile_anew(alloc, segments, size, results)?;
-    Ok((compiled, Vec::new(alloc)))
+    let compiled = compile_window(job.alloc, job.running(), job.size, &job.results, bins)?;
+    Ok((compiled, Vec::new(job.alloc)))
 }
 
-/// Whether the caller alone compiles segments: there is nobody beside it, or no second segment.
-fn is_for_caller(segments: usize, workers: u32) -> bool {
-    workers == 0 || segments < 2
+/// Compiles the segments of a job on the caller's thread, as one list, with these empty bins or with new ones. Refused with OutOfMemory
+/// alone: without memory, and where the list would name more than 65,536 states, triangles or clears. The job comes back as it was.
+pub fn compile_alone<A: Allocator + Copy>(
+    job: SegmentJob<A>,
+    bins: Option<Bins<A>>,
+) -> (Result<Lists<A>, GfxError>, SegmentJob<A>)
+    requires { IfSome bins (λ bins. bins ≡ no_words (tile_count job.size)) }
+    ensures compiled { IfOk result.0 (λ lists. AreCompiled job.size (cut_items (told job.results) (running job)) (lists.0 ∷ lists.1.items)) }
+    ensures memory { IfErr result.0 (λ e. e ≡ OutOfMemory) }
+    ensures back { result.1 ≡ job }
+{
+    let lists = compile_here(&job, bins);
+    (lists, job)
 }
 
-/// Compiles segments for a target of this size, under the results that the queries have before them, by the threads of a
-/// crew beside the caller: the first list and those behind it, one for each window. Where there are no segments, that is
-/// one list of nothing. It may wait for a thread that has a window in its hands. Refused with OutOfMemory alone: without
-/// memory, and where a window would name more than 65,536 states, triangles or clears. The segments come back.
-pub fn compile_by_crew<'a, A: Allocator + Copy + Send + Sync, G: Gate, R: Wait>(
+/// `compile_alone` by the threads of a crew beside the caller, where the job has several windows: a list for each of them. It may wait
+/// for a thread that has a window in its hands.
+pub fn compile_by_crew<'a, A: Allocator + Copy + Send, G: Gate, R: Wait>(
     rt: &R,
     crew: &SegmentCrew<'a, A>,
-    segments: Vec<Segment<A>, A>,
-    size: Size,
-    results: &[bool; 64],
+    job: SegmentJob<A>,
+    bins: Option<Bins<A>>,
     gate: &G,
-) -> (
-    Result<(Compiled<A>, Vec<Compiled<A>, A>), GfxError>,
-    Vec<Segment<A>, A>,
-)
-    requires size { IsTrue (is_size size) }
-    ensures compiled { IfOk result.0 (λ lists. AreCompiled size (cut_items (told results.now) segments.items) (lists.0 ∷ lists.1.items)) }
+) -> (Result<Lists<A>, GfxError>, SegmentJob<A>)
+    requires { IfSome bins (λ bins. bins ≡ no_words (tile_count job.size)) }
+    ensures compiled { IfOk result.0 (λ lists. AreCompiled job.size (cut_items (told job.results) (running job)) (lists.0 ∷ lists.1.items)) }
     ensures memory { IfErr result.0 (λ e. e ≡ OutOfMemory) }
-    ensures back { result.1.items ≡ segments.items }
+    ensures back { result.1 ≡ job }
 {
-    let alloc = *crew.allocator();
-    if is_for_caller(segments.len(), crew.workers()) {
-        let lists = compile_here(alloc, segments.as_slice(), size, results);
-        return (lists, segments);
+    if job.tiles() < 2 {
+        return compile_alone(job, bins);
     }
-    let job = SegmentJob::new(alloc, segments, size, results, crew.workers());
     match Board::new(crew.allocator(), &job) {
         Ok((board, seat)) => run_windows(rt, crew, board, seat, job, gate),
-        Err(refusal) => (Err(refusal), job.into_segments()),
+        Err(refusal) => (Err(refusal), job),
     }
 }

@@ -1,28 +1,31 @@
 //! The windows of segments as a job.
 
-ghost use Rattle.std.specs.Prelude.{◌≡◌, ◌≤◌, ◌*◌, length, IsTrue};
+ghost use Rattle.std.specs.Prelude.{◌≡◌, ◌≤◌, ◌*◌, length, take, drop, IsTrue};
 ghost use Rattle.gfxspec.specs.Limits.{is_size};
 ghost use Rattle.segmentrun.specs.Windows.{window_of};
 
-use crate::compiling::compile_anew;
+use crate::compiling::compile_window;
 use binner::{Compiled, Segment};
 use gfxspec::{GfxError, Size};
 use std::alloc::Allocator;
+use std::ops::Range;
 use tilecore::TileJob;
 
-/// The windows of a run's segments, as a job: each is compiled by itself.
+/// The windows of a run's segments, as a job: each is compiled by itself. Those from a first one on up to a last one run.
 #[derive(Drop)]
 pub struct SegmentJob<A: Allocator> {
-    alloc: A,
+    pub(crate) alloc: A,
     segments: Vec<Segment<A>, A>,
+    first: usize,
+    count: usize,
     /// How many segments a window has; the last may have fewer.
     width: usize,
     windows: u32,
-    results: [bool; 64],
-    size: Size,
+    pub(crate) results: [bool; 64],
+    pub(crate) size: Size,
     ghost sized: { IsTrue (is_size size) },
     ghost few: { windows ≤ 16384 },
-    ghost whole: { length segments.items ≤ windows * width },
+    ghost whole: { length (take count (drop first segments.items)) ≤ windows * width },
 }
 
 /// A window that waits.
@@ -59,6 +62,14 @@ fn windows_of(segments: usize, width: usize) -> u32
     segments.div_ceil(width).max(1) as u32
 }
 
+/// So many segments from one on, as far as there are any.
+fn part_of<A: Allocator>(segments: &[Segment<A>], first: usize, count: usize) -> &[Segment<A>]
+    ensures { result.now ≡ take count (drop first segments.now) }
+{
+    let behind = &segments[first.min(segments.len())..];
+    &behind[..count.min(behind.len())]
+}
+
 /// The segments of a window.
 fn of_window<A: Allocator>(segments: &[Segment<A>], width: usize, number: u32) -> &[Segment<A>]
     ensures { result.now ≡ window_of width number segments.now }
@@ -68,21 +79,35 @@ fn of_window<A: Allocator>(segments: &[Segment<A>], width: usize, number: u32) -
     &behind[..width.min(behind.len())]
 }
 
-impl<A: Allocator + Copy> SegmentJob<A> {
-    ghost use Rattle.std.specs.Prelude.{◌≡◌, ◌≤◌, IsTrue};
-    ghost use Rattle.gfxspec.specs.Limits.{is_size};
+impl<A: Allocator> SegmentJob<A> {
+    ghost use Rattle.std.specs.Prelude.{◌≡◌};
+    ghost use Rattle.segmentrun.specs.Running.{running};
 
-    /// The segments of its windows.
-    pub(crate) fn into_segments(self) -> Vec<Segment<A>, A>
+    /// The segments that run.
+    pub(crate) fn running(&self) -> &[Segment<A>]
+        ensures { result.now ≡ running self.now }
+    {
+        part_of(self.segments.as_slice(), self.first, self.count)
+    }
+
+    /// All segments.
+    pub fn into_segments(self) -> Vec<Segment<A>, A>
         ensures { result.items ≡ self.segments.items }
     {
         self.segments
     }
+}
 
-    /// The windows of segments, for as many workers beside the caller.
-    pub(crate) fn new(
+impl<A: Allocator + Copy> SegmentJob<A> {
+    ghost use Rattle.std.specs.Prelude.{◌≡◌, ◌≤◌, ◌-◌, take, drop, IsTrue};
+    ghost use Rattle.gfxspec.specs.Limits.{is_size};
+    ghost use Rattle.segmentrun.specs.Running.{running};
+
+    /// The windows of the segments of these places, as far as there are any, for as many workers beside the caller.
+    pub fn new(
         alloc: A,
         segments: Vec<Segment<A>, A>,
+        places: Range<usize>,
         size: Size,
         results: &[bool; 64],
         workers: u32,
@@ -92,13 +117,19 @@ impl<A: Allocator + Copy> SegmentJob<A> {
         ensures size { result.size ≡ size }
         ensures results { result.results ≡ results.now }
         ensures segments { result.segments.items ≡ segments.items }
+        ensures running { running result ≡ take (places.end - places.start) (drop places.start segments.items) }
         ensures some { 1 ≤ result.windows }
     {
-        let width = width_for(segments.len(), workers);
-        let windows = windows_of(segments.len(), width);
+        let first = places.start;
+        let count = places.end.saturating_sub(first);
+        let length = part_of(segments.as_slice(), first, count).len();
+        let width = width_for(length, workers);
+        let windows = windows_of(length, width);
         SegmentJob {
             alloc,
             segments,
+            first,
+            count,
             width,
             windows,
             results: *results,
@@ -147,6 +178,7 @@ impl<A: Allocator + Copy + Send> TileJob for SegmentJob<A> {
     ghost use Rattle.binner.specs.Compiling.{told};
     ghost use Rattle.binner.specs.Segments.{cut_items};
     ghost use Rattle.segmentrun.specs.Windows.{window_of, IsCompiled};
+    ghost use Rattle.segmentrun.specs.Running.{running};
 
     ghost tile_count = { λ job. job.windows };
 
@@ -162,7 +194,7 @@ impl<A: Allocator + Copy + Send> TileJob for SegmentJob<A> {
 
     ghost gives = { λ job window done. (done.number ≡ window.number)
         × IfSome done.compiled (IsCompiled job.size
-        (cut_items (told job.results) (window_of job.width window.number job.segments.items))) };
+        (cut_items (told job.results) (window_of job.width window.number (running job)))) };
 
     fn tiles(&self) -> u32 {
         self.windows
@@ -192,8 +224,8 @@ impl<A: Allocator + Copy + Send> TileJob for SegmentJob<A> {
 
     fn run(&self, window: OpenWindow) -> DoneWindow<A> {
         let OpenWindow { number } = window;
-        let segments = of_window(self.segments.as_slice(), self.width, number);
-        let compiled = compile_anew(self.alloc, segments, self.size, &self.results);
+        let segments = of_window(self.running(), self.width, number);
+        let compiled = compile_window(self.alloc, segments, self.size, &self.results, None);
         DoneWindow {
             number,
             compiled: compiled.ok(),

@@ -10,6 +10,5 @@ mod compiling;
 mod crewing;
 mod job;
 
-pub use compiling::compile_alone;
-pub use crewing::{SegmentCrew, compile_by_crew};
+pub use crewing::{Lists, SegmentCrew, compile_alone, compile_by_crew};
 pub use job::{DoneWindow, OpenWindow, SegmentJob};

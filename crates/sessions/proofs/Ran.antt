@@ -5,7 +5,8 @@ use Rattle.gfxspec.specs.declared.error.GfxError.{GfxError}
 use Rattle.gfxspec.specs.Commands.{Command}
 use Rattle.gfxspec.specs.Recorded.{queries_open}
 use Rattle.gfxspec.specs.declared.error.GfxError.TheVariants.{OutOfMemory}
-use Rattle.gfxspec.specs.Refusals.{first_row, flush_rows, AreAccepted}
+use Rattle.gfxspec.specs.Refusals.{first_row, flush_rows}
+use Rattle.gfxspec.specs.Accepted.{AreAccepted}
 use Rattle.immediate.specs.Held.{Held, Executed, Ran, Stays, Runs, Enqueues}
 use Rattle.immediate.proofs.Waiting.{executed_behind}
 use Rattle.scenetext.specs.Scene.{Execute}

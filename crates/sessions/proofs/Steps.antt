@@ -11,8 +11,8 @@ use Rattle.meaning.proofs.Contexts.{stands_new}
 use Rattle.scenetext.specs.Seen.{verb_value}
 use Rattle.scenetext.specs.Scene.{Actor, Immediate, Deferred, Verb, Flush, Execute, Query, Pixel, Line}
 use Rattle.scenetext.specs.Spelling.{is_immediate_actor, may_take, HasList, IsLine, AreLines}
-use Rattle.recorders.specs.Recording.{recording_of}
-use Rattle.recorders.specs.Apart.{a_line, line_at, listed, Cause}
+use Rattle.recorders.specs.Recording.{recording_of, listed}
+use Rattle.recorders.specs.Apart.{a_line, line_at, Cause}
 use Rattle.recorders.proofs.Recordings.{lists_counted}
 use Rattle.recorders.proofs.Growing.{listed_early}
 use Rattle.recorders.specs.Dealing.{taker_of}

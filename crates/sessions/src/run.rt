@@ -2,7 +2,7 @@
 
 ghost use Rattle.std.specs.Prelude.{◌≡◌, ◌<◌, []};
 ghost use Rattle.gfxspec.specs.Recorded.{queries_open};
-ghost use Rattle.gfxspec.specs.Refusals.{AreAccepted};
+ghost use Rattle.gfxspec.specs.Accepted.{AreAccepted};
 
 use answers::Answer;
 use cmdlist::CommandList;
@@ -79,7 +79,7 @@ impl<A: Allocator + Copy + Send> RecordsCalls for ImmediateContext<A> {
                 Answer::Counted { query, count }
             }
             Question::Pixel(x, y) => {
-                let value = self.target().pixel(x, y);
+                let value = self.stored_pixel(x, y);
                 Answer::Shown { x, y, value }
             }
         }

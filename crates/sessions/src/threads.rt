@@ -1,6 +1,6 @@
 //! A script, performed in threads as far as to what there is to write.
 
-ghost use Rattle.recorders.specs.Apart.{listed};
+ghost use Rattle.recorders.specs.Recording.{listed};
 ghost use Rattle.recorders.specs.Receiving.{AreNew};
 ghost use Rattle.sessions.specs.Playing.{MayPlay};
 ghost use Rattle.sessions.specs.Writing.{Writes};

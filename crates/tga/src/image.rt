@@ -57,7 +57,7 @@ fn put<W: Sink>(out: &mut W, piece: &[u8], taken: u64) -> Result<u64, TgaFault>
 }
 
 /// How many bytes are handed to the sink at once, at most.
-const PIECE: usize = 65_536;
+const PIECE: usize = 16_384;
 
 /// The bytes of an image on their way to a sink.
 #[derive(Drop)]
@@ -92,7 +92,7 @@ fn flush<W: Sink>(out: &mut W, pieces: &mut Pieces) -> Result<(), TgaFault>
 fn add<W: Sink>(out: &mut W, pieces: &mut Pieces, bytes: &[u8]) -> Result<(), TgaFault>
     requires failures { W.failures out.old < 2 ^ 63 }
     requires fits { pieces.old.taken + length pieces.old.waiting.items < 2 ^ 64 }
-    requires short { length bytes.now ≤ 65536 }
+    requires short { length bytes.now ≤ 16384 }
     ensures all { W.tells out.old → OnOk result (W.written out.new ++ pieces.new.waiting.items
         ≡ (W.written out.old ++ pieces.old.waiting.items) ++ bytes.now) }
     ensures more { OnOk result (pieces.new.taken + length pieces.new.waiting.items

@@ -20,10 +20,12 @@ fn store_span(row: &mut [[u8; 4]; ROW], at: usize, colors: [u32; 8])
         → slice_index_or row.new (at + j) [] ≡ kept_color (to_le_bytes w32 (slice_index colors j)) }
     ensures before { (x : ℕ) → x < at → slice_index_or row.new x [] ≡ slice_index_or row.old x [] }
 {
+    let mut span = [[0; 4]; 8];
     for j in 0..8usize {
         let [red, green, blue, alpha] = colors[j].to_le_bytes();
-        row[at + j] = [blue, green, red, alpha];
+        span[j] = [blue, green, red, alpha];
     }
+    row[at..at + 8].copy_from_slice(&span);
 }
 
 /// Stores row y of a target, as the image keeps it. What follows the target's last pixel is of no use.

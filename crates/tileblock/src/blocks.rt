@@ -131,6 +131,8 @@ impl<A: Allocator> TileBlock<A> {
     ghost use Rattle.tileblock.specs.SpanStored.{SpanStored, lane_pixel};
 
     /// A tile of a new target.
+    // Apart: a block is built on the stack, and who makes a target should not keep room for it.
+    #[inline(never)]
     pub(crate) fn new(alloc: A, rect: PixelRect) -> Result<TileBlock<A>, AllocError>
         requires { IsInTile rect }
         ensures rect { IfOk result (λ b. b.rect ≡ rect) }

@@ -7,6 +7,7 @@
 ghost use Rattle.std.specs.Prelude.{◌≡◌, ◌<◌, ◌≤◌, ◌^◌, IfOk};
 ghost use Rattle.std.specs.Process.{exit_status};
 ghost use Rattle.commandline.specs.Report.{reported};
+ghost use Rattle.sessions.specs.Writing.{course, Answered, HasCause};
 
 mod descriptors;
 
@@ -86,6 +87,10 @@ fn run<R: AllocGlobal + Threads + Wait + Sync, S: Source, I: Sink, L: Sink>(
     requires script { S.failures script.old < 2 ^ 63 }
     requires image { I.failures image.old < 2 ^ 63 }
     requires lines { L.failures lines.old < 2 ^ 63 }
+    ensures answer { S.tells script.old → I.tells image.old → L.tells lines.old → Answered (S.rest script.old) result
+        (course L.written L.failures lines.old lines.new) (course I.written I.failures image.old image.new) }
+    ensures cause { HasCause result (S.failures script.old) (S.failures script.new)
+        (course L.written L.failures lines.old lines.new) (course I.written I.failures image.old image.new) }
 {
     sessions::session(rt, rt.alloc(), script, image, lines, workers, &NoGate)
 }

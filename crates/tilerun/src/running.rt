@@ -1,15 +1,15 @@
 //! The tiles of a target go to a board, and come back.
 
-ghost use Rattle.std.specs.Prelude.{◌≡◌, ◌<◌, ◌≤◌, ℕ, length, true, false};
+ghost use Rattle.std.specs.Prelude.{◌≡◌, ◌<◌, ◌≤◌, ℕ, length, IfOk, IfErr, OnOk, OnErr};
 ghost use Rattle.std.specs.List.{Contains};
-ghost use denote.Param.Send.{IsSync};
 ghost use mathlib.Core.Option.{some};
 ghost use lib.ListN.{get_elem?};
+ghost use Rattle.gfxspec.specs.declared.error.GfxError.TheVariants.{OutOfMemory};
 ghost use Rattle.gfxspec.specs.declared.pixel.Pixel.{Pixel};
 ghost use Rattle.gfxspec.specs.Tiles.{tile_rect};
 ghost use Rattle.tileblock.specs.Surface.{IsWhole, pixel_of};
 ghost use Rattle.board.specs.declared.view.Hand.TheVariants.{Empty};
-ghost use Rattle.board.specs.Known.{IsSeatOf, IsReady, AreNew};
+ghost use Rattle.board.specs.Known.{IsSeatOf, IsReady};
 ghost use Rattle.board.specs.Views.{handed};
 ghost use Rattle.tilerun.specs.Touched.{AreTiles, ShowsBlocks};
 ghost use Rattle.tilerun.specs.Drawn.{IsDrawn, AreCounts};
@@ -18,6 +18,7 @@ ghost use Rattle.tilerun.specs.Moving.{AreOut, AreBack, IsOut, MayComeBack, Have
 use crate::block_job::BlockJob;
 use arrayvec::ArrayVec;
 use board::{Board, Finished, Seat};
+use gfxspec::GfxError;
 use std::alloc::Allocator;
 use std::sync::Wait;
 use std::thread::Threads;
@@ -105,85 +106,112 @@ fn finish<'a, A: Allocator, J: BlockJob<Block = TileBlock<A>>>(
     counts_of(&finished, job.issues())
 }
 
-/// Runs a job over its tiles of a target, in the order of their places, on the caller's thread, with a new board in order
-/// and its seat. It waits for nobody, takes no memory, and gives the count of each issue.
-pub fn run_alone<'a, A: Allocator, J: BlockJob<Block = TileBlock<A>>>(
-    board: Board<'a, J, A>,
-    seat: Seat<J>,
+/// A board on which all tiles of a job stand, claimed by number or in order, and its seat. Refused with OutOfMemory, and then no
+/// tile was taken.
+fn begin<'a, A: Allocator, J: BlockJob<Block = TileBlock<A>>>(
+    alloc: &'a A,
+    named: bool,
     target: &mut Target<A>,
     job: &J,
-) -> ArrayVec<u64, 64>
+) -> Result<(Board<'a, J, A>, Seat<J>), GfxError>
     requires shown { ShowsBlocks J.shown }
-    requires new { AreNew J.tile_count J.issue_count job.now false board seat }
     requires target { IsWhole target.old × (J.target_size job.now ≡ target.old.size) }
-    ensures drawn { IsDrawn (J.drawn job.now) (J.touched job.now) target.old target.new }
-    ensures counts { AreCounts (J.counted job.now) (J.issue_count job.now) (J.touched job.now) (pixel_of target.old)
-        result.items }
+    ensures own { IfOk result (λ r. IsSeatOf r.0 r.1 × (job.now ≡ r.0.job) × (r.0.named ≡ named)) }
+    ensures ready { IfOk result (λ r. IsReady J.tile_count r.0 r.1 × (r.1.view.weight ≡ 16)) }
+    ensures out { IfOk result (λ r. AreOut J.tile_number J.open_block (J.touched job.now) target.old target.new r.1.view.placed) }
+    ensures tiles { IfOk result (λ r. AreTiles (J.target_size job.now) (J.touched job.now)) }
+    ensures same { OnErr result (target.new ≡ target.old) }
+    ensures memory { IfErr result (λ e. e ≡ OutOfMemory) }
 {
-    let mut seat = seat;
+    let (board, mut seat) = if named {
+        Board::new_named(alloc, job)?
+    } else {
+        Board::new(alloc, job)?
+    };
     place_all(&board, &mut seat, target, job);
-    let seat = drain_alone(&board, seat, job);
-    finish(board, seat, target, job)
+    Ok((board, seat))
 }
 
-/// The same with as many threads beside the caller, over a new board by number and its seat.
-pub fn run_with_workers<
-    'a,
+/// Runs a job over its tiles of a target, in the order of their places, on the caller's thread, and gives the count of each
+/// issue. It waits for nobody. Refused with OutOfMemory, before any tile is taken. The job comes back as it was.
+pub fn run_alone<A: Allocator, J: BlockJob<Block = TileBlock<A>>>(
+    alloc: &A,
+    target: &mut Target<A>,
+    job: J,
+) -> (Result<ArrayVec<u64, 64>, GfxError>, J)
+    requires shown { ShowsBlocks J.shown }
+    requires target { IsWhole target.old × (J.target_size job ≡ target.old.size) }
+    ensures drawn { OnOk result.0 (IsDrawn (J.drawn job) (J.touched job) target.old target.new) }
+    ensures counts { IfOk result.0 (λ counts. AreCounts (J.counted job) (J.issue_count job) (J.touched job) (pixel_of target.old) counts.items) }
+    ensures same { OnErr result.0 (target.new ≡ target.old) }
+    ensures memory { IfErr result.0 (λ e. e ≡ OutOfMemory) }
+    ensures job { result.1 ≡ job }
+{
+    match begin(alloc, false, target, &job) {
+        Ok((board, seat)) => {
+            let seat = drain_alone(&board, seat, &job);
+            let counts = finish(board, seat, target, &job);
+            (Ok(counts), job)
+        }
+        Err(refusal) => (Err(refusal), job),
+    }
+}
+
+/// `run_alone` with as many threads beside the caller, which start for it.
+pub fn run_in_threads<
     A: Allocator + Sync,
     J: BlockJob<Block = TileBlock<A>> + Sync,
     G: Gate + Sync,
     R: Threads + Sync,
 >(
     rt: &R,
-    board: Board<'a, J, A>,
-    seat: Seat<J>,
+    alloc: &A,
     target: &mut Target<A>,
-    job: &J,
+    job: J,
     workers: u32,
     gate: &G,
-) -> ArrayVec<u64, 64>
+) -> (Result<ArrayVec<u64, 64>, GfxError>, J)
     requires shown { ShowsBlocks J.shown }
-    requires new { AreNew J.tile_count J.issue_count job.now true board seat }
-    requires target { IsWhole target.old × (J.target_size job.now ≡ target.old.size) }
+    requires target { IsWhole target.old × (J.target_size job ≡ target.old.size) }
     requires workers { workers ≤ 15 }
-    ensures drawn { IsDrawn (J.drawn job.now) (J.touched job.now) target.old target.new }
-    ensures counts { AreCounts (J.counted job.now) (J.issue_count job.now) (J.touched job.now) (pixel_of target.old)
-        result.items }
+    ensures drawn { OnOk result.0 (IsDrawn (J.drawn job) (J.touched job) target.old target.new) }
+    ensures counts { IfOk result.0 (λ counts. AreCounts (J.counted job) (J.issue_count job) (J.touched job) (pixel_of target.old) counts.items) }
+    ensures same { OnErr result.0 (target.new ≡ target.old) }
+    ensures memory { IfErr result.0 (λ e. e ≡ OutOfMemory) }
+    ensures job { result.1 ≡ job }
 {
-    let mut seat = seat;
-    place_all(&board, &mut seat, target, job);
-    let seat = run_all(rt, &board, seat, job, workers, gate);
-    finish(board, seat, target, job)
+    match begin(alloc, true, target, &job) {
+        Ok((board, seat)) => {
+            let seat = run_all(rt, &board, seat, &job, workers, gate);
+            let counts = finish(board, seat, target, &job);
+            (Ok(counts), job)
+        }
+        Err(refusal) => (Err(refusal), job),
+    }
 }
 
-/// The same by the threads of a crew beside the caller, over a new board in order and its seat. It may wait for one that has a
-/// tile in its hands. The job comes back as it was.
-pub fn run_with_crew<
-    'a,
-    A: Allocator + Sync,
-    J: BlockJob<Block = TileBlock<A>> + Drop + Send + Sync,
-    G: Gate,
-    R: Wait,
->(
+/// `run_alone` by the threads of a crew beside the caller. It may wait for one that has a tile in its hands.
+pub fn run_with_crew<'a, A: Allocator, J: BlockJob<Block = TileBlock<A>> + Drop, G: Gate, R: Wait>(
     rt: &R,
     crew: &Crew<'a, J, A>,
-    board: Board<'a, J, A>,
-    seat: Seat<J>,
     target: &mut Target<A>,
     job: J,
     gate: &G,
-) -> (ArrayVec<u64, 64>, J)
+) -> (Result<ArrayVec<u64, 64>, GfxError>, J)
     requires shown { ShowsBlocks J.shown }
-    requires new { AreNew J.tile_count J.issue_count job false board seat }
     requires target { IsWhole target.old × (J.target_size job ≡ target.old.size) }
-    ensures drawn { IsDrawn (J.drawn job) (J.touched job) target.old target.new }
-    ensures counts { AreCounts (J.counted job) (J.issue_count job) (J.touched job) (pixel_of target.old)
-        result.0.items }
+    ensures drawn { OnOk result.0 (IsDrawn (J.drawn job) (J.touched job) target.old target.new) }
+    ensures counts { IfOk result.0 (λ counts. AreCounts (J.counted job) (J.issue_count job) (J.touched job) (pixel_of target.old) counts.items) }
+    ensures same { OnErr result.0 (target.new ≡ target.old) }
+    ensures memory { IfErr result.0 (λ e. e ≡ OutOfMemory) }
     ensures job { result.1 ≡ job }
 {
-    let mut seat = seat;
-    place_all(&board, &mut seat, target, &job);
-    let (board, seat, job) = run_by_crew(rt, crew, board, seat, job, gate);
-    let counts = finish(board, seat, target, &job);
-    (counts, job)
+    match begin(crew.allocator(), false, target, &job) {
+        Ok((board, seat)) => {
+            let (board, seat, job) = run_by_crew(rt, crew, board, seat, job, gate);
+            let counts = finish(board, seat, target, &job);
+            (Ok(counts), job)
+        }
+        Err(refusal) => (Err(refusal), job),
+    }
 }

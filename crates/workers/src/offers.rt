@@ -2,7 +2,7 @@
 //!
 //! An offer has all that its thread needs: a seat of the shared board, and a pass to the queue by which the seat comes back.
 
-ghost use Rattle.std.specs.Prelude.{◌≡◌, Some, None, IfSome, IfNone};
+ghost use Rattle.std.specs.Prelude.{◌≡◌, Some, None, true, false, is_some, IfSome, IfNone};
 ghost use Rattle.std.specs.Arc.{arc_value};
 ghost use Rattle.crossbeam_queue.specs.Passes.{view, IsPassOf};
 ghost use Rattle.board.specs.declared.view.Hand.TheVariants.{Empty};
@@ -44,6 +44,7 @@ pub(crate) struct Offer<'a, J: TileJob + Drop, A: Allocator> {
 }
 
 impl<'a, J: TileJob + Drop, A: Allocator> Model for Offer<'a, J, A> {
+    ghost use Rattle.std.specs.Prelude.{false};
     ghost use Rattle.std.specs.Arc.{arc_value};
     ghost use Rattle.crossbeam_queue.specs.Passes.{view as knows, IsPassOf};
     ghost use Rattle.workers.specs.Crewing.{IsTied, Knows};
@@ -52,7 +53,7 @@ impl<'a, J: TileJob + Drop, A: Allocator> Model for Offer<'a, J, A> {
 
     ghost view = { λ _. tt };
 
-    ghost invariant = { λ o. IsTied J.tile_count (arc_value o.run).board (arc_value o.run).job o.part.seat
+    ghost invariant = { λ o. IsTied false J.tile_count (arc_value o.run).board (arc_value o.run).job o.part.seat
         × IsPassOf (arc_value o.run).back o.pass × Knows (arc_value o.run).board (knows o.pass) };
 }
 
@@ -75,6 +76,7 @@ fn push_ticket<'a, J: TileJob + Drop, A: Allocator, R: Wait>(
     ticket: Ticket<J>,
 ) -> bool
     requires own { IfSome ticket.seat (λ s. IsSeatOf run.now.board s × (s.view.hand ≡ Empty)) }
+    requires whole { is_some ticket.seat ≡ true }
     requires pass { IsPassOf run.now.back pass.old × Knows run.now.board (view pass.old) }
 {
     match run.back.push_as::<Returns, R>(rt, pass, ticket) {
@@ -115,7 +117,7 @@ fn make_offer<'a, J: TileJob + Drop, A: Allocator>(
     pass: &mut Mine<J>,
     part: Part<J>,
 ) -> Offer<'a, J, A>
-    requires tied { IsTied J.tile_count (arc_value run).board (arc_value run).job part.seat }
+    requires tied { IsTied false J.tile_count (arc_value run).board (arc_value run).job part.seat }
     requires pass { IsPassOf (arc_value run).back pass.old × Knows (arc_value run).board (view pass.old) }
     ensures pass { IsPassOf (arc_value run.entry).back pass.new × (view pass.new ≡ view pass.old) }
 {
@@ -137,7 +139,7 @@ fn put_offer<'a, J: TileJob + Drop, A: Allocator, R: Wait>(
     pass: &mut Mine<J>,
     part: Part<J>,
 ) -> bool
-    requires tied { IfSome run (λ r. IsTied J.tile_count (arc_value r).board (arc_value r).job part.seat) }
+    requires tied { IfSome run (λ r. IsTied false J.tile_count (arc_value r).board (arc_value r).job part.seat) }
     requires pass { IfSome run (λ r. IsPassOf (arc_value r).back pass.old × Knows (arc_value r).board (view pass.old)) }
     ensures pass { IfSome run.entry (λ r. IsPassOf (arc_value r).back pass.new) × (view pass.new ≡ view pass.old) }
     ensures none { IfNone run.entry (pass.new ≡ pass.old) }
@@ -157,9 +159,9 @@ pub(crate) fn offer_others<'a, J: TileJob + Drop, A: Allocator, R: Wait>(
     pass: &mut Mine<J>,
     part: Part<J>,
 ) -> Seat<J>
-    requires tied { IsTied J.tile_count (arc_value run.now).board (arc_value run.now).job part.seat }
+    requires tied { IsTied false J.tile_count (arc_value run.now).board (arc_value run.now).job part.seat }
     requires pass { IsPassOf (arc_value run.now).back pass.old × Knows (arc_value run.now).board (view pass.old) }
-    ensures tied { IsTied J.tile_count (arc_value run.now).board (arc_value run.now).job result }
+    ensures tied { IsTied false J.tile_count (arc_value run.now).board (arc_value run.now).job result }
     ensures same { result.view.placed ≡ part.seat.view.placed }
     ensures pass { IsPassOf (arc_value run.now).back pass.new × (view pass.new ≡ view pass.old) }
 {

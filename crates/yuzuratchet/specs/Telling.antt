@@ -23,6 +23,7 @@ misfit_number misfits.Null = 5
 misfit_number misfits.Empty = 6
 misfit_number misfits.Large = 7
 misfit_number misfits.Overlap = 8
+misfit_number misfits.Misaligned = 9
 
 -- ---- reports
 

@@ -2,14 +2,16 @@
 
 ghost use Rattle.std.specs.Prelude.{◌≡◌, ◌+◌};
 ghost use Rattle.std.specs.List.{list_any};
-ghost use Rattle.yuzuratchet.specs.Areas.{is_null, is_empty, is_large, overlap, any_overlap, misfit_of};
+ghost use Rattle.yuzuratchet.specs.Areas.{is_null, is_empty, is_large, overlap, any_overlap, is_misaligned, misfit_of};
 
-/// An area of memory, by its address and its size in bytes.
+/// An area of memory, by its address and its size in bytes, and of how many bytes its address has to be a multiple; 0 is of
+/// any.
 #[repr(C)]
 #[derive(Clone, Copy)]
 pub struct Area {
     pub at: u64,
     pub size: u64,
+    pub align: u64,
 }
 
 /// Why areas don't fit, as the header numbers it.
@@ -20,6 +22,7 @@ pub(crate) enum Misfit {
     Empty = 6,
     Large = 7,
     Overlap = 8,
+    Misaligned = 9,
 }
 
 /// Whether its pointer is null.
@@ -97,6 +100,20 @@ fn any_large(areas: &[Area]) -> bool
     areas.iter().any(|area| is_large(area))
 }
 
+/// Whether its address is no multiple of what it has to be one of.
+fn is_misaligned(area: &Area) -> bool
+    ensures { result ≡ is_misaligned area.now }
+{
+    area.align > 0 && area.at % area.align > 0
+}
+
+/// Whether one of the areas is misaligned.
+fn any_misaligned(areas: &[Area]) -> bool
+    ensures { result ≡ list_any is_misaligned areas.now }
+{
+    areas.iter().any(|area| is_misaligned(area))
+}
+
 /// Why areas don't fit: the first reason that holds of any.
 pub(crate) fn misfit_of(areas: &[Area]) -> Misfit
     ensures { result ≡ misfit_of areas.now }
@@ -112,6 +129,9 @@ pub(crate) fn misfit_of(areas: &[Area]) -> Misfit
     }
     if any_overlap(areas) {
         return Misfit::Overlap;
+    }
+    if any_misaligned(areas) {
+        return Misfit::Misaligned;
     }
     Misfit::None
 }

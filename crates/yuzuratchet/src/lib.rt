@@ -21,9 +21,9 @@ use std::alloc::Global;
 /// The version: 10,000 times the first number, 100 times the second and the third.
 #[unsafe(no_mangle)]
 pub extern "C" fn yuzuratchet_version() -> u32
-    ensures { result ≡ 300 }
+    ensures { result ≡ 400 }
 {
-    300
+    400
 }
 
 /// Why the areas of a call don't fit, by the number of the status that says so, or 0 where they fit.

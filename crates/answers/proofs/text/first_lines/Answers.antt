@@ -1,5 +1,5 @@
 use Rattle.std.proofs.Common.{◌∙◌, ap, take}
-use Rattle.answers.specs.Lines.{lines_end}
+use Rattle.answers.specs.Ends.{lines_end}
 use Rattle.answers.proofs.Cutting.{first_answers}
 use Rattle.answers.proofs.text.first_lines.Goals as goal
 

@@ -1,5 +1,5 @@
 use Rattle.std.proofs.Common.{◌≡◌, ◌+◌, drop}
-use Rattle.answers.specs.Lines.{lines_end}
+use Rattle.answers.specs.Ends.{lines_end}
 use Rattle.answers.proofs.text.lines_end.Given as goal
 
 abbrev pub invariant-loop-at : goal.invariant-loop-at

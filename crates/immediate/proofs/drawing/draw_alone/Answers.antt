@@ -1,17 +1,7 @@
-use Rattle.tileblock.specs.Surface.{pixel_of}
-use Rattle.tileprog.proofs.Several.{alone_drawn, alone_counts}
-use Rattle.immediate.proofs.Ran.{programs_ran}
+use Rattle.immediate.proofs.Ran.{drawn_over}
 use Rattle.immediate.proofs.drawing.draw_alone.Goals as goal
 
-pub returns-in-Some-clause-ok : goal.returns-in-Some-clause-ok
-returns-in-Some-clause-ok g c = c.in-Some.ensures.idle c.args.target.now c.requires.whole
-
-pub returns-in-Ok-clause-ok : goal.returns-in-Ok-clause-ok
-returns-in-Ok-clause-ok g c =
-    let old = c.args.target.now in
-    let new = c.run_alone-counts.new.target in
-    let counts = c.run_alone-counts.result.items in
-    let job = c.new-job.ensures in
-    programs_ran c.args.program old new counts c.idle_counts.ensures.sound
-    (alone_drawn c.new-job.result c.args.program old new job.lists job.tiles c.run_alone-counts.ensures.drawn)
-    (alone_counts c.new-job.result c.args.program (pixel_of old) counts job.first job.tiles c.run_alone-counts.ensures.counts)
+pub returns : goal.returns
+returns g c =
+    let ran = c.run_alone-counts in
+    drawn_over c.args.program c.args.target.now ran.new.target ran.result.0 ran.result.1 c.into_compiled.result ran.ensures.drawn ran.ensures.counts ran.ensures.same ran.ensures.memory ran.ensures.job c.into_compiled.ensures

@@ -6,5 +6,5 @@ use Rattle.immediate.proofs.pending.run_pending.Goals as goal
 
 pub returns-clause-ok : goal.returns-clause-ok
 returns-clause-ok g c =
-    pending_ran c.args.output.now c.run_with_workers.new.self c.args.pending.now c.in_ok-begun.begun
-    (subst (λ (list : List Command). HasRun list c.args.output.now c.run_with_workers.new.self) c.commands.ensures.commands c.in_ok-run_with_workers.ensures.ok) c.in_ok-begun.ensures.next
+    pending_ran c.args.output.now c.run.new.self c.args.pending.now c.in_ok-next.next
+    (subst (λ (list : List Command). HasRun list c.args.output.now c.run.new.self) c.commands.ensures.commands c.in_ok-run.ensures.ok) c.in_ok-next.ensures.next

@@ -1,7 +1,7 @@
 use Rattle.std.proofs.Common.{◌∙◌, ap, sym, subst, []}
 use Rattle.scenetext.specs.SeenScene.{scene_value}
 use Rattle.scenetext.specs.Spelling.{AreLines}
-use Rattle.recorders.specs.Apart.{listed}
+use Rattle.recorders.specs.Recording.{listed}
 use Rattle.recorders.specs.Asking.{Asked}
 use Rattle.recorders.specs.Ending.{AreRecorded}
 use Rattle.sessions.specs.Playing.{HasPlayed, missing_in}

@@ -9,17 +9,17 @@ use Rattle.tilerun.proofs.running.run_with_crew.Goals as goal
 
 pub finish-counts-requires-clause-placed : goal.finish-counts-requires-clause-placed
 finish-counts-requires-clause-placed g c κs within = let t = g.J.TileJob in let b = g.J.BlockJob in let tiles = b.touched c.args.job in let placed = c.run_by_crew-board.result.1.view.placed in
-    subst (λ j. MayComeBack t.tile_number b.open_block (b.touched j) c.place_all.new.target placed) (sym c.run_by_crew-board.ensures.same.1)
-    (may_come_back t.tile_number b.open_block tiles c.args.target.now c.place_all.new.target placed (still_out t.tile_number b.open_block tiles c.args.target.now c.place_all.new.target c.place_all.new.seat.view.placed placed c.run_by_crew-board.ensures.same.2 c.place_all.ensures.out)
-    (subst (λ (z : Size). AreTiles z tiles) c.requires.target.1 c.place_all.ensures.tiles) c.requires.target.0)
+    subst (λ j. MayComeBack t.tile_number b.open_block (b.touched j) c.begin.new.target placed) (sym c.run_by_crew-board.ensures.same.1)
+    (may_come_back t.tile_number b.open_block tiles c.args.target.now c.begin.new.target placed (still_out t.tile_number b.open_block tiles c.args.target.now c.begin.new.target c.in-Ok.seat.view.placed placed c.run_by_crew-board.ensures.same.2 c.in-Ok.ensures.out)
+    (subst (λ (z : Size). AreTiles z tiles) c.requires.target.1 c.in-Ok.ensures.tiles) c.requires.target.0)
 
-pub returns-clause-drawn : goal.returns-clause-drawn
-returns-clause-drawn g c = let t = g.J.TileJob in let b = g.J.BlockJob in let tiles = b.touched c.args.job in let placed = c.run_by_crew-board.result.1.view.placed in
-    is_drawn t.tile_number b.open_block tiles c.args.target.now c.place_all.new.target placed (still_out t.tile_number b.open_block tiles c.args.target.now c.place_all.new.target c.place_all.new.seat.view.placed placed c.run_by_crew-board.ensures.same.2 c.place_all.ensures.out)
+pub returns-in-Ok-clause-drawn : goal.returns-in-Ok-clause-drawn
+returns-in-Ok-clause-drawn g c = let t = g.J.TileJob in let b = g.J.BlockJob in let tiles = b.touched c.args.job in let placed = c.run_by_crew-board.result.1.view.placed in
+    is_drawn t.tile_number b.open_block tiles c.args.target.now c.begin.new.target placed (still_out t.tile_number b.open_block tiles c.args.target.now c.begin.new.target c.in-Ok.seat.view.placed placed c.run_by_crew-board.ensures.same.2 c.in-Ok.ensures.out)
     (b.drawn c.args.job) c.finish-counts.new.target c.requires.target.0
-    (subst (λ j. HaveRun b.open_block (b.drawn j) (b.touched j) c.place_all.new.target c.finish-counts.new.target placed) c.run_by_crew-board.ensures.same.1 c.finish-counts.ensures.run)
+    (subst (λ j. HaveRun b.open_block (b.drawn j) (b.touched j) c.begin.new.target c.finish-counts.new.target placed) c.run_by_crew-board.ensures.same.1 c.finish-counts.ensures.run)
 
-pub returns-clause-counts : goal.returns-clause-counts
-returns-clause-counts g c = let t = g.J.TileJob in let b = g.J.BlockJob in let tiles = b.touched c.args.job in let placed = c.run_by_crew-board.result.1.view.placed in
+pub returns-in-Ok-clause-counts : goal.returns-in-Ok-clause-counts
+returns-in-Ok-clause-counts g c = let t = g.J.TileJob in let b = g.J.BlockJob in let tiles = b.touched c.args.job in let placed = c.run_by_crew-board.result.1.view.placed in
     subst (λ j. AreCounts (b.counted j) (t.issue_count j) (b.touched j) (pixel_of c.args.target.now) c.finish-counts.result.items) c.run_by_crew-board.ensures.same.1
-    (c.finish-counts.ensures.counts (pixel_of c.args.target.now) (opens t.tile_number b.open_block tiles c.args.target.now c.place_all.new.target placed (still_out t.tile_number b.open_block tiles c.args.target.now c.place_all.new.target c.place_all.new.seat.view.placed placed c.run_by_crew-board.ensures.same.2 c.place_all.ensures.out)))
+    (c.finish-counts.ensures.counts (pixel_of c.args.target.now) (opens t.tile_number b.open_block tiles c.args.target.now c.begin.new.target placed (still_out t.tile_number b.open_block tiles c.args.target.now c.begin.new.target c.in-Ok.seat.view.placed placed c.run_by_crew-board.ensures.same.2 c.in-Ok.ensures.out)))

@@ -1,5 +1,5 @@
 use Rattle.std.proofs.Common.{◌∙◌, ◌<◌, ap, sym, subst, length}
-use Rattle.recorders.specs.Apart.{listed}
+use Rattle.recorders.specs.Recording.{listed}
 use Rattle.recorders.specs.Rows.{row}
 use Rattle.recorders.specs.Receiving.{Receipts, TakenAgrees}
 use Rattle.recorders.proofs.received.ReceivedListsListSourceCommandList.list.Goals as goal
