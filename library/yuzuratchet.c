@@ -1,7 +1,7 @@
 /*
  * What lies between C and the functions that are proved. A call's areas are examined as numbers, and only areas that
  * fit are handed on: the proved functions take each as a slice, so it must be there, apart from the others, and have 1
- * to 2^63 - 1 bytes.
+ * to 2^63 - 1 bytes; and a report lies where one of its type may.
  */
 #include "yuzuratchet.h"
 
@@ -11,6 +11,7 @@ _Static_assert(sizeof(size_t) == 8 && sizeof(void *) == 8, "sizes and addresses 
 struct area {
     uint64_t at;
     uint64_t size;
+    uint64_t align;
 };
 
 /* The proved functions, as crates/yuzuratchet exports them. */
@@ -19,12 +20,16 @@ void yuzuratchet_draw_fitting(const uint8_t *script, size_t script_size, uint8_t
                               uint8_t *image, size_t image_size, struct yuzuratchet_report *report);
 void yuzuratchet_sizes_fitting(const uint8_t *script, size_t script_size, struct yuzuratchet_report *report);
 
-static struct area area_of(const void *at, size_t size) { return (struct area){(uint64_t)(uintptr_t)at, size}; }
+static struct area area_of(const void *at, size_t size) { return (struct area){(uint64_t)(uintptr_t)at, size, 0}; }
+
+static struct area area_of_report(const struct yuzuratchet_report *report) {
+    return (struct area){(uint64_t)(uintptr_t)report, sizeof *report, _Alignof(struct yuzuratchet_report)};
+}
 
 uint32_t yuzuratchet_draw(const uint8_t *script, size_t script_size, uint8_t *lines, size_t lines_size, uint8_t *image,
                           size_t image_size, struct yuzuratchet_report *report) {
     const struct area areas[] = {area_of(script, script_size), area_of(lines, lines_size), area_of(image, image_size),
-                                 area_of(report, sizeof *report)};
+                                 area_of_report(report)};
     const uint32_t misfit = yuzuratchet_examine(areas, sizeof areas / sizeof *areas);
     if (misfit != YUZURATCHET_DONE) return misfit;
     yuzuratchet_draw_fitting(script, script_size, lines, lines_size, image, image_size, report);
@@ -32,7 +37,7 @@ uint32_t yuzuratchet_draw(const uint8_t *script, size_t script_size, uint8_t *li
 }
 
 uint32_t yuzuratchet_sizes(const uint8_t *script, size_t script_size, struct yuzuratchet_report *report) {
-    const struct area areas[] = {area_of(script, script_size), area_of(report, sizeof *report)};
+    const struct area areas[] = {area_of(script, script_size), area_of_report(report)};
     const uint32_t misfit = yuzuratchet_examine(areas, sizeof areas / sizeof *areas);
     if (misfit != YUZURATCHET_DONE) return misfit;
     yuzuratchet_sizes_fitting(script, script_size, report);

@@ -10,7 +10,8 @@
  * read or written. What else a call needs it takes from malloc, or from the functions that yuzuratchet_use_memory
  * names, and gives it back before it returns. Where memory is refused, the call says so and never ends the process.
  *
- * Threads. A call starts none and shares nothing with others: calls on different areas may run side by side.
+ * Threads. A call starts none and shares nothing with others: calls on different areas may run side by side. It takes
+ * less than 64 KB of its thread's stack.
  *
  * An area that doesn't fit is refused by its name, as enum yuzuratchet_status has them, before anything is read or
  * written.
@@ -31,7 +32,7 @@
 
 /* The version of this header. That of the library with which a program runs is told by yuzuratchet_version. */
 #define YUZURATCHET_VERSION_MAJOR 0
-#define YUZURATCHET_VERSION_MINOR 3
+#define YUZURATCHET_VERSION_MINOR 4
 #define YUZURATCHET_VERSION_PATCH 0
 #define YUZURATCHET_VERSION \
     (10000 * YUZURATCHET_VERSION_MAJOR + 100 * YUZURATCHET_VERSION_MINOR + YUZURATCHET_VERSION_PATCH)
@@ -127,7 +128,7 @@ struct yuzuratchet_memory {
  */
 void yuzuratchet_use_memory(const struct yuzuratchet_memory *memory);
 
-/* The version of the library that runs, spelled as YUZURATCHET_VERSION is: 300 is 0.3.0. */
+/* The version of the library that runs, spelled as YUZURATCHET_VERSION is: 400 is 0.4.0. */
 uint32_t yuzuratchet_version(void);
 
 #ifdef __cplusplus

@@ -1,7 +1,8 @@
 """What the tests share: the gallery, and a program to draw with.
 
-The built program is looked for as the package looks for it. Where there is none, tools/plain_device.py stands in, which
-gives the same answers slowly, so that every test runs on a fresh machine; the first lines of pytest say which it is.
+The built program is looked for as the package looks for it. Where there is none, or the checked one alone, which takes
+longer than starting it, tools/plain_device.py stands in, which gives the same answers slowly, so that every test runs
+on a fresh machine; the first lines of pytest say which it is.
 """
 
 from __future__ import annotations
@@ -13,22 +14,29 @@ import plain_device
 import pytest
 
 import yuzuratchet.program
+from yuzuratchet.cli import main
 from yuzuratchet.errors import ProgramMissing
-from yuzuratchet.program import Running, find_program
+from yuzuratchet.program import CHECKED, Running, find_program
 from yuzuratchet.suite import Expected, parse_expected
 
 TOP = Path(__file__).resolve().parents[2]
 GALLERY = TOP / "crates" / "gallery"
 DATA = GALLERY / "data"
 STAND_IN = TOP / "tools" / "plain_device.py"
+SCRIPTS = {
+    "asked.txt": "target 2 2\ni clearc 1 2 3 4\ni pixel 1 1\n",
+    "below/plain.txt": "target 3 2\n",
+    "refused.txt": "target 2 2\ni draw 3 0\n",
+}
 
 
 def built_program() -> Path | None:
     """The built program, or None."""
     try:
-        return find_program()
+        found = find_program()
     except ProgramMissing:
         return None
+    return None if found.name == CHECKED.name else found
 
 
 def pytest_report_header() -> str:
@@ -79,3 +87,14 @@ def expected() -> dict[str, Expected]:
 def gallery_names() -> list[str]:
     """The names of the gallery's scripts."""
     return (DATA / "index").read_text(encoding="ascii").split()
+
+
+@pytest.fixture
+def folder(tmp_path: Path, program: Path, capsys: pytest.CaptureFixture[str]) -> Path:
+    """A suite of three scripts, with what is stored."""
+    for name, text in SCRIPTS.items():
+        (tmp_path / name).parent.mkdir(exist_ok=True)
+        (tmp_path / name).write_text(text, encoding="ascii")
+    assert main(["suite", str(tmp_path), "--write", "--program", str(program)]) == 0
+    assert "3 scripts drawn, and stored in" in capsys.readouterr().out
+    return tmp_path

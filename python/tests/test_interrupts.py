@@ -100,7 +100,7 @@ def test_a_suite_ends_in_order(
     out, err = cut_short.communicate(timeout=10)
     took = time.monotonic() - begun
     assert cut_short.returncode == STATUSES[number] and "Traceback" not in err
-    assert took < 1.5, f"{took:.1f} seconds"  # (a second, and what a busy machine adds)
+    assert took < 5, f"{took:.1f} seconds"  # (a second, and what a busy machine adds)
     name = number.name
     assert f"0 of 2 scripts agree; cut short by {name}: 20 of 22 were not drawn\n" in out
     assert not list((folder / "temporary").iterdir())

@@ -246,13 +246,31 @@ def test_the_program_of_this_clone_comes_before_the_path(
     assert find_program() == built
 
 
+def test_the_checked_program_comes_last_and_that_of_a_release_first(
+    monkeypatch: pytest.MonkeyPatch, tmp_path: Path
+) -> None:
+    monkeypatch.delenv(VARIABLE, raising=False)
+    monkeypatch.setattr("yuzuratchet.program.repository", lambda: tmp_path / "clone")
+    monkeypatch.setattr("yuzuratchet.program.INSTALLED", tmp_path / "installed")
+    monkeypatch.setenv("PATH", str(tmp_path / "path"))
+    out = tmp_path / "clone" / "crates" / "tiledraw" / "out"
+    for folder in (out, tmp_path / "path", tmp_path / "installed"):
+        folder.mkdir(parents=True)
+    checked = shell_script(out / "tiledraw-checked", "exit 0")
+    assert find_program() == checked
+    for it in (tmp_path / "path" / "tiledraw", tmp_path / "installed" / "tiledraw"):
+        assert find_program() != it
+        shell_script(it, "exit 0")
+        assert find_program() == it
+
+
 def test_a_missing_program_tells_how_to_build_it(
     monkeypatch: pytest.MonkeyPatch, tmp_path: Path
 ) -> None:
     monkeypatch.delenv(VARIABLE, raising=False)
     monkeypatch.setattr("yuzuratchet.program.repository", lambda: None)
     monkeypatch.setenv("PATH", str(tmp_path))
-    with pytest.raises(ProgramMissing, match="rt all check"):
+    with pytest.raises(ProgramMissing, match="(?s)first_picture.py.*rt all check.*plain_device.py"):
         run("target 1 1\n", backend="program")
     with pytest.raises(ProgramMissing, match="there is no program /no/where"):
         find_program("/no/where")

@@ -17,23 +17,6 @@ from yuzuratchet.commands.common import check_writable
 from yuzuratchet.images import load
 from yuzuratchet.suite import Expected, Suite, expected_text, parse_expected
 
-SCRIPTS = {
-    "asked.txt": "target 2 2\ni clearc 1 2 3 4\ni pixel 1 1\n",
-    "below/plain.txt": "target 3 2\n",
-    "refused.txt": "target 2 2\ni draw 3 0\n",
-}
-
-
-@pytest.fixture
-def folder(tmp_path: Path, program: Path, capsys: pytest.CaptureFixture[str]) -> Path:
-    """A suite of three scripts, with what is stored."""
-    for name, text in SCRIPTS.items():
-        (tmp_path / name).parent.mkdir(exist_ok=True)
-        (tmp_path / name).write_text(text, encoding="ascii")
-    assert main(["suite", str(tmp_path), "--write", "--program", str(program)]) == 0
-    assert "3 scripts drawn, and stored in" in capsys.readouterr().out
-    return tmp_path
-
 
 def suite(folder: Path, program: Path, *words: str) -> int:
     return main(["suite", str(folder), "--program", str(program), *words])

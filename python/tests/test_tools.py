@@ -23,8 +23,10 @@ TOOLS = sorted(
     if os.access(path, os.X_OK)
 )
 MODULES = {
-    *("browser", "firefox", "mutated_scripts", "package_path", "page_features", "page_in_browser"),
-    *("random_scenes", "results"),
+    *("browser", "checked_build", "conformance_calls", "conformance_merger"),
+    *("conformance_raster", "conformance_scripts", "firefox", "mutated_scripts"),
+    *("package_path", "page_features", "page_in_browser", "random_scenes", "results"),
+    *("toolchain",),
 }
 
 

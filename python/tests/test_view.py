@@ -65,7 +65,7 @@ def test_the_page_is_made_the_same_twice(built: str) -> None:
 def test_each_source_stands_in_it(built: str) -> None:
     sources = {path.relative_to(TOP / "web").as_posix() for path in (TOP / "web").glob("*/*.js")}
     marks = set(re.findall(r"^// (\w+/\w+\.js)$", built, re.M))
-    assert marks == {name for name in sources if not name.startswith("tests/")}
+    assert marks == {name for name in sources if not name.startswith(("tests/", "package/"))}
     for name in marks:
         text = (TOP / "web" / name).read_text(encoding="utf-8")
         assert "</script" not in text

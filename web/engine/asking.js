@@ -3,7 +3,7 @@
 import { answersOf, pixelOf, refusalOf } from "./playing.js";
 import { bytesOf, joined } from "./script.js";
 
-/** @typedef {import("./device.js").Draw} Draw */
+/** @typedef {import("./module.js").Draw} Draw */
 /** @typedef {import("./script.js").Script} Script */
 /** @typedef {import("./session.js").Item} Item */
 

@@ -9,7 +9,7 @@ import { ANY_DEPTH, Asking, NO_COLOUR, NO_TESTS } from "./asking.js";
 import { triangles } from "./assembly.js";
 import { performedBy } from "./performed.js";
 
-/** @typedef {import("./device.js").Draw} Draw */
+/** @typedef {import("./module.js").Draw} Draw */
 /** @typedef {import("./language.js").Tables} Tables */
 /** @typedef {import("./playing.js").PixelValue} PixelValue */
 /** @typedef {import("./script.js").Script} Script */

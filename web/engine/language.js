@@ -31,7 +31,7 @@
  * @property {Record<string, {kind: string, when: string, advice: string}>} messages
  * @property {Record<string, string>} defaults the numbers of states as they are at first
  * @property {Record<string, number>} limits
- * @property {import("./device.js").Layout} library how the device tells what it wrote
+ * @property {import("./module.js").Layout} library how the device tells what it wrote
  */
 
 /** @typedef {{text: string, start: number, end: number, kind: string}} Token */

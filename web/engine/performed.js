@@ -4,7 +4,7 @@ import { answersOf, pixelOf } from "./playing.js";
 import { Script, bytesOf, joined } from "./script.js";
 import { Session } from "./session.js";
 
-/** @typedef {import("./device.js").Draw} Draw */
+/** @typedef {import("./module.js").Draw} Draw */
 /** @typedef {import("./playing.js").PixelValue} PixelValue */
 /** @typedef {import("./session.js").Item} Item */
 /** @typedef {import("./session.js").Performed} Performed */

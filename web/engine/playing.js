@@ -1,8 +1,8 @@
 // Plays scripts, and reads what the device answers.
 
-import { bytesOf, joined, textOf } from "./script.js";
+import { textOf } from "./script.js";
 
-/** @typedef {import("./device.js").Draw} Draw */
+/** @typedef {import("./module.js").Draw} Draw */
 /** @typedef {import("./script.js").Script} Script */
 /** @typedef {{line: number, number: number}} Refused */
 /** @typedef {{x: number, y: number, colour: number[], depth: number, stencil: number}} PixelValue */
@@ -65,30 +65,4 @@ export function play(draw, script, last) {
         shown = Math.min(shown, again.line) - 1;
     }
     return { ...told, image: new Uint8Array(0), shown: 0 };
-}
-
-/**
- * The lines that ask for each pixel of an area, row by row.
- *
- * @param {Area} area
- */
-function questionsFor({ left, top, width, height }) {
-    const asked = [];
-    for (let y = top; y < top + height; y++)
-        for (let x = left; x < left + width; x++) asked.push(`i pixel ${x} ${y}\n`);
-    return asked;
-}
-
-/**
- * What the pixels of an area hold behind a line.
- *
- * @param {Draw} draw
- * @param {Script} script
- * @param {number} last
- * @param {Area} area
- */
-export function pixelsBehind(draw, script, last, area) {
-    const asked = questionsFor(area);
-    const { lines } = draw(joined([script.closedAt(last), bytesOf(asked.join(""))]));
-    return answersOf(lines).slice(-asked.length).map(pixelOf);
 }

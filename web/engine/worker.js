@@ -1,19 +1,23 @@
-// The worker: holds the device, and answers the page's jobs one after the other.
+// The worker: holds the module with its devices, and answers the page's jobs one after the other.
 //
 // A job is {number, kind, bytes, last, ..}; its answer is {number, ..} or {number, error}. What takes long
-// tells {number, done, all} on the way.
+// tells {number, done, all} on the way. Images and answers are those of the script as a text; planes and pixels are
+// read from a device that stays, and goes on to the line that is asked for.
 
-import { Device } from "./device.js";
 import { difference } from "./difference.js";
 import { PixelHistory } from "./history.js";
-import { depthPicture, planesBehind, rangeOf, stencilPicture } from "./planes.js";
-import { answersOf, pixelsBehind, play, refusalOf } from "./playing.js";
+import { Module } from "./module.js";
+import { depthPicture, rangeOf, stencilPicture } from "./planes.js";
+import { Players, pixelsOf } from "./player.js";
+import { answersOf, play, refusalOf } from "./playing.js";
 import { Script, bytesOf } from "./script.js";
 import { stateAt } from "./state.js";
+import { Plane } from "./states.js";
 import { decodeTarga, opaque } from "./targa.js";
 
-/** @typedef {import("./planes.js").Planes} Planes */
 /** @typedef {import("./planes.js").Range} Range */
+/** @typedef {import("./planes.js").Values} Values */
+/** @typedef {import("./playing.js").Refused} Refused */
 /** @typedef {import("./targa.js").Picture} Picture */
 /** @typedef {(done: number, all: number) => void} Tell */
 
@@ -22,20 +26,48 @@ import { decodeTarga, opaque } from "./targa.js";
 const COLOURS = ["opaque", "alpha"];
 const COLOUR_CHANNELS = 4;
 
-/** @type {Device | null} */
-let device = null;
+/** @type {Module | null} */
+let module = null;
+/** @type {Players | null} */
+let players = null;
 /** @type {Tables | null} */
 let tables = null;
 let script = new Script(new Uint8Array(0));
 let serial = -1;
-/** the planes that were asked for last, since depth, stencil and another range of depths want the same
- * @type {{script: Script, last: number, planes: Planes} | null} */
-let kept = null;
+/** the script beside this one, by its text, and the line up to which it is shown
+ * @type {{text: string, script: Script, shown: number, refused: Refused | null} | null} */
+let beside = null;
 
 /** @param {Uint8Array} bytes */
 function draw(bytes) {
-    if (!device) throw new Error("the device hasn't started");
-    return device.draw(bytes);
+    if (!module) throw new Error("the device hasn't started");
+    return module.draw(bytes);
+}
+
+/**
+ * The device of a script as it is behind a line.
+ *
+ * @param {Script} of
+ * @param {number} last
+ */
+function deviceBehind(of, last) {
+    if (!players) throw new Error("the device hasn't started");
+    return players.behind(of, last);
+}
+
+/**
+ * The script with a text, to be shown beside this one.
+ *
+ * @param {string} text
+ */
+function scriptBeside(text) {
+    if (!beside || beside.text !== text) {
+        if (beside) players?.forget(beside.script);
+        const other = new Script(bytesOf(text));
+        const { shown, refused } = play(draw, other, other.count);
+        beside = { text, script: other, shown, refused };
+    }
+    return beside;
 }
 
 /** What is known of scripts. */
@@ -46,10 +78,11 @@ function known() {
 
 /** @type {Record<string, (job: any, tell: Tell) => object | Promise<object>>} */
 const JOBS = {
-    async start({ module, tables: given }) {
-        device = await Device.of(module, given.library);
+    async start({ module: bytes, tables: given }) {
+        module = await Module.of(bytes, given.library);
+        players = new Players(module);
         tables = given;
-        return { version: device.version };
+        return { version: module.version };
     },
 
     play({ last }) {
@@ -61,38 +94,33 @@ const JOBS = {
         return { refused: refusalOf(answersOf(draw(script.bytes).lines)) };
     },
 
-    planes({ last, size, what, range, step }, tell) {
-        const planes = planesOf(script, last, size, step, tell);
-        const found = rangeOf(planes.depth, known().limits.deepest);
-        return { picture: pictureOf(what, planes, within(range, found)), range: found };
+    planes({ last, what, range }) {
+        const plane = planeBehind(script, last, what);
+        const found = what === "depth" ? rangeOf(plane.values, known().limits.deepest) : null;
+        return { picture: pictureOf(plane, found && within(range, found)), range: found };
     },
 
     pixels({ last, area, other }) {
-        const values = pixelsBehind(draw, script, last, area);
-        const besides = other ? new Script(bytesOf(other)) : null;
-        return {
-            area,
-            values,
-            besides: besides && pixelsBehind(draw, besides, play(draw, besides, besides.count).shown, area)
-        };
+        const values = pixelsOf(deviceBehind(script, last), area);
+        const another = other ? scriptBeside(other) : null;
+        return { area, values, besides: another && pixelsOf(deviceBehind(another.script, another.shown), area) };
     },
 
     state({ last }) {
         return { state: stateAt(script, last) };
     },
 
-    changed({ last, what }, tell) {
-        const [before, after] = [last - 1, last].map((line) => targetOf(script, line, what, tell));
-        return { difference: before && after ? differenceOf(before, after, what) : null };
+    changed({ last, what }) {
+        const [before, after] = [last - 1, last].map((line) => targetOf(script, line, what));
+        return { difference: before && after ? differenceOf(before, after) : null };
     },
 
-    beside({ last, what, range, other }, tell) {
-        const another = new Script(bytesOf(other));
-        const { refused } = play(draw, another, another.count);
-        const [mine, others] = [targetOf(script, last, what, tell), targetOf(another, another.count, what, tell)];
+    beside({ last, what, range, other }) {
+        const { script: another, shown, refused } = scriptBeside(other);
+        const [mine, others] = [targetOf(script, last, what), targetOf(another, shown, what)];
         if (!mine || !others) return { refused, picture: null, difference: null, isSameSize: false };
         const isSameSize = mine.width === others.width && mine.height === others.height;
-        const found = isSameSize ? differenceOf(mine, others, what) : null;
+        const found = isSameSize ? differenceOf(mine, others) : null;
         return { refused, picture: besidePicture(mine, others, what, range), difference: found, isSameSize };
     },
 
@@ -102,31 +130,28 @@ const JOBS = {
 };
 
 /**
- * The planes of a script behind a line.
+ * The depths or the stencil of a script behind a line.
  *
  * @param {Script} of
  * @param {number} last
- * @param {{width: number, height: number}} size
- * @param {number} step
- * @param {Tell} tell
+ * @param {string} what
+ * @returns {Values}
  */
-function planesOf(of, last, size, step, tell) {
-    if (kept && kept.script === of && kept.last === last) return kept.planes;
-    const planes = planesBehind(draw, of, last, size, step, tell);
-    if (step === 1) kept = { script: of, last, planes };
-    return planes;
+function planeBehind(of, last, what) {
+    const device = deviceBehind(of, last);
+    const values = device.read(what === "depth" ? Plane.DEPTH32 : Plane.STENCIL8);
+    return { width: device.width, height: device.height, values };
 }
 
 /**
- * @param {string} what
- * @param {Planes} planes
- * @param {{near: number, far: number}} range
+ * @param {Values} plane
+ * @param {{near: number, far: number} | null} range that of depths
  */
-function pictureOf(what, planes, range) {
-    return what === "depth" ? depthPicture(planes, range, known().limits.deepest) : stencilPicture(planes);
+function pictureOf(plane, range) {
+    return range ? depthPicture(plane, range, known().limits.deepest) : stencilPicture(plane);
 }
 
-/** @typedef {Picture & {planes: Planes | null}} Target colours, and the planes where one of these is shown */
+/** @typedef {Picture & {plane: Values | null}} Target colours, and the plane that is shown in their place */
 
 /**
  * What a script has drawn up to a line, or null where there is no image.
@@ -134,14 +159,12 @@ function pictureOf(what, planes, range) {
  * @param {Script} of
  * @param {number} last
  * @param {string} what
- * @param {Tell} tell
  * @returns {Target | null}
  */
-function targetOf(of, last, what, tell) {
+function targetOf(of, last, what) {
     const { image, shown } = play(draw, of, last);
     if (!image.length) return null;
-    const colours = decodeTarga(image);
-    return { ...colours, planes: COLOURS.includes(what) ? null : planesOf(of, shown, colours, 1, tell) };
+    return { ...decodeTarga(image), plane: COLOURS.includes(what) ? null : planeBehind(of, shown, what) };
 }
 
 /**
@@ -149,12 +172,10 @@ function targetOf(of, last, what, tell) {
  *
  * @param {Target} one
  * @param {Target} other
- * @param {string} what
  */
-function differenceOf(one, other, what) {
-    const values = (/** @type {Target} */ { planes, pixels }) =>
-        planes ? (what === "depth" ? planes.depth : planes.stencil) : pixels;
-    return difference(values(one), values(other), one.width, one.planes ? 1 : COLOUR_CHANNELS);
+function differenceOf(one, other) {
+    const values = (/** @type {Target} */ { plane, pixels }) => (plane ? plane.values : pixels);
+    return difference(values(one), values(other), one.width, one.plane ? 1 : COLOUR_CHANNELS);
 }
 
 /**
@@ -166,8 +187,10 @@ function differenceOf(one, other, what) {
  * @param {Range} range
  */
 function besidePicture(mine, others, what, range) {
-    if (!mine.planes || !others.planes) return what === "opaque" ? opaque(others) : others;
-    return pictureOf(what, others.planes, within(range, rangeOf(mine.planes.depth, known().limits.deepest)));
+    if (!mine.plane || !others.plane) return what === "opaque" ? opaque(others) : others;
+    const isDepth = what === "depth";
+    return pictureOf(
+        others.plane, isDepth ? within(range, rangeOf(mine.plane.values, known().limits.deepest)) : null);
 }
 
 /**
@@ -191,6 +214,7 @@ port.onmessage = async ({ data: job }) => {
     const begun = performance.now();
     try {
         if (job.bytes && job.serial !== serial) {
+            players?.forget(script);
             script = new Script(job.bytes);
             serial = job.serial;
         }

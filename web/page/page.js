@@ -23,15 +23,13 @@ import { View } from "./view.js";
 /** @typedef {import("../engine/targa.js").Picture} Picture */
 /** @typedef {import("./texts.js").Entry} Entry */
 
-// a target with more pixels than that is asked for its depths by every so many of them first
-const AT_ONCE = 1 << 16;
 const LONG_LINK = 8000;
 const DOING = /** @type {Record<string, string>} */ ({
     play: "drawing",
     check: "looking for faults",
     pixels: "asking",
     history: "asking what touched the pixel",
-    planes: "asking for each pixel",
+    planes: "reading the plane",
     state: "looking for states",
     changed: "comparing with the line before",
     beside: "comparing the scripts",
@@ -267,28 +265,13 @@ export class Page {
             this.show(colours && (what === "alpha" ? colours : opaque(colours)));
             return;
         }
-        const steps = Math.ceil(Math.sqrt(colours.width * colours.height / AT_ONCE));
-        this.askPlane(colours, steps > 1 ? 2 * steps : 1);
-    }
-
-    /**
-     * Asks for a plane, of each so many pixels first where there are many.
-     *
-     * @param {Picture} colours
-     * @param {number} step
-     */
-    askPlane({ width, height }, step) {
-        const { what, range: given } = this;
-        this.jobs.ask("planes", { last: this.shown, size: { width, height }, what, range: given, step })
-            .then(({ picture, range }) => {
+        this.jobs.ask("planes", { last: this.shown, what, range: this.range }).then(({ picture, range }) => {
+            if (range) {
                 field("near").placeholder = String(range.near);
                 field("far").placeholder = String(range.far);
-                if (step > 1)
-                    this.view.show(picture);
-                else
-                    this.show(picture);
-                if (step > 1) this.askPlane({ width, height, pixels: picture.pixels }, 1);
-            }, (error) => this.failed(error));
+            }
+            this.show(picture);
+        }, (error) => this.failed(error));
     }
 
     /** @param {Picture | null} picture */

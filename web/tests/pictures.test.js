@@ -50,9 +50,9 @@ test("a PNG has the bytes of a picture as they are", async () => {
 
 test("depths are grey between the nearest and the farthest, and black where nothing was drawn", () => {
     const depth = Uint32Array.from([100, 200, 300, DEEPEST]);
-    const planes = { width: 4, height: 1, depth, stencil: new Uint8Array(4) };
+    const plane = { width: 4, height: 1, values: depth };
     assert.deepEqual(rangeOf(depth, DEEPEST), { near: 100, far: 300 });
-    const greys = (range) => [...depthPicture(planes, range, DEEPEST).pixels].filter((_, at) => at % 4 === 0);
+    const greys = (range) => [...depthPicture(plane, range, DEEPEST).pixels].filter((_, at) => at % 4 === 0);
     assert.deepEqual(greys({ near: 100, far: 300 }), [255, 148, 40, 0]);
     assert.deepEqual(greys({ near: 200, far: 300 }), [255, 255, 40, 0]);
     assert.deepEqual(greys({ near: 100, far: 200 }), [255, 40, 40, 0]);
@@ -61,8 +61,8 @@ test("depths are grey between the nearest and the farthest, and black where noth
 });
 
 test("stencil values that stand next to each other have other colours, and 0 is black", () => {
-    const stencil = Uint8Array.from({ length: 256 }, (_, value) => value);
-    const { pixels } = stencilPicture({ width: 256, height: 1, depth: new Uint32Array(256), stencil });
+    const values = Uint8Array.from({ length: 256 }, (_, value) => value);
+    const { pixels } = stencilPicture({ width: 256, height: 1, values });
     const colours = Array.from({ length: 256 }, (_, value) => String(pixels.slice(4 * value, 4 * value + 4)));
     assert.equal(colours[0], "0,0,0,255");
     assert.ok(colours.every((colour, at) => at === 0 || colour !== colours[at - 1]));

@@ -1,6 +1,10 @@
 /* What the library needs of stdint.h where there is no C library. */
 typedef __UINT8_TYPE__ uint8_t;
+typedef __UINT16_TYPE__ uint16_t;
+typedef __INT32_TYPE__ int32_t;
 typedef __UINT32_TYPE__ uint32_t;
 typedef __UINT64_TYPE__ uint64_t;
 typedef __INT64_TYPE__ int64_t;
 typedef __UINTPTR_TYPE__ uintptr_t;
+#define SIZE_MAX __SIZE_MAX__
+#define UINTPTR_MAX __UINTPTR_MAX__

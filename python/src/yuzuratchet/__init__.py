@@ -48,7 +48,7 @@ from .states import (
     StencilOp,
 )
 
-__version__ = "0.3.0"
+__version__ = "0.4.0"
 
 __all__ = [
     "ArgumentError",

@@ -10,7 +10,7 @@ from typing import Sequence
 
 from . import __version__, interrupts
 from .backends import NoLibraryWarning
-from .commands import check, diff, explain, images, suite, view
+from .commands import check, diff, explain, images, judge, proof, suite, view
 from .commands.common import DIFFERENT, TROUBLE, Refused
 from .errors import YuzuratchetError
 
@@ -25,7 +25,7 @@ def parser() -> argparse.ArgumentParser:
     )
     top.add_argument("--version", action="version", version=f"yuzuratchet {__version__}")
     commands = top.add_subparsers(dest="command", required=True, metavar="COMMAND")
-    for command in (images, check, explain, diff, suite, view):
+    for command in (images, check, explain, diff, suite, judge, view, proof):
         command.add(commands)
     return top
 

@@ -111,6 +111,10 @@ class PageMissing(YuzuratchetError):
     """The page isn't built, or isn't where it was said to be."""
 
 
+class ProofMissing(YuzuratchetError):
+    """Nothing here says what was proved of the device."""
+
+
 class ProgramFailed(YuzuratchetError):
     """The program ended as it never should: by a signal, with another status, or too late."""
 

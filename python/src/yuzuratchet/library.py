@@ -13,7 +13,7 @@ from typing import Final
 
 from .device import DEVICE
 from .errors import LibraryMissing, ProgramFailed
-from .program import Ran, named_file
+from .program import INSTALLED, Ran, named_file
 from .targa import HEADER_SIZE, image_size, target_sides
 
 NAME: Final = "yuzuratchet"
@@ -36,6 +36,7 @@ TOO_SMALL: Final = (STATUS["lines_too_small"], STATUS["image_too_small"])
 LINE_SIZE: Final[int] = DEVICE["answers"]["longest_line"]
 
 HOW_TO_BUILD: Final = f"""\
+A release has it inside (pip install yuzuratchet-VERSION-py3-none-manylinux_X_Y_x86_64.whl).
 The library is built in a clone of the repository, where the toolchain is, and installed into a folder:
     tools/install_library.py ~/.local
 It is then ~/.local/lib/lib{NAME}.so; name one elsewhere by library, or in the environment by {VARIABLE}."""
@@ -54,8 +55,8 @@ class Report(ctypes.Structure):
 
 
 def find_library(library: str | Path | None = None) -> Path | str:
-    """The library: the one that is named here, or else by the environment, or else the one that is
-    installed for this user, or for all.
+    """The library: the one that is named here, or else by the environment, or else the one that
+    came with this package, or is installed for this user, or for all.
 
     Raises :class:`~yuzuratchet.errors.LibraryMissing`, whose text says how to build it.
     """
@@ -73,7 +74,7 @@ def find_library(library: str | Path | None = None) -> Path | str:
 @lru_cache(maxsize=1)
 def _installed() -> Path | str | None:
     # (once a process, since other programs are started to ask for the loader's list)
-    places = (folder / f"lib{NAME}.so" for folder in FOLDERS)
+    places = (folder / f"lib{NAME}.so" for folder in (INSTALLED, *FOLDERS))
     return next((it for it in places if it.is_file()), None) or ctypes.util.find_library(NAME)
 
 

@@ -21,7 +21,7 @@ from .errors import PageMissing
 from .labels import Labels
 from .limits import LIMITS
 from .messages import FAULTS, REFUSALS
-from .program import named_file, repository
+from .program import INSTALLED, named_file, repository
 from .words import TARGET, WORDS, Argument, Word
 
 VARIABLE: Final = "YUZURATCHET_PAGE"
@@ -49,7 +49,8 @@ class Entry:
 
 
 def find_page(page: str | Path | None = None) -> Path:
-    """The built page: the one that is named here, or else by the environment, or else this clone's.
+    """The built page: the one that is named here, or else by the environment, or else the one that
+    came with this package, or else this clone's.
 
     Raises :class:`~yuzuratchet.errors.PageMissing`, whose text says how to build it.
     """
@@ -59,8 +60,9 @@ def find_page(page: str | Path | None = None) -> Path:
             return path
         raise PageMissing(f"there is no page {path} ({by}).\n{HOW_TO_BUILD}")
     top = repository()
-    if top and (top / BUILT).is_file():
-        return top / BUILT
+    for built in (INSTALLED / "page.html", *([top / BUILT] if top else [])):
+        if built.is_file():
+            return built
     raise PageMissing(f"no built page is found.\n{HOW_TO_BUILD}")
 
 

@@ -22,16 +22,25 @@ from .targa import misfit, target_sides
 NAME: Final = "tiledraw"
 VARIABLE: Final = "YUZURATCHET_PROGRAM"
 BUILT: Final = Path("crates", NAME, "out", NAME)
+CHECKED: Final = BUILT.with_name(f"{NAME}-checked")
+"""The program as tools/first_picture.py builds it in a minute: checked, not proved, and slow."""
+INSTALLED: Final = Path(__file__).resolve().parent / "built"
+"""The folder that this package has where it was installed from a release: the device, built."""
 
 REFUSED: Final = re.compile(r"^refused ([0-9]+) ([0-9]+)\n\Z", re.M)
 
 HOW_TO_BUILD: Final = f"""\
-The program {NAME} is proved and built in a clone of the repository, once, in 20 to 55 minutes:
+A release has it inside, for machines without the toolchain:
+    pip install yuzuratchet-VERSION-py3-none-manylinux_X_Y_x86_64.whl
+In a clone of the repository {NAME} is compiled with checks, not proved, in a minute by
+    tools/first_picture.py
+and proved and built, once, in 20 to 55 minutes, by
     rt all check --jobs 4
     cd crates/{NAME} && rt run -- "$PWD/../gallery/data/fan.txt" /tmp/fan.tga
 It is then {BUILT}, one file; install it with
     install -m755 {BUILT} /usr/local/bin/
-or name it by --program, or in the environment by {VARIABLE}."""
+or name it by --program, or in the environment by {VARIABLE}.
+Without the toolchain a clone draws slowly, by tools/plain_device.py SCRIPT OUT.tga."""
 
 
 def repository() -> Path | None:
@@ -49,19 +58,20 @@ def named_file(given: str | Path | None, variable: str) -> tuple[Path, str] | No
 
 
 def find_program(program: str | Path | None = None) -> Path:
-    """The program: the one that is named here, or else by the environment, or else the one that was
-    built in this clone of the repository, or else the one on the path.
+    """The program: the one that is named here, or else by the environment, or else the one that
+    came with this package, or was built in this clone of the repository, or is on the path, or else
+    the checked one that tools/first_picture.py built in this clone.
 
     Raises :class:`~yuzuratchet.errors.ProgramMissing`, whose text says how to build it.
     """
     if named := named_file(program, VARIABLE):
         return _usable(*named)
     top = repository()
-    if top and os.access(top / BUILT, os.X_OK):
-        return top / BUILT
-    found = shutil.which(NAME)
-    if found:
-        return Path(found)
+    built, checked = [top / BUILT] if top else [], [top / CHECKED] if top else []
+    on_path = [Path(it) for it in [shutil.which(NAME)] if it]
+    for path in (INSTALLED / NAME, *built, *on_path, *checked):
+        if os.access(path, os.X_OK):
+            return path
     raise ProgramMissing(f"no built program {NAME} is found.\n{HOW_TO_BUILD}")
 
 
@@ -96,6 +106,10 @@ class Running:
         self._lock = threading.Lock()
         self._processes: set[subprocess.Popen[str]] = set()
         self.is_ended = False
+
+    def __reduce__(self) -> tuple[type[Running], tuple[()]]:
+        # (in another process there are other runs)
+        return Running, ()
 
     def end(self) -> None:
         """Ends the runs; each raises :class:`~yuzuratchet.errors.ProgramStopped` in its thread."""

@@ -23,6 +23,9 @@ Pictures = list[tuple[str, Pixels]]
 
 ANSWER_LINES = 40
 LEAST_WIDTH = 240
+SHARD = "shard"
+"""The property of the XML that says which part of a suite it is."""
+
 CUT_SHORT = "the whole suite"
 """The case of the XML that is an error where the run was cut short."""
 
@@ -31,7 +34,7 @@ PAGE = Template(
 <html lang="en">
 <head>
 <meta charset="utf-8">
-<title>$title</title>
+$meta<title>$title</title>
 <style>
 body { font: 15px/1.5 system-ui, sans-serif; margin: 2em auto; max-width: 84em; padding: 0 1em }
 body { color: #222; background: #fff }
@@ -133,23 +136,28 @@ def write_junit(report: Report, path: Path) -> None:
     root = ElementTree.Element("testsuites", attributes)
     took = {"time": f"{sum(it.seconds for it in run.outcomes):.3f}"}
     element = ElementTree.SubElement(root, "testsuite", {**attributes, **took})
+    properties = ElementTree.SubElement(element, "properties")
+    part = {"name": SHARD, "value": str(report.suite.shard)}
+    ElementTree.SubElement(properties, "property", part)
     for outcome in run.outcomes:
-        case = _case(element, name, outcome.name, outcome.seconds)
+        case = case_element(element, name, outcome.name, outcome.seconds)
         if outcome.verdict is not Verdict.AGREES:
             kind = "error" if outcome in failed else "failure"
             told = ElementTree.SubElement(case, kind, {"message": outcome.text})
             told.text = report.details(outcome)
     for left in run.left:
-        case = _case(element, name, left, 0)
+        case = case_element(element, name, left, 0)
         ElementTree.SubElement(case, "skipped", {"message": report.cut_text})
     if run.cut:
-        case = _case(element, name, CUT_SHORT, 0)
+        case = case_element(element, name, CUT_SHORT, 0)
         ElementTree.SubElement(case, "error", {"message": report.cut_text})
     ElementTree.indent(root)
     ElementTree.ElementTree(root).write(path, encoding="utf-8", xml_declaration=True)
 
 
-def _case(suite: ElementTree.Element, of: str, name: str, seconds: float) -> ElementTree.Element:
+def case_element(
+    suite: ElementTree.Element, of: str, name: str, seconds: float
+) -> ElementTree.Element:
     attributes = {"classname": of, "name": name, "time": f"{seconds:.3f}"}
     return ElementTree.SubElement(suite, "testcase", attributes)
 
@@ -162,14 +170,16 @@ def write_page(report: Report, path: Path) -> None:
     differing = report.differing
     is_well = not differing and not report.run.cut
     sections = [section(report, outcome) for outcome in differing]
+    meta = f'<meta name="{SHARD}" content="{report.suite.shard}">\n'
     path.write_text(
-        page(f"Suite {report.name}", report.summary, is_well, sections), encoding="utf-8"
+        page(f"Suite {report.name}", report.summary, is_well, sections, meta), encoding="utf-8"
     )
 
 
-def page(title: str, summary: str, is_well: bool, sections: list[str]) -> str:
+def page(title: str, summary: str, is_well: bool, sections: list[str], meta: str = "") -> str:
     """A page of sections, which are HTML already."""
     return PAGE.substitute(
+        meta=meta,
         title=html.escape(title),
         state="same" if is_well else "differs",
         summary=html.escape(summary),

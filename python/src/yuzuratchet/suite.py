@@ -14,11 +14,12 @@ from __future__ import annotations
 
 import hashlib
 import time
+import zlib
 from dataclasses import dataclass, field, replace
 from enum import Enum
 from fnmatch import fnmatchcase
 from pathlib import Path
-from typing import TYPE_CHECKING, Callable
+from typing import TYPE_CHECKING, Callable, Final
 
 from .difference import EXACT, Tolerance, compare
 from .errors import ImageError, YuzuratchetError
@@ -99,25 +100,46 @@ class Outcome:
 
 
 @dataclass(frozen=True)
+class Shard:
+    """One of ``of`` parts of a suite, counted from 1. A name alone says in which part it is, so that
+    machines that know nothing of each other draw each script once."""
+
+    number: int
+    of: int
+
+    def has(self, name: str) -> bool:
+        """Whether a script is in this part."""
+        return zlib.crc32(name.encode("utf-8")) % self.of == self.number - 1
+
+    def __str__(self) -> str:
+        return f"{self.number}/{self.of}"
+
+
+WHOLE: Final = Shard(1, 1)
+
+
+@dataclass(frozen=True)
 class Suite:
     """A folder of scripts, the file of what is expected, and the folder of stored images.
 
-    Where ``only`` is given, the suite has the scripts whose names match it, as ``fog/*``.
+    Where ``only`` is given, the suite has the scripts whose names match it, as ``fog/*``, and of
+    these those of its ``shard``.
     """
 
     scripts: Path
     expected: Path
     pictures: Path | None
     only: str | None = None
+    shard: Shard = WHOLE
 
     @classmethod
-    def of_folder(cls, folder: Path, only: str | None = None) -> Suite:
+    def of_folder(cls, folder: Path, only: str | None = None, shard: Shard = WHOLE) -> Suite:
         """The suite of a folder; raises :class:`~yuzuratchet.errors.YuzuratchetError`."""
         if not folder.is_dir():
             raise YuzuratchetError(f"{folder} is no folder")
         if (folder / "data").is_dir() and (folder / "stdout").is_file():
-            return cls(folder / "data", folder / "stdout", None, only)
-        return cls(folder, folder / "expected", folder, only)
+            return cls(folder / "data", folder / "stdout", None, only, shard)
+        return cls(folder, folder / "expected", folder, only, shard)
 
     def names(self) -> list[str]:
         """The names of the scripts, below their folder."""
@@ -131,7 +153,7 @@ class Suite:
 
     def has(self, name: str) -> bool:
         """Whether the suite has a script of this name, if there is one."""
-        return self.only is None or fnmatchcase(name, self.only)
+        return self.shard.has(name) and (self.only is None or fnmatchcase(name, self.only))
 
     def every_stored(self) -> dict[str, Expected]:
         """What is expected of each script of the folder; nothing where nothing is stored yet."""

@@ -87,7 +87,7 @@ def vertex_line(actor: str, vertices: Iterable[Vertex]) -> Line:
     """
     given: Sequence[Vertex] = vertices if isinstance(vertices, Vertices) else list(vertices)
     rows = given.numbers if isinstance(given, Vertices) else _by_numpy(given)
-    if rows is not None and _can_be_spelled(rows):
+    if rows is not None and can_be_spelled(rows):
         return Line.of_ints(actor, "vb", rows.ravel().tolist(), is_checked=True)
     numbers = one_by_one(given) if rows is None else rows.ravel().tolist()
     place = WORDS["vb"].misfit(tuple(numbers))
@@ -116,7 +116,7 @@ def where_outside(place: int, numbers: Sequence[int]) -> str:
     return f"{'xy'[at]} of vertex {vertex} is {pixels}, and not in -{most} to {most}"
 
 
-def _can_be_spelled(rows: Numbers) -> bool:
+def can_be_spelled(rows: Numbers) -> bool:
     """Whether a script can have these numbers."""
     ranges = WORDS["vb"].arguments
     least, most = rows.min(axis=0, initial=0), rows.max(axis=0, initial=0)

@@ -4,7 +4,9 @@ from __future__ import annotations
 
 import argparse
 import os
+import re
 import sys
+from functools import partial
 from pathlib import Path
 from typing import TYPE_CHECKING, Any, Callable
 
@@ -16,16 +18,23 @@ from .common import DIFFERENT, TROUBLE, WELL, add_command, check_writable
 
 if TYPE_CHECKING:
     from ..suite import Outcome, Suite
-    from ..suite_run import Drawing, Progress, Stored, SuiteRun
+    from ..suite_run import Farm, Progress, Stored, SuiteRun
+
+WHOLE_TEXT = "1/1"
+"""The part that is all of a suite."""
 
 
 def add(commands: Any) -> None:
     """Adds ``suite``."""
     about = "Draws each script of a folder, and compares answers and images with what is stored."
     found = add_command(commands, "suite", about)
-    found.add_argument("folder", metavar="FOLDER", type=Path)
+    found.add_argument("folder", metavar="FOLDER", type=Path, nargs="?")
     only = "draws the scripts alone whose names match, as 'fog/*'"
     found.add_argument("--only", metavar="GLOB", help=only)
+    part = "draws part K of N, into which scripts fall by their names: for N machines, a part each"
+    found.add_argument("--shard", metavar="K/N", type=shard, default=WHOLE_TEXT, help=part)
+    joins = "joins what --junit and --page wrote of the parts, in place of drawing a FOLDER"
+    found.add_argument("--merge", metavar="FILE", type=Path, nargs="+", help=joins)
     found.add_argument(
         "--junit", metavar="FILE", type=Path, help="writes JUnit's XML for a build server"
     )
@@ -43,6 +52,14 @@ def add(commands: Any) -> None:
     found.set_defaults(run=suite)
 
 
+def shard(text: str) -> tuple[int, int]:
+    """The two numbers of a part: a kind of argument."""
+    found = re.fullmatch(r"([0-9]{1,6})/([0-9]{1,6})", text)
+    if not found or not 1 <= int(found[1]) <= int(found[2]):
+        raise argparse.ArgumentTypeError(f"{text!r} is no K/N, as 1/4 to 4/4")
+    return int(found[1]), int(found[2])
+
+
 def add_storing(found: argparse.ArgumentParser) -> None:
     """Adds what has to do with storing."""
     write = "stores what is drawn, in place of comparing"
@@ -57,6 +74,12 @@ def add_storing(found: argparse.ArgumentParser) -> None:
 
 def check_words(given: argparse.Namespace) -> None:
     """Raises where the words don't go together."""
+    if bool(given.folder) == bool(given.merge):
+        raise YuzuratchetError(
+            "a FOLDER is drawn, or files are joined by --merge: name one of both"
+        )
+    if given.merge and (given.write or not (given.junit or given.page)):
+        raise YuzuratchetError("--merge is for --junit FILE or --page FILE, which it writes")
     for name in ("junit", "page", "tolerance"):
         if given.write and getattr(given, name):
             why = f"--{name} is for comparing, and --write stores and compares nothing"
@@ -72,13 +95,15 @@ def check_words(given: argparse.Namespace) -> None:
 def suite(given: argparse.Namespace) -> int:
     """Runs a suite."""
     from ..program import find_program
-    from ..suite import Suite
-    from ..suite_run import Drawing, Progress
+    from ..suite import Shard, Suite
+    from ..suite_run import Drawing, Farm, Progress
 
     check_words(given)
-    found = Suite.of_folder(given.folder, given.only)
+    if given.merge:
+        return merge(given)
+    found = Suite.of_folder(given.folder, given.only, Shard(*given.shard))
     names = found.names()
-    if not names:
+    if not names and given.shard[1] == 1:
         which = (
             f"no script whose name matches {given.only!r}" if given.only else "no scripts (*.txt)"
         )
@@ -86,20 +111,35 @@ def suite(given: argparse.Namespace) -> int:
     program = find_program(given.program)
     for path in [it for it in (given.junit, given.page) if it]:
         check_writable(path)
-    drawing = Drawing(program, given.workers, given.seconds, given.jobs, given.planes)
+    farm = Farm(Drawing(program, given.workers, given.seconds, given.jobs, given.planes))
     progress = Progress(len(names))
-    return (write if given.write else compare)(given, found, drawing, progress)
+    return (write if given.write else compare)(given, found, farm, progress)
+
+
+def merge(given: argparse.Namespace) -> int:
+    """Joins what was written of the parts of a suite."""
+    from ..merging import Merged
+
+    merged = Merged.of_files(given.merge)
+    failed = []
+    for path, text in ((given.junit, merged.junit), (given.page, merged.page)):
+        if path:
+            failed.append(not is_written(path, partial(path.write_text, text, encoding="utf-8")))
+    print(merged.summary, flush=True)
+    if any(failed) or merged.missing:
+        return TROUBLE
+    return WELL if merged.is_well else DIFFERENT
 
 
 # ---- comparing
 
 
-def compare(given: argparse.Namespace, found: Suite, drawing: Drawing, progress: Progress) -> int:
+def compare(given: argparse.Namespace, found: Suite, farm: Farm, progress: Progress) -> int:
     """Draws a suite, and tells how it stands to what is stored."""
     from ..difference import Tolerance
     from ..suite_run import compare_all
 
-    run = compare_all(found, drawing, progress, Tolerance(given.tolerance))
+    run = compare_all(found, farm, progress, Tolerance(given.tolerance))
     progress.end()
     return tell(given, found, run)
 
@@ -126,7 +166,7 @@ def tell(given: argparse.Namespace, found: Suite, run: SuiteRun) -> int:
     return DIFFERENT if report.differing else WELL
 
 
-def is_written(path: Path, write: Callable[[], None]) -> bool:
+def is_written(path: Path, write: Callable[[], object]) -> bool:
     """Writes a file; where that fails it is told, and what else there is to tell goes on."""
     try:
         write()
@@ -140,13 +180,13 @@ def is_written(path: Path, write: Callable[[], None]) -> bool:
 # ---- storing
 
 
-def write(given: argparse.Namespace, found: Suite, drawing: Drawing, progress: Progress) -> int:
+def write(given: argparse.Namespace, found: Suite, farm: Farm, progress: Progress) -> int:
     """Draws a suite, and stores what came."""
     from ..suite_run import store
 
     if found.pictures is not None:
         check_writable(found.expected)
-    stored = store(found, drawing, progress, given.allow_faults)
+    stored = store(found, farm, progress, given.allow_faults)
     progress.end()
     tell_refused(stored)
     for path in stored.removed:

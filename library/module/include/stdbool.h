@@ -1,0 +1,2 @@
+/* What the library needs of stdbool.h where there is no C library. */
+#define bool _Bool

@@ -1,0 +1,240 @@
+/*
+ * What calls by objects do at their edges: null pointers, bad descriptions and areas, refusals that leave all as it
+ * was, each request for memory refused in turn, and eight threads that record beside one another.
+ */
+#include <pthread.h>
+
+#include "check.h"
+#include "yuzuratchet_device.h"
+
+static const yz_vertex CORNERS[] = {
+    {0, 0, 0, 200, 30, 40, 255}, {4194304, 0, 0, 200, 30, 40, 255}, {0, 4194304, 0, 200, 30, 40, 255}};
+static const yz_device_desc DESC = YZ_DEVICE_DESC(64, 64);
+
+static yz_device *created(void) {
+    yz_device *device = NULL;
+    CHECK(yz_device_create(&DESC, &device) == YZ_OK && device != NULL);
+    return device;
+}
+
+static void creations(void) {
+    yz_device *device = NULL;
+    CHECK(yz_device_create(NULL, &device) == YZ_NULL_POINTER && yz_device_create(&DESC, NULL) == YZ_NULL_POINTER);
+    CHECK(yz_device_create(&(yz_device_desc){8, 64, 64}, &device) == YZ_BAD_DESCRIPTION);
+    CHECK(yz_device_create(&(yz_device_desc){sizeof DESC + 8, 64, 64}, &device) == YZ_BAD_DESCRIPTION);
+    CHECK(yz_device_create(&(yz_device_desc)YZ_DEVICE_DESC(0, 64), &device) == YZ_TARGET_SIZE);
+    CHECK(yz_device_create(&(yz_device_desc)YZ_DEVICE_DESC(4097, 64), &device) == YZ_TARGET_SIZE && device == NULL);
+    CHECK(yz_context_create(NULL) == YZ_NULL_POINTER);
+    yz_device_destroy(NULL), yz_context_destroy(NULL), yz_list_destroy(NULL);
+}
+
+static void descriptions(void) {
+    yz_device *const device = created();
+    yz_raster_desc raster = YZ_RASTER_DESC_DEFAULT;
+    yz_blend_desc blend = YZ_BLEND_DESC_DEFAULT;
+    yz_depth_stencil_desc state = YZ_DEPTH_STENCIL_DESC_DEFAULT;
+    CHECK(yz_device_set_raster(device, NULL) == YZ_NULL_POINTER);
+    CHECK(yz_device_set_blend(device, NULL) == YZ_NULL_POINTER);
+    CHECK(yz_device_set_raster(device, &raster) == YZ_OK && yz_device_set_blend(device, &blend) == YZ_OK);
+    CHECK(yz_device_set_depth_stencil(device, &state, 0) == YZ_OK);
+    raster.cull = 4, blend.channels = 16, state.back.pass = 9;
+    CHECK(yz_device_set_raster(device, &raster) == YZ_BAD_DESCRIPTION);
+    CHECK(yz_device_set_blend(device, &blend) == YZ_BAD_DESCRIPTION);
+    CHECK(yz_device_set_depth_stencil(device, &state, 0) == YZ_BAD_DESCRIPTION);
+    blend.channels = 15, blend.op = 16, state.back.pass = YZ_KEEP, state.struct_size--;
+    CHECK(yz_device_set_blend(device, &blend) == YZ_BAD_DESCRIPTION);
+    CHECK(yz_device_set_depth_stencil(device, &state, 0) == YZ_BAD_DESCRIPTION);
+    CHECK(yz_device_set_topology(device, (enum yz_topology)6) == YZ_BAD_DESCRIPTION);
+    CHECK(yz_device_draw(device, 3, 0) == YZ_TOPOLOGY_UNSET);
+    yz_device_destroy(device);
+}
+
+static void areas(void) {
+    yz_device *const device = created();
+    CHECK(yz_device_set_vertices(device, NULL, 1) == YZ_NULL_POINTER);
+    CHECK(yz_device_set_vertices(device, NULL, 0) == YZ_OK && yz_device_set_indices(device, NULL, 0) == YZ_OK);
+    CHECK(yz_device_set_vertices(device, CORNERS, SIZE_MAX / 16) == YZ_BAD_AREA);
+    CHECK(yz_device_set_indices(device, (const uint16_t *)(uintptr_t)0x1001, 1) == YZ_BAD_AREA);
+    CHECK(yz_device_set_scissor(device, &(yz_rect){3, 0, 2, 4}) == YZ_SCISSOR_RECT);
+    CHECK(yz_device_pixel(device, 0, 0, NULL) == YZ_NULL_POINTER && yz_device_get_data(device, 0, NULL) != YZ_OK);
+    CHECK(yz_device_execute(device, NULL, 0) == YZ_NULL_POINTER && yz_device_draw(NULL, 3, 0) == YZ_NULL_POINTER);
+    yz_device_destroy(device);
+}
+
+/* Reads of colours: what fits is written, and nothing else. */
+static void colours(void) {
+    yz_device *const device = created();
+    const yz_rect corner = {60, 60, 63, 63}, outside = {62, 60, 65, 63}, turned = {3, 0, 2, 4};
+    uint8_t bytes[64];
+    memset(bytes, 99, sizeof bytes);
+    CHECK(yz_device_clear_color(device, 1, 2, 3, 4) == YZ_OK);
+    CHECK(yz_device_read(device, YZ_PLANE_RGBA8, &corner, bytes, 43, 16) == YZ_BAD_AREA);
+    CHECK(yz_device_read(device, YZ_PLANE_RGBA8, &corner, bytes, 44, 11) == YZ_BAD_AREA);
+    CHECK(yz_device_read(device, YZ_PLANE_RGBA8, &corner, bytes, 44, SIZE_MAX) == YZ_BAD_AREA);
+    CHECK(yz_device_read(device, YZ_PLANE_RGBA8, &outside, bytes, 44, 16) == YZ_PIXEL_RANGE);
+    CHECK(yz_device_read(device, YZ_PLANE_RGBA8, &turned, bytes, 44, 16) == YZ_PIXEL_RANGE);
+    CHECK(yz_device_read(device, (enum yz_plane)4, &corner, bytes, 44, 16) == YZ_BAD_DESCRIPTION);
+    CHECK(yz_device_read(device, YZ_PLANE_RGBA8, NULL, bytes, 44, 16) == YZ_NULL_POINTER);
+    CHECK(yz_device_read(device, YZ_PLANE_RGBA8, &corner, NULL, 44, 16) == YZ_NULL_POINTER);
+    CHECK(all_are(bytes, sizeof bytes, 99));
+    CHECK(yz_device_read(device, YZ_PLANE_RGBA8, &corner, bytes, 44, 16) == YZ_OK);
+    CHECK(bytes[0] == 1 && bytes[11] == 4 && bytes[12] == 99 && bytes[15] == 99 && bytes[16] == 1);
+    CHECK(bytes[43] == 4 && bytes[44] == 99);
+    CHECK(yz_device_read(device, YZ_PLANE_BGRA8, &corner, bytes, 44, 16) == YZ_OK);
+    CHECK(bytes[0] == 3 && bytes[1] == 2 && bytes[2] == 1 && bytes[3] == 4);
+    CHECK(yz_device_read(device, YZ_PLANE_BGRA8, &(yz_rect){5, 5, 5, 9}, bytes, 0, 0) == YZ_OK);
+    yz_device_destroy(device);
+}
+
+/* Reads of depths and stencils. */
+static void depths(void) {
+    yz_device *const device = created();
+    uint32_t read[8] = {7, 7, 7, 7, 7, 7, 7, 7};
+    uint8_t bytes[8];
+    const yz_rect corner = {1, 1, 3, 3};
+    memset(bytes, 99, sizeof bytes);
+    CHECK(yz_device_clear_depth_stencil(device, 12345678, 77) == YZ_OK);
+    CHECK(yz_device_read(device, YZ_PLANE_DEPTH32, &corner, (uint8_t *)read + 1, 24, 12) == YZ_BAD_AREA);
+    CHECK(yz_device_read(device, YZ_PLANE_DEPTH32, &corner, read, sizeof read, 10) == YZ_BAD_AREA);
+    CHECK(read[0] == 7);
+    CHECK(yz_device_read(device, YZ_PLANE_DEPTH32, &corner, read, sizeof read, 12) == YZ_OK);
+    CHECK(read[0] == 12345678 && read[1] == 12345678 && read[2] == 7 && read[3] == 12345678 && read[4] == 12345678);
+    CHECK(read[5] == 7);
+    CHECK(yz_device_read(device, YZ_PLANE_STENCIL8, &(yz_rect){1, 62, 3, 65}, bytes, 8, 3) == YZ_PIXEL_RANGE);
+    CHECK(all_are(bytes, sizeof bytes, 99));
+    CHECK(yz_device_read(device, YZ_PLANE_STENCIL8, &(yz_rect){1, 62, 3, 64}, bytes, 5, 3) == YZ_OK);
+    CHECK(bytes[0] == 77 && bytes[1] == 77 && bytes[2] == 99 && bytes[3] == 77 && bytes[4] == 77 && bytes[5] == 99);
+    yz_device_destroy(device);
+}
+
+/* A refused call leaves objects, areas and results as they were, and the next call is taken. */
+static void refusals(void) {
+    yz_device *const device = created();
+    yz_context *context = NULL;
+    yz_list *list = NULL;
+    yz_pixel pixel = {.depth = 5};
+    uint64_t count = 5;
+    CHECK(yz_context_create(&context) == YZ_OK && yz_context_begin(context, 5) == YZ_OK);
+    CHECK(yz_context_finish(context, 1, &list) == YZ_QUERY_LEFT_OPEN && list == NULL);
+    CHECK(yz_context_end(context, 5) == YZ_OK && yz_context_finish(context, 1, &list) == YZ_OK && list != NULL);
+    CHECK(yz_device_begin(device, 64) == YZ_QUERY_NUMBER && yz_device_get_data(device, 0, &count) == YZ_NOT_ISSUED);
+    CHECK(yz_device_begin(device, 0) == YZ_OK && yz_device_flush(device) == YZ_QUERY_OPEN);
+    CHECK(yz_device_execute(device, list, 1) == YZ_QUERY_OPEN);
+    CHECK(yz_device_pixel(device, 0, 0, &pixel) == YZ_QUERY_OPEN);
+    CHECK(yz_device_pixel(device, 64, 0, &pixel) == YZ_PIXEL_RANGE && pixel.depth == 5 && count == 5);
+    CHECK(yz_device_end(device, 0) == YZ_OK && yz_device_end(device, 0) == YZ_QUERY_NOT_OPEN);
+    CHECK(yz_device_execute(device, list, 1) == YZ_OK && yz_device_execute(device, list, 0) == YZ_OK);
+    CHECK(yz_device_get_data(device, 5, &count) == YZ_OK && count == 0);
+    CHECK(yz_device_pixel(device, 63, 63, &pixel) == YZ_OK && pixel.depth == 16777215 && pixel.alpha == 0);
+    yz_list_destroy(list), yz_context_destroy(context), yz_device_destroy(device);
+}
+
+static void results(void) {
+    CHECK(strcmp(yz_result_name(YZ_OK), "YZ_OK") == 0 && strcmp(yz_result_name(YZ_BAD_AREA), "YZ_BAD_AREA") == 0);
+    CHECK(strcmp(yz_result_name(16), "YZ_UNKNOWN") == 0 && strcmp(yz_result_name(UINT32_MAX), "YZ_UNKNOWN") == 0);
+    CHECK(strcmp(yz_result_text(YZ_TOPOLOGY_UNSET), yuzuratchet_refusal_text(7)) == 0);
+    for (yz_result result = 0; result < 40; result++) CHECK(yz_result_text(result)[0] != '\0');
+}
+
+/* ---- memory */
+
+static size_t asked, refused_at, held;
+
+static void *take(size_t size) {
+    if (asked++ == refused_at) return NULL;
+    held++;
+    return malloc(size);
+}
+
+static void *resize(void *block, size_t size) { return asked++ == refused_at ? NULL : realloc(block, size); }
+
+static void give(void *block) {
+    held--;
+    free(block);
+}
+
+/* Records a list, of which each call may be refused; whether all were taken. */
+static bool is_recorded(yz_context *context, yz_list **list) {
+    return yz_context_set_vertices(context, CORNERS, 3) == YZ_OK &&
+           yz_context_set_topology(context, YZ_TRIANGLE_LIST) == YZ_OK && yz_context_begin(context, 1) == YZ_OK &&
+           yz_context_draw(context, 3, 0) == YZ_OK && yz_context_end(context, 1) == YZ_OK &&
+           yz_context_finish(context, 1, list) == YZ_OK && yz_context_draw(context, 3, 0) == YZ_OK;
+}
+
+/* A picture by a list; whether each call was taken. */
+static bool is_pictured(void) {
+    yz_device *device = NULL;
+    yz_context *context = NULL;
+    yz_list *list = NULL;
+    yz_pixel pixel = {0};
+    uint64_t count = 0;
+    bool all = yz_device_create(&DESC, &device) == YZ_OK && yz_context_create(&context) == YZ_OK;
+    all = all && is_recorded(context, &list) && yz_device_clear_color(device, 0, 0, 9, 255) == YZ_OK;
+    all = all && yz_device_execute(device, list, 1) == YZ_OK && yz_device_get_data(device, 1, &count) == YZ_OK;
+    all = all && yz_device_pixel(device, 5, 5, &pixel) == YZ_OK;
+    if (all) CHECK(pixel.red == 200 && count == 2016);
+    yz_device_destroy(device), yz_context_destroy(context), yz_list_destroy(list);
+    return all;
+}
+
+static void memory(void) {
+    yuzuratchet_use_memory(&(struct yuzuratchet_memory){take, resize, give});
+    size_t refusals = 0;
+    for (bool done = false; !done; refusals++) {
+        asked = 0, refused_at = refusals;
+        const bool all = is_pictured();
+        done = all && asked <= refused_at; /* some requests are for room that may be done without */
+        CHECK(held == 0 && refusals < 1000);
+    }
+    CHECK(refusals > 10);
+    yuzuratchet_use_memory(NULL);
+}
+
+/* ---- threads */
+
+static yz_context *contexts[8];
+static yz_list *lists[8];
+
+static void *record(void *which) {
+    const uint32_t i = (uint32_t)(uintptr_t)which;
+    yz_context *const context = contexts[i];
+    for (int k = 0; k < 50; k++) {
+        CHECK(yz_context_set_vertices(context, CORNERS, 3) == YZ_OK);
+        CHECK(yz_context_set_topology(context, YZ_TRIANGLE_LIST) == YZ_OK && yz_context_begin(context, i) == YZ_OK);
+        CHECK(yz_context_draw(context, 3, 0) == YZ_OK && yz_context_end(context, i) == YZ_OK);
+        yz_list_destroy(lists[i]);
+        CHECK(yz_context_finish(context, k % 2, &lists[i]) == YZ_OK);
+    }
+    return NULL;
+}
+
+static void threads(void) {
+    pthread_t started[8];
+    yz_device *const device = created();
+    uint64_t count;
+    for (uintptr_t i = 0; i < 8; i++) {
+        CHECK(yz_context_create(&contexts[i]) == YZ_OK);
+        CHECK(pthread_create(&started[i], NULL, record, (void *)i) == 0);
+    }
+    for (int i = 0; i < 8; i++) CHECK(pthread_join(started[i], NULL) == 0);
+    for (uint32_t i = 0; i < 8; i++) {
+        CHECK(yz_device_clear_depth_stencil(device, 16777215, 0) == YZ_OK);
+        CHECK(yz_device_execute(device, lists[i], 1) == YZ_OK);
+        CHECK(yz_device_get_data(device, i, &count) == YZ_OK && count == 2016);
+        yz_context_destroy(contexts[i]), yz_list_destroy(lists[i]);
+    }
+    yz_device_destroy(device);
+}
+
+int main(void) {
+    creations();
+    descriptions();
+    areas();
+    colours();
+    depths();
+    refusals();
+    results();
+    memory();
+    threads();
+    return 0;
+}

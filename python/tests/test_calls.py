@@ -1,0 +1,132 @@
+"""The device by its calls: contexts that draw at once, against what the library draws of a script."""
+
+from __future__ import annotations
+
+import threading
+from pathlib import Path
+
+import numpy as np
+import pytest
+from conftest import DATA, gallery_names
+
+from yuzuratchet import (
+    ArgumentError,
+    CallRefused,
+    LibraryMissing,
+    PixelAnswer,
+    PrimitiveTopology,
+    QueryAnswer,
+    Scene,
+    load_script,
+    run,
+)
+from yuzuratchet.calls import Device, LiveContext
+from yuzuratchet.errors import ProgramFailed, WrongType
+from yuzuratchet.library import run_library
+from yuzuratchet.recipes import count_overlaps
+from yuzuratchet.results import Result
+from yuzuratchet.scene import Context
+from yuzuratchet.shapes import draw_triangles, rectangle
+
+# the slowest scripts take seconds
+SLOW = ("large", "largest-target")
+
+
+@pytest.fixture(autouse=True)
+def library() -> None:
+    """Skips a test where there is no library with these calls."""
+    try:
+        Device(1, 1)
+    except LibraryMissing as error:
+        pytest.skip(str(error).splitlines()[0])
+
+
+@pytest.mark.parametrize("name", [it for it in gallery_names() if not it.startswith(SLOW)])
+def test_the_gallery_by_calls(name: str) -> None:
+    script = (DATA / name).read_bytes()
+    result = Result(run_library(script), script)
+    scene = load_script(DATA / name, strict=False)
+    if result.refused:
+        with pytest.raises(CallRefused) as refused:
+            device = Device(scene.width, scene.height)
+            device.replay(scene)
+            device.immediate.flush()
+        assert refused.value.number == result.refused.number
+        return
+    device = Device(scene.width, scene.height)
+    told = [it.count if isinstance(it, QueryAnswer) else it for it in result.answers]
+    assert device.replay(scene) == told
+    assert np.array_equal(device.image, result.image)
+
+
+def draw(context: Context, immediate: Context) -> None:
+    count_overlaps(context)
+    for at in (8, 24, 40):
+        draw_triangles(context, rectangle(at, at, at + 48, at + 48))
+    immediate.clear_color("#181828")
+
+
+def test_one_function_draws_on_both() -> None:
+    scene, device = Scene(96, 96), Device(96, 96)
+    draw(scene.immediate, scene.immediate)
+    draw(device.immediate, device.immediate)
+    assert np.array_equal(run(scene).image, device.image)
+    assert device.planes.stencil.max() == 3 and device.planes.depth.min() == 16_777_215
+
+
+def test_a_refused_call_is_no_end(tmp_path: Path) -> None:
+    with Device(8, 4) as device:
+        context = device.immediate
+        context.clear_color((1, 2, 3, 4))
+        with pytest.raises(CallRefused, match="refusal 7") as refused:
+            context.draw(3)
+        assert refused.value.number == 7
+        with pytest.raises(CallRefused):
+            context.pixel(8, 0)
+        with pytest.raises(ArgumentError):
+            context.draw(-1)
+        assert context.pixel(7, 3) == PixelAnswer(7, 3, (1, 2, 3, 4), 16_777_215, 0)
+        device.save(tmp_path / "frame.png")
+    with pytest.raises(ProgramFailed, match="closed"):
+        context.flush()
+    device.close()
+
+
+def test_lists_are_executed_again() -> None:
+    device, other = Device(16, 16), Device(16, 16)
+    recorder = device.deferred[3]
+    with recorder.counted(5):
+        draw_triangles(recorder, rectangle(2, 2, 10, 10, colour="#ff8000"))
+    finished = recorder.finish_command_list()
+    for it in (device, device, other):
+        it.immediate.clear_depth_stencil()
+        it.immediate.execute(finished)
+        assert it.immediate.get_data(5) == 64
+    with pytest.raises(WrongType):
+        device.immediate.execute("d3 0")  # type: ignore[arg-type]
+    with recorder.counted(1), pytest.raises(CallRefused, match="refusal 12"):
+        recorder.finish_command_list()
+
+
+def record(context: LiveContext, failed: list[BaseException]) -> None:
+    try:
+        for _ in range(50):
+            context.ia_set_vertices([(0, 0, 0.5, "#ffffff")] * 3)
+            context.ia_set_indices(range(3))
+            context.ia_set_topology(PrimitiveTopology.TRIANGLELIST)
+            context.draw_indexed(3)
+    except BaseException as error:
+        failed.append(error)
+
+
+def test_contexts_on_threads() -> None:
+    device, failed = Device(16, 16), list[BaseException]()
+    several = [*device.deferred, device.immediate, device.immediate]
+    threads = [threading.Thread(target=record, args=(it, failed)) for it in several]
+    for thread in threads:
+        thread.start()
+    for thread in threads:
+        thread.join()
+    for context in device.deferred:
+        device.immediate.execute(context.finish_command_list())
+    assert not failed and device.immediate.pixel(0, 0).colour == (0, 0, 0, 0)
