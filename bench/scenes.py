@@ -116,8 +116,8 @@ def small_triangles(scene: Scene) -> Frame:
     return frame_of(context.finish_command_list())
 
 
-def executed_lists(scene: Scene) -> Frame:
-    """64 lists of 100 small triangles with states of their own, each executed 16 times."""
+def short_lists(scene: Scene) -> list[CommandList]:
+    """64 lists of 100 small triangles with states of their own."""
     chance, lists = random.Random(3), []
     for number in range(64):
         context = scene.deferred[number % 8]
@@ -126,10 +126,29 @@ def executed_lists(scene: Scene) -> Frame:
         context.ia_set_topology(LIST)
         context.draw(300)
         lists.append(context.finish_command_list())
+    return lists
+
+
+def executed_lists(scene: Scene) -> Frame:
+    """64 lists of 100 small triangles with states of their own, each executed 16 times."""
+    lists = short_lists(scene)
 
     def add(immediate: ImmediateContext) -> None:
         for command_list in lists * 16:
             immediate.execute(command_list, True)
+
+    return add
+
+
+def executed_rounds(scene: Scene) -> Frame:
+    """The same lists, executed in 16 rounds, each behind a clear of depth and stencil."""
+    lists = short_lists(scene)
+
+    def add(immediate: ImmediateContext) -> None:
+        for _ in range(16):
+            immediate.clear_depth_stencil(DEEPEST, 0)
+            for command_list in lists:
+                immediate.execute(command_list, True)
 
     return add
 
@@ -208,6 +227,20 @@ def indexed_strip(scene: Scene) -> Frame:
     context.ia_set_indices(STRIP_CUT if at == 65_535 else it for at, it in enumerate(numbers[:65_536]))
     context.ia_set_topology(STRIP)
     context.draw_indexed(65_536)
+    return frame_of(context.finish_command_list())
+
+
+def strip(scene: Scene) -> Frame:
+    """A strip of 60,000 triangles in a zigzag over the target."""
+    chance, corners, context = random.Random(7), [], scene.deferred[0]
+    for place in range(60_002):
+        column, row = place // 470, place % 470 // 2
+        left = 16 * (column + place % 2)
+        corners.append((left, 8.5 * row, chance.randrange(DEEPEST), (place % 256, row, 128, 255)))
+    context.rs_set_state(RasterizerState(cull_mode=CullMode.NONE))
+    context.ia_set_vertices(corners)
+    context.ia_set_topology(STRIP)
+    context.draw(60_002)
     return frame_of(context.finish_command_list())
 
 
@@ -334,6 +367,7 @@ SCENES = {
     "large-triangles": large_triangles,
     "small-triangles": small_triangles,
     "executed-lists": executed_lists,
+    "executed-rounds": executed_rounds,
     "clears": clears,
     "large-xor": large_xor,
     "shadow-volumes": shadow_volumes,
@@ -341,6 +375,7 @@ SCENES = {
     "clear": clear,
     "one-triangle": one_triangle,
     "indexed-strip": indexed_strip,
+    "strip": strip,
     "idle-pixels": idle_pixels,
     "long-script": long_script,
     "largest-target": largest_target,

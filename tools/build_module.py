@@ -3,46 +3,32 @@
 
     tools/build_module.py OUT.wasm
 
-The module has a memory with 64-bit addresses and imports nothing; library/MODULE.md says what it exports. The crate
-yuzuratchet is built by `rt lib`, as for the C library, and what the toolchain hands to its clang for that is compiled
-once more by the same clang, for WebAssembly. (The toolchain's own way to WebAssembly takes no crate whose memory comes
-from malloc.) library/module/heap.c is the heap.
+The module has a memory with 64-bit addresses and imports nothing; library/MODULE.md says what it exports. The crates
+yuzuratchet and device_calls are built by `rt lib`, as for the C library, and what the toolchain hands to its clang for
+that is compiled once more by the same clang, for WebAssembly. (The toolchain's own way to WebAssembly takes no crate
+whose memory comes from malloc.) library/module/heap.c is the heap.
 """
 
 from __future__ import annotations
 
 import argparse
-import os
 import pathlib
 import re
-import shutil
 import sys
 import tempfile
+from collections.abc import Iterable, Mapping
+from concurrent.futures import ThreadPoolExecutor
 
 import package_path  # noqa: F401
-from install_library import CRATE, LIBRARY, NotBuilt, run
+import toolchain
+from install_library import ALONE, CHOSEN, CRATES, DEVICE_CRATE, LIBRARY, SCRIPT_CRATE, calls, device_calls, texts
+from toolchain import NotBuilt, run
 
-EXPORTS = (
-    "yuzuratchet_draw",
-    "yuzuratchet_sizes",
-    "yuzuratchet_lines_bound",
-    "yuzuratchet_image_bound",
-    "yuzuratchet_version",
-    "malloc",
-    "free",
-    "__heap_base",
-)
-SOURCES = ("yuzuratchet.c", "bounds.c", "module/heap.c", "module/wide.c")
-TARGET = (
-    "--target=wasm64-unknown-unknown",
-    "-O3",
-    "-msimd128",
-    "-mbulk-memory",
-    "-msign-ext",
-    "-mnontrapping-fptoint",
-    "-mllvm",
-    "-expand-div-rem-bits=64",
-)
+# what the module exports beside the calls of the C library; its memory functions are its own
+OTHERS, WITHOUT = ("malloc", "free", "__heap_base"), "yuzuratchet_use_memory"
+SOURCES = ("yuzuratchet.c", "yuzuratchet_device.c", "bounds.c", "texts.c", "module/heap.c", "module/wide.c")
+FEATURES = ("simd128", "bulk-memory", "sign-ext", "nontrapping-fptoint")
+TARGET = ("--target=wasm64-unknown-unknown", "-O3", *(f"-m{it}" for it in FEATURES))
 FREESTANDING: tuple[object, ...] = (
     "-std=c11",
     "-ffreestanding",
@@ -53,67 +39,23 @@ FREESTANDING: tuple[object, ...] = (
 WARNINGS = ("-Wall", "-Wextra", "-Werror")
 STACK = 8 << 20
 LINKING = ("-flavor", "wasm", "-mwasm64", "--no-entry", "--gc-sections", "--stack-first", "-z", f"stack-size={STACK}")
-# stands before the toolchain's clang, and keeps what it is given to compile
-KEEPS = """#!/bin/sh
-for word in "$@"; do case "$word" in *.bc) cp "$word" '{kept}';; esac; done
-exec '{clang}' "$@"
-"""
-# builds by the toolchain's own command, but with another folder for its compilers
-BUILDS = """
-import sys
-sys.path.insert(0, {bin!r})
-import rtlib
-call = rtlib.Crate.call
-kits = f"{{rtlib.KIT}}/toolchain"
-rtlib.Crate.call = lambda self, *words: call(self, *[{tools!r} if word == kits else word for word in words])
-sys.exit(rtlib.main("lib"))
-"""
+# the linker compiles the programs, so that what both have stands in the module once
+COMPILING = ("-enable-merge-functions", "-expand-div-rem-bits=64", f"-mattr={','.join(f'+{it}' for it in FEATURES)}")
 
 
-def toolchain() -> pathlib.Path:
-    """The folder of the toolchain."""
-    rt = shutil.which("rt")
-    if rt is None:
-        raise NotBuilt("the command rt is missing: it comes with the toolchain, rattle-kit-13")
-    return pathlib.Path(os.path.realpath(rt)).parent.parent
+def programs(folder: pathlib.Path) -> dict[str, pathlib.Path]:
+    """Each crate whole as LLVM's text, as the toolchain hands it to its clang."""
+    found = {}
+    for crate in (SCRIPT_CRATE, DEVICE_CRATE):
+        room = folder / crate
+        room.mkdir()
+        run(toolchain.watched(room, {"clang": toolchain.KEEPS_PROGRAM}, ["lib"]), cwd=CRATES / crate)
+        found[crate] = toolchain.text_of(toolchain.kept(room, "clang"), room / "program.ll")
+    return found
 
 
-def program_of_crate(kit: pathlib.Path, folder: pathlib.Path) -> pathlib.Path:
-    """The whole crate as LLVM's text, as the toolchain hands it to its clang."""
-    tools, kept = folder / "toolchain", folder / "kept.bc"
-    (tools / "bin").mkdir(parents=True)
-    (tools / "lib").symlink_to(kit / "toolchain" / "lib")
-    for tool in (kit / "toolchain" / "bin").iterdir():
-        (tools / "bin" / tool.name).symlink_to(tool)
-    clang = kit / "toolchain" / "bin" / "clang"
-    (tools / "bin" / "clang").unlink()
-    (tools / "bin" / "clang").write_text(KEEPS.format(kept=kept, clang=clang))
-    (tools / "bin" / "clang").chmod(0o755)
-    run([sys.executable, "-c", BUILDS.format(bin=str(kit / "bin"), tools=str(tools))], cwd=CRATE)
-    if not kept.exists():
-        raise NotBuilt("the toolchain handed no program to its clang")
-    text = folder / "program.ll"
-    run(
-        [
-            clang,
-            "--target=x86_64-unknown-linux-gnu",
-            "-x",
-            "ir",
-            kept,
-            "-S",
-            "-emit-llvm",
-            "-O0",
-            "-Xclang",
-            "-disable-llvm-passes",
-            "-o",
-            text,
-        ]
-    )
-    return text
-
-
-def for_module(text: str) -> str:
-    """The same program with nothing said of the processor that it was made for.
+def for_module(text: str, names: Iterable[str]) -> str:
+    """The same program with nothing said of the processor that it was made for, and with no name outside but some.
 
     Where it calls one's own instructions it can't be moved.
     """
@@ -121,28 +63,37 @@ def for_module(text: str) -> str:
     if own:
         raise NotBuilt(f"the program calls instructions of x86 alone: {', '.join(own)}")
     text = re.sub(r"^target (datalayout|triple) = .*\n", "", text, flags=re.M)
-    return re.sub(r' "(probe-stack|stack-probe-size|target-cpu|target-features|tune-cpu)"="[^"]*"', "", text)
+    text = re.sub(r' "(probe-stack|stack-probe-size|target-cpu|target-features|tune-cpu)"="[^"]*"', "", text)
+    kept = "|".join(map(re.escape, names))
+    return re.sub(rf"^define (?!internal |private |[^@\n]*@(?:{kept})\()", "define internal ", text, flags=re.M)
 
 
 def build(out: pathlib.Path) -> None:
     """Builds the module into a file."""
-    kit = toolchain()
     with tempfile.TemporaryDirectory() as room:
-        program = program_of_crate(kit, pathlib.Path(room))
-        program.write_text(for_module(program.read_text()))
-        link(kit, program, pathlib.Path(room), out)
+        link(programs(pathlib.Path(room)), pathlib.Path(room), out)
 
 
-def link(kit: pathlib.Path, program: pathlib.Path, folder: pathlib.Path, out: pathlib.Path) -> None:
-    """Compiles the program and the C of the module, in a folder, and links them into a file."""
-    clang, linker = kit / "toolchain" / "bin" / "clang", kit / "toolchain" / "bin" / "ld.lld"
-    run([clang, *TARGET, "-x", "ir", program, "-c", "-o", folder / "program.o"])
-    objects = [folder / "program.o"]
+def link(programs_of: Mapping[str, pathlib.Path], folder: pathlib.Path, out: pathlib.Path) -> None:
+    """Compiles the crates' programs of LLVM's text and the C of the module, in a folder, and links them into a file."""
+    clang, linker = toolchain.tool("clang"), toolchain.tool("ld.lld")
+    names = {SCRIPT_CRATE: (*CHOSEN, *ALONE), DEVICE_CRATE: device_calls()}
+
+    def compiled(crate: str) -> pathlib.Path:
+        program, made = folder / f"{crate}-module.ll", folder / f"{crate}-module.o"
+        program.write_text(for_module(programs_of[crate].read_text(), names[crate]))
+        run([clang, *TARGET, "-flto", "-x", "ir", program, "-c", "-o", made])
+        return made
+
+    with ThreadPoolExecutor(len(names)) as pool:
+        objects = list(pool.map(compiled, names))
+    (folder / "texts.inc").write_text(texts(), encoding="ascii")
     for source in (LIBRARY / name for name in SOURCES):
         objects.append(folder / f"{source.stem}.o")
-        run([clang, *TARGET, *FREESTANDING, *WARNINGS, "-c", source, "-o", objects[-1]])
-    exports = [f"--export={name}" for name in EXPORTS]
-    run([linker, *LINKING, *exports, *objects, "-o", out])
+        run([clang, *TARGET, *FREESTANDING, f"-I{folder}", *WARNINGS, "-c", source, "-o", objects[-1]])
+    exported = [f"--export={name}" for name in sorted({*calls(), *OTHERS} - {WITHOUT})]
+    compiling = [word for it in COMPILING for word in ("-mllvm", it)]
+    run([linker, *LINKING, "--lto-O3", *compiling, *exported, *objects, "-o", out])
 
 
 def main() -> None:

@@ -5,10 +5,11 @@
 
 Standard descriptors that are closed, in all eight combinations, or can't be held, no descriptor left, a full device,
 a closed pipe, files and folders that are missing or can't be read, threads that don't start, wrong words, `--help`,
-scripts with a fault or a refused line, one cut at every byte, lists that are full or too full, and scripts of many
-short lines, whose time has to grow with their length alone. The answers and images that are wanted come from
-plain_device.py. A line is printed for each run, `right NAME` or `WRONG NAME: why` (`not tried` where root runs this,
-and another user, whom files can be closed to, can't reach the program). The status is 0 where none is wrong.
+scripts with a fault or a refused line, one cut at every byte, lists that are full or too full, scripts of many short
+lines, whose time has to grow with their length alone, and many executions, whose memory mustn't. The answers and
+images that are wanted come from plain_device.py. A line is printed for each run, `right NAME` or `WRONG NAME: why`
+(`not tried` where root runs this, and another user, whom files can be closed to, can't reach the program). The status
+is 0 where none is wrong.
 """
 
 from __future__ import annotations
@@ -77,6 +78,9 @@ LONG = {
     "executions without the state": (LIST, "i exec d0 0 0\n", 200_000),
     "flushes with nothing pending": ("", "i flush\n", 100_000),
 }
+
+# how many kilobytes executions that wait may take, however many there are
+MOST_WAITING = 49_152
 
 
 @dataclasses.dataclass(frozen=True)
@@ -365,6 +369,34 @@ def try_long_scripts(runs: Runs) -> None:
             runs.say(f"{times:,} {name}, {workers} workers", complaint)
 
 
+def peak(runs: Runs, words: Words) -> tuple[int, str]:
+    """The largest resident set of a run, in kilobytes, and what it printed."""
+    with subprocess.Popen([runs.program, *words], stdout=subprocess.PIPE, text=True, cwd=runs.room) as process:
+        assert process.stdout
+        printed = process.stdout.read()
+        _, status, used = os.wait4(process.pid, 0)
+        process.returncode = os.waitstatus_to_exitcode(status)
+    return int(used.ru_maxrss), printed
+
+
+def try_many_executions(runs: Runs) -> None:
+    """What waits is bounded: 200,000 executions take little more memory than as many lines that execute nothing."""
+    waiting, idle = runs.room / "waiting.txt", runs.room / "idle.txt"
+    begun, once, ended = "target 4 4\n" + LIST, "i exec d0 0 1\n", "i pixel 0 0\n"
+    waiting.write_text(begun + 200_000 * once + ended, encoding="ascii")
+    idle.write_text(begun + 200_000 * "i flush\n" + ended, encoding="ascii")
+    answers, _ = plain_device.evaluate((begun + once + ended).encode())
+    for workers in ("0", "3", "15"):
+        more, printed = peak(runs, [waiting, "image.tga", "--workers", workers])
+        less, _ = peak(runs, [idle, "image.tga", "--workers", workers])
+        complaint = None
+        if printed != answers:
+            complaint = f"printed {printed[:80]!r}, and not {answers!r}"
+        elif more > less + MOST_WAITING:
+            complaint = f"{more} KB, and {less} KB for lines that execute nothing"
+        runs.say(f"the memory of 200,000 executions, {workers} workers", complaint)
+
+
 def try_words(runs: Runs) -> None:
     """Words that are not taken: nothing is opened or written, and the first line of the text is that of the parser."""
     for words, wanted in WORDS.items():
@@ -387,6 +419,7 @@ ATTEMPTS = (
     try_cuts,
     try_full_lists,
     try_long_scripts,
+    try_many_executions,
     try_words,
 )
 

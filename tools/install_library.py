@@ -1,10 +1,10 @@
 #!/usr/bin/env python3
 """Builds the C library of the device, and installs it into a folder.
 
-    tools/install_library.py PREFIX [--stage FOLDER] [--libdir NAME]
+    tools/install_library.py PREFIX [--stage FOLDER] [--libdir NAME] [--checked]
     tools/install_library.py PREFIX --uninstall
 
-Into PREFIX go the header, an archive, a shared object with its links, a file for pkg-config, a package for CMake and
+Into PREFIX go the headers, an archive, a shared object with its links, a file for pkg-config, a package for CMake and
 manual pages. A program is built by
 
     cc program.c $(PKG_CONFIG_PATH=PREFIX/lib/pkgconfig pkg-config --cflags --libs yuzuratchet)
@@ -14,10 +14,12 @@ or, in CMake with PREFIX in CMAKE_PREFIX_PATH, by
     find_package(Yuzuratchet)
     target_link_libraries(program Yuzuratchet::Yuzuratchet)     # or Yuzuratchet::Static
 
-The crate yuzuratchet is built by `rt lib`, which proves what it has not proved on this checkout yet: a minute or two
-behind a gate run or a check, and up to an hour and a half on a fresh clone. The C files in library/ are compiled by
-$CC, or cc. With --stage the files go into that folder in place of the root, as packagers want it. --uninstall takes
-away what an installation of this version has put there.
+The crates yuzuratchet and device_calls are built by `rt lib`, which proves what it has not proved on this checkout yet:
+a minute or two behind a gate run or a check, and up to an hour and a half on a fresh clone. They are compiled twice,
+for x86-64-v2 and for x86-64-v3, and the library takes what the processor has. The C files in library/ are compiled by
+$CC, or cc; with --checked so that a call by an object that was destroyed, or is of another kind, ends the process. With
+--stage the files go into that folder in place of the root, as packagers want it. --uninstall takes away what an
+installation of this version has put there.
 """
 
 from __future__ import annotations
@@ -32,17 +34,32 @@ import shutil
 import subprocess
 import sys
 import tempfile
-from collections.abc import Iterable
-from typing import Any
+from collections.abc import Mapping, Sequence
 
 import package_path
+from toolchain import NotBuilt, kit, run
 from yuzuratchet import __version__
 from yuzuratchet.library import STATUSES
 from yuzuratchet.messages import FAULTS, REFUSALS
 
 LIBRARY = package_path.TOP / "library"
-CRATE = package_path.TOP / "crates" / "yuzuratchet"
-SOURCES = ("yuzuratchet", "bounds", "memory", "texts")
+CRATES = package_path.TOP / "crates"
+# the crates of scripts and of calls by handle, and what stands before the names of the builds of each
+SCRIPT_CRATE, DEVICE_CRATE = "yuzuratchet", "device_calls"
+DEVICE = "device-"
+LIBRARIES = {SCRIPT_CRATE: "", DEVICE_CRATE: DEVICE}
+SOURCES = (
+    *("yuzuratchet", "bounds", "memory", "texts", "chosen", "processor"),
+    *("yuzuratchet_device", "chosen_device", "live_objects"),
+)
+HEADERS = ("yuzuratchet.h", "yuzuratchet_device.h")
+CHECKED = "-DYZ_CHECKED"
+# the proved code is compiled for each of these processors; library/chosen.c chooses between these functions, and
+# library/chosen_device.c between all of the crate device_calls
+PROCESSORS = {"v2": "x86-64-v2", "v3": "x86-64-v3"}
+CHOSEN = ("yuzuratchet_draw_fitting", "yuzuratchet_sizes_fitting")
+ALONE = ("yuzuratchet_examine", "yuzuratchet_version")
+Builds = Mapping[str, pathlib.Path]
 FLAGS = ("-std=c11", "-O2", "-fPIC", "-Wall", "-Wextra", "-Werror")
 MAP = LIBRARY / "yuzuratchet.map"
 MANUAL = LIBRARY / "yuzuratchet.h.3"
@@ -52,39 +69,27 @@ SHARED = f"libyuzuratchet.so.{__version__}"
 LINKING = (
     f"-Wl,-soname,{SONAME}",
     f"-Wl,--version-script={MAP}",
-    "-Wl,-z,noexecstack,-z,defs,-z,relro,-z,now",
+    "-Wl,-z,noexecstack,-z,defs,-z,relro,-z,now,--gc-sections",
     "-Wl,-z,x86-64-v2",
 )
 LINKS = {SONAME: SHARED, "libyuzuratchet.so": SONAME}
 
 
-class NotBuilt(Exception):
-    """Why the library can't be built, in a sentence."""
-
-
-def run(words: Iterable[object], **how: Any) -> str:
-    """Runs a command; where it fails, its last lines say why."""
-    command = [str(word) for word in words]
-    if shutil.which(command[0]) is None:
-        raise NotBuilt(f"the command {command[0]} is missing")
-    pipes: dict[str, Any] = {"stdin": subprocess.DEVNULL, "stdout": subprocess.PIPE, "stderr": subprocess.STDOUT}
-    ran = subprocess.run(command, text=True, errors="replace", check=False, **pipes, **how)
-    if ran.returncode != 0:
-        last = "\n".join(ran.stdout.splitlines()[-12:])
-        raise NotBuilt(f"`{shlex.join(command)}` failed with status {ran.returncode}:\n{last}")
-    return str(ran.stdout)
-
-
 # ---- building
 
 
-def proved_archive() -> pathlib.Path:
-    """The static library of the crate, as `rt lib` builds it."""
-    if shutil.which("rt") is None:
-        raise NotBuilt("the command rt is missing: it comes with the toolchain, rattle-kit-13")
-    print("rt lib, in crates/yuzuratchet", flush=True)
-    run(["rt", "lib"], cwd=CRATE)
-    return CRATE / "out" / "libyuzuratchet.a"
+def proved_archives(folder: pathlib.Path) -> Builds:
+    """The static library of each crate for each processor, as `rt lib` builds it, in a folder."""
+    kit()  # (so that it is told at once where there is none)
+    found = {}
+    for crate, before in LIBRARIES.items():
+        for name, processor in reversed(PROCESSORS.items()):  # (so that the first one's stays in the crate)
+            flags = [] if name == "v2" else ["--cpu", processor]
+            print(shlex.join(["rt", "lib", *flags]) + f", in crates/{crate}", flush=True)
+            run(["rt", "lib", *flags], cwd=CRATES / crate)
+            found[before + name] = folder / f"{before}{name}.a"
+            shutil.copy(CRATES / crate / "out" / f"lib{crate}.a", found[before + name])
+    return found
 
 
 def compiler() -> list[str]:
@@ -93,7 +98,19 @@ def compiler() -> list[str]:
 
 def calls() -> list[str]:
     """What a program may call, as the map of versions lists it; all other names stay within the library."""
-    return re.findall(r"^ +(yuzuratchet_\w+);$", MAP.read_text(encoding="ascii"), re.M)
+    return re.findall(r"^ +((?:yuzuratchet|yz)_\w+);$", MAP.read_text(encoding="ascii"), re.M)
+
+
+def calls_by_script() -> list[str]:
+    """Those of them that take a script, or tell of what these say."""
+    return sorted(name for name in calls() if name.startswith("yuzuratchet_"))
+
+
+def device_calls() -> list[str]:
+    """The functions of the crate device_calls."""
+    sources = sorted((CRATES / "device_calls" / "src").glob("*.rt"))
+    text = "".join(it.read_text(encoding="utf-8") for it in sources)
+    return re.findall(r'extern "C" fn (\w+)\(', text)
 
 
 def texts() -> str:
@@ -105,16 +122,28 @@ def texts() -> str:
     return "".join(rows)
 
 
-def whole_object(archive: pathlib.Path, folder: pathlib.Path) -> pathlib.Path:
+def proved_object(name: str, build: pathlib.Path, folder: pathlib.Path) -> pathlib.Path:
+    """The object of one build, whose chosen functions have the build's name behind their own."""
+    own, renamed = folder / f"{name}-own.o", folder / f"{name}.o"
+    if build.suffix == ".a":
+        own.write_bytes(subprocess.run(["ar", "p", build], stdout=subprocess.PIPE, check=True).stdout)
+    else:
+        shutil.copy(build, own)
+    alone = ALONE if name == "v2" else ()
+    chosen = device_calls() if name.startswith(DEVICE) else CHOSEN
+    run(["objcopy", *[f"--keep-global-symbol={it}" for it in (*chosen, *alone)], own])
+    processor = name.removeprefix(DEVICE)
+    run(["objcopy", *[f"--redefine-sym={it}={it}_{processor}" for it in chosen], own, renamed])
+    return renamed
+
+
+def whole_object(builds: Builds, folder: pathlib.Path, flags: Sequence[str] = ()) -> pathlib.Path:
     """One object of the proved code and of the C files, whose only names are those that a program may call."""
-    run(["ar", "x", archive], cwd=folder)
-    proved = folder / "proved.o"
-    (folder / run(["ar", "t", archive]).split()[0]).rename(proved)
     (folder / "texts.inc").write_text(texts(), encoding="ascii")
-    objects = [proved]
+    objects = [proved_object(name, build, folder) for name, build in builds.items()]
     for name in SOURCES:
         made = folder / f"{name}.o"
-        run([*compiler(), *FLAGS, f"-I{folder}", "-c", LIBRARY / f"{name}.c", "-o", made])
+        run([*compiler(), *FLAGS, *flags, f"-I{folder}", "-c", LIBRARY / f"{name}.c", "-o", made])
         objects.append(made)
     joined, whole = folder / "joined.o", folder / "whole.o"
     run(["ld", "-r", "-o", joined, *objects])
@@ -122,11 +151,11 @@ def whole_object(archive: pathlib.Path, folder: pathlib.Path) -> pathlib.Path:
     return whole
 
 
-def build(folder: pathlib.Path, archive: pathlib.Path | None = None) -> None:
-    """Builds the archive and the shared object into a folder, of the proved archive or of another one."""
-    archive = archive or proved_archive()
+def build(folder: pathlib.Path, builds: Builds | None = None, flags: Sequence[str] = ()) -> None:
+    """Builds the archive and the shared object into a folder, of the proved archives or of other builds."""
     with tempfile.TemporaryDirectory() as parts:
-        whole = whole_object(archive, pathlib.Path(parts))
+        room = pathlib.Path(parts)
+        whole = whole_object(builds or proved_archives(room), room, flags)
         static = folder / "libyuzuratchet.a"
         static.unlink(missing_ok=True)
         run(["ar", "rcsD", static, whole])
@@ -154,7 +183,7 @@ def written(prefix: pathlib.Path, libdir: str) -> dict[str, str]:
     }
     found = {where: filled((LIBRARY / name).read_text(encoding="ascii"), values) for where, name in templates.items()}
     # (`man yuzuratchet_draw` shows the page of the header)
-    return {**found, **{f"share/man/man3/{name}.3": f".so man3/{MANUAL.name}\n" for name in calls()}}
+    return {**found, **{f"share/man/man3/{name}.3": f".so man3/{MANUAL.name}\n" for name in calls_by_script()}}
 
 
 def filled(template: str, values: dict[str, object]) -> str:
@@ -165,7 +194,8 @@ def filled(template: str, values: dict[str, object]) -> str:
 def installed_files(prefix: pathlib.Path, libdir: str) -> list[str]:
     """All that an installation puts below the prefix."""
     built = [f"{libdir}/{name}" for name in ("libyuzuratchet.a", SHARED, *LINKS)]
-    return ["include/yuzuratchet.h", f"share/man/man3/{MANUAL.name}", *built, *written(prefix, libdir)]
+    headers = [f"include/{name}" for name in HEADERS]
+    return [*headers, f"share/man/man3/{MANUAL.name}", *built, *written(prefix, libdir)]
 
 
 def root_of(prefix: str | pathlib.Path, stage: str | None) -> tuple[pathlib.Path, pathlib.Path]:
@@ -175,14 +205,19 @@ def root_of(prefix: str | pathlib.Path, stage: str | None) -> tuple[pathlib.Path
 
 
 def install(
-    prefix: str | pathlib.Path, stage: str | None = None, libdir: str = "lib", archive: pathlib.Path | None = None
+    prefix: str | pathlib.Path,
+    stage: str | None = None,
+    libdir: str = "lib",
+    builds: Builds | None = None,
+    flags: Sequence[str] = (),
 ) -> pathlib.Path:
     """Builds the library and puts it below a prefix, or below a stage that stands for the root."""
     root, to = root_of(prefix, stage)
     for name in installed_files(root, libdir):
         (to / name).parent.mkdir(parents=True, exist_ok=True)
-    build(to / libdir, archive)
-    shutil.copy(LIBRARY / "yuzuratchet.h", to / "include")
+    build(to / libdir, builds, flags)
+    for name in HEADERS:
+        shutil.copy(LIBRARY / name, to / "include")
     shutil.copy(MANUAL, to / "share" / "man" / "man3")
     for name, target in LINKS.items():
         (to / libdir / name).unlink(missing_ok=True)
@@ -216,6 +251,7 @@ def parsed() -> argparse.Namespace:
         default="lib",
         help="where libraries lie below PREFIX, as lib/x86_64-linux-gnu (lib)",
     )
+    parser.add_argument("--checked", action="store_true", help="calls look whether an object is one")
     parser.add_argument("--uninstall", action="store_true", help="takes an installation of this version away")
     return parser.parse_args()
 
@@ -226,7 +262,8 @@ def main() -> None:
         if words.uninstall:
             print(f"{uninstall(words.prefix, words.stage, words.libdir)} files taken away")
         else:
-            print(f"installed into {install(words.prefix, words.stage, words.libdir)}")
+            flags = [CHECKED] if words.checked else []
+            print(f"installed into {install(words.prefix, words.stage, words.libdir, flags=flags)}")
     except (NotBuilt, OSError) as error:
         sys.exit(f"install_library.py: {error}")
 

@@ -5,6 +5,7 @@
 // Of each script NAME of FOLDER it prints, by the TASK
 //
 //     gallery     answers and digest, as crates/gallery/stdout has them
+//     calls       its name, where its calls leave what it leaves
 //     history     how many lines changed some pixels, which it asks in two ways
 //     steps       the history of four pixels, as JSON
 //     memory      its name, where 200 drawings more take no more memory
@@ -15,13 +16,14 @@ import path from "path";
 import { createHash } from "crypto";
 
 import { blame } from "../web/engine/blame.js";
-import { Device } from "../web/engine/device.js";
 import { PixelHistory, same } from "../web/engine/history.js";
 import { Language } from "../web/engine/language.js";
-import { planesBehind } from "../web/engine/planes.js";
-import { answersOf, pixelsBehind, play, refusalOf } from "../web/engine/playing.js";
-import { Script, textOf } from "../web/engine/script.js";
+import { Module } from "../web/engine/module.js";
+import { Player } from "../web/engine/player.js";
+import { answersOf, pixelOf, play, refusalOf } from "../web/engine/playing.js";
+import { Script, bytesOf, joined, textOf } from "../web/engine/script.js";
 import { decodeTarga } from "../web/engine/targa.js";
+import { imageLine, played } from "../web/tests/played.js";
 
 const [module, tablesFile, task, folder, ...names] = process.argv.slice(2);
 const tables = JSON.parse(fs.readFileSync(tablesFile, "utf8"));
@@ -34,13 +36,28 @@ function gallery(device, name, bytes) {
     console.log(`${name}\n${answers}image ${createHash("sha256").update(image).digest("hex")}`);
 }
 
+/** Compares what a script's calls leave with what it leaves as a text. */
+function calls(device, name, bytes) {
+    const { lines, image } = device.draw(bytes);
+    const [wanted, found] = [[...answersOf(lines), imageLine([image])], played(device, new Script(bytes))];
+    if (String(found) !== String(wanted)) throw new Error(`${name}: ${found}, and not ${wanted}`);
+    console.log(name);
+}
+
 /** The steps of a pixel. */
 function stepsOf(draw, script, pixel) {
     return new PixelHistory(draw, script, tables, pixel).steps(script.count);
 }
 
+/** What a pixel holds behind a line, asked by a line of the script. */
+function pixelBehind(draw, script, last, { x, y }) {
+    const { lines } = draw(joined([script.closedAt(last), bytesOf(`i pixel ${x} ${y}\n`)]));
+    return pixelOf(answersOf(lines).pop());
+}
+
 /**
- * Compares the lines that a pixel's history tells with those behind which the pixel holds something else than before.
+ * Compares the lines that a pixel's history tells with those behind which the pixel holds something else than before,
+ * and what it holds at the end with the planes of a device that its calls draw on.
  */
 function history(device, name, bytes) {
     const draw = (text) => device.draw(text);
@@ -48,12 +65,13 @@ function history(device, name, bytes) {
     const played = play(draw, script, script.count);
     if (played.refused) return;
     const { width, height } = decodeTarga(played.image);
-    const planes = planesBehind(draw, script, script.count, { width, height }, 1);
+    const player = new Player(device, script).playTo(script.count);
+    const planes = player.device.planes();
+    player.dispose();
     let changes = 0;
     for (let at = 0; at < 12; at++) {
         const pixel = { x: (at * 7919 + 3) % width, y: (at * 104729 + 5) % height };
-        const area = { left: pixel.x, top: pixel.y, width: 1, height: 1 };
-        const held = Array.from({ length: script.count }, (_, line) => pixelsBehind(draw, script, line + 1, area)[0]);
+        const held = Array.from({ length: script.count }, (_, line) => pixelBehind(draw, script, line + 1, pixel));
         const steps = stepsOf(draw, script, pixel);
         const plain =
             held.map((_, line) => line + 1).filter((line) => line > 1 && !same(held[line - 1], held[line - 2]));
@@ -113,7 +131,7 @@ function blamed(device, name, bytes) {
     console.log(JSON.stringify(refused && [refused.line, refused.number, place && place.start, place && place.end]));
 }
 
-const device = await Device.of(fs.readFileSync(module), tables.library);
+const device = await Module.of(fs.readFileSync(module), tables.library);
 for (const name of names)
-    ({ gallery, history, steps, memory, blamed })[task](
+    ({ gallery, calls, history, steps, memory, blamed })[task](
         device, name, new Uint8Array(fs.readFileSync(path.join(folder, name))));

@@ -17,7 +17,16 @@ from fnmatch import fnmatch
 from pathlib import Path
 
 TOP = Path(__file__).resolve().parent.parent
-PATTERNS = ("*.md", "docs/**/*.md", "bench/*.md", "python/*.md", "library/*.md", "web/*.md", ".github/**/*.md")
+PATTERNS = (
+    "*.md",
+    "docs/**/*.md",
+    "bench/*.md",
+    "python/*.md",
+    "library/*.md",
+    "tools/*/*.md",
+    "web/*.md",
+    ".github/**/*.md",
+)
 
 LONGEST_LINE = 120
 # lines of a page, and letters of a line of it, tables included
@@ -26,7 +35,7 @@ LONGEST = {"docs/ARCHITECTURE.md": 140}
 LONGEST_CELL = {"README.md": 100}
 # of these all words together, as `wc -w` counts them
 COUNTED = ("README.md", "docs/**/*.md", "bench/*.md", "python/README.md")
-MOST_WORDS = 26_000
+MOST_WORDS = 29_300
 
 LINK = re.compile(r"!?\[[^\]]*\]\(([^()\s]+)\)|(?:src|href)=\"([^\"]+)\"")
 # what a page names by a path: a file of one of the folders, in backticks or not

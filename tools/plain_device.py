@@ -7,7 +7,8 @@ It answers what the program answers: the answer lines, with the `refused` line w
 is refused, and the image, which is empty then. It shares nothing with the program: cover is told by the sign of each
 edge against the opposite vertex, depth by one exact division a pixel, state by copies of settings, an issue's count
 by adding one at each pixel where both tests pass. Lines are read, and refusals decided, by the package in python/. It
-is slow. `--workers N` is taken and changes nothing, so that it can stand in for the program.
+is slow. `--workers N` is taken and changes nothing, so that it can stand in for the program. `history` tells what
+touched one pixel.
 """
 
 from __future__ import annotations
@@ -15,6 +16,7 @@ from __future__ import annotations
 import argparse
 import sys
 from collections.abc import Callable, Sequence
+from dataclasses import dataclass
 
 import package_path  # noqa: F401
 from yuzuratchet.assembly import triangles
@@ -28,6 +30,7 @@ from yuzuratchet.states import BlendState, RasterizerState
 
 Place = tuple[int, int]
 Colour = tuple[int, ...]
+Held = tuple[Colour, int, int]
 
 
 # ---- the rasterizer
@@ -197,7 +200,7 @@ class Target:
         self.color[at] = new_color(state.blend, rgba, self.color[at])
         return True
 
-    def pixel(self, x: int, y: int) -> tuple[Colour, int, int]:
+    def pixel(self, x: int, y: int) -> Held:
         at = y * self.width + x
         return self.color[at], self.depth[at], self.stencil[at]
 
@@ -253,6 +256,83 @@ class PlainSession(Session):
             color, depth, stencil = self.target.pixel(*line.arguments)
             values = [*line.arguments, *color, depth, stencil]
         self.answers.append(" ".join(map(str, [line.word, *values])))
+
+
+# ---- the history of a pixel
+
+
+@dataclass(frozen=True)
+class Event:
+    """What an item did to a pixel that it touched. An item is a clear, or a triangle of a draw, drawn or not.
+
+    ``item`` counts those that are performed, in the order of execution, from 0 on; ``line`` is that of the call, and
+    ``executed_by`` the line that executed its list; ``triangle`` counts those of the draw, and is 0 for a clear.
+    """
+
+    item: int
+    line: int
+    executed_by: int | None
+    triangle: int
+    stencil_passed: bool
+    depth_passed: bool
+    before: Held
+    after: Held
+
+
+class PixelHistory(PlainSession):
+    """A plain session that gathers what touches one pixel, while it draws the whole target."""
+
+    def __init__(self, width: int, height: int, x: int, y: int) -> None:
+        super().__init__(width, height)
+        self.place = x, y
+        self.items = 0
+        self.events: list[Event] = []
+        self.executed_by: int | None = None
+
+    def perform(self, number: int, commands: CommandItems, is_list: bool) -> None:
+        self.executed_by = number if is_list else None
+        super().perform(number, commands, is_list)
+
+    def perform_item(self, item: Item) -> int:
+        if item.line.word.startswith("clear"):
+            before = self.target.pixel(*self.place)
+            super().perform_item(item)
+            self.add(item, 0, (True, True), before)
+            return 0
+        passed = 0
+        for number, triangle in enumerate(triangles_of(item)):
+            before, tests = self.target.pixel(*self.place), self.tests(item.state, triangle)
+            passed += self.target.draw(triangle, item.state)
+            self.add(item, number, tests, before)
+        return passed
+
+    def tests(self, state: State, triangle: Triangle) -> tuple[bool, bool] | None:
+        """Whether the stencil and the depth test pass at the pixel; None where the triangle doesn't reach it."""
+        if triangle.is_culled(state.rasterizer) or is_cut(state, *self.place):
+            return None
+        weights = triangle.weights(*self.place)
+        if weights is None:
+            return None
+        _, depth, stencil = self.target.pixel(*self.place)
+        return tested(state, triangle.is_front(state.rasterizer), triangle.depth(weights), depth, stencil)
+
+    def add(self, item: Item, triangle: int, tests: tuple[bool, bool] | None, before: Held) -> None:
+        """Counts an item, and adds its event where it touched the pixel."""
+        if tests is not None:
+            after = self.target.pixel(*self.place)
+            self.events.append(Event(self.items, item.number, self.executed_by, triangle, *tests, before, after))
+        self.items += 1
+
+
+def history(text: str | bytes, x: int, y: int) -> list[Event]:
+    """What touched a pixel of a script's target, in order. Raises what `parse` and `Session` raise."""
+    width, height, lines = parse(text)
+    session = PixelHistory(width, height, x, y)
+    session.take_all(lines)
+    return session.events
+
+
+# ---- a script
 
 
 def evaluate(text: str | bytes) -> tuple[str, bytes]:

@@ -1,7 +1,8 @@
 #!/bin/sh
 # All tests: what looks over sources and pages, the package's tests, then the gate, which takes every proof, wrong body,
 # test and stored run from nothing, and then what stands above it, over what it built: the C library, Python over it,
-# the page, the package once more, and short comparisons of `check` and `explain` with the device.
+# the page, the package once more, the files of a release, short comparisons of `check` and `explain` with the
+# device, and other devices beside it.
 #
 # The last line is the gate's. The line before it names what failed, and what was skipped for want of a program. The
 # status is the gate's where that isn't 0, and else 1 where another part failed.
@@ -39,10 +40,31 @@ package_again() {
     fi
 }
 
+# what a release is built by, from Debian's packages where it is missing
+get_release_tools() (
+    name=release
+    # shellcheck source=python/environment.sh
+    . python/environment.sh
+    from_debian musl-tools python3-shtab python3-argparse-manpage python3-setuptools python3-wheel
+)
+
+# the files of a release, of a build that says it isn't proved and takes minutes; that the gate passed is kept for the
+# release itself
+release() {
+    for tool in musl-gcc shtab argparse-manpage dpkg-deb; do
+        command -v "$tool" >/dev/null || get_release_tools || true
+        command -v "$tool" >/dev/null || { echo "skipped release: the command $tool is missing" && return; }
+    done
+    tools/make_release.py --gate "$room/said" || true
+    tools/make_release.py --checked "$room/dist" && tools/test_release.py "$room/dist"
+}
+
 # what was skipped, a line each
 skipped() {
     sed -n 's/^lint: .*; skipped: //p' "$room/lint"
-    [ ! -e "$room/library" ] || sed -n 's/^skipped //p' "$room/library"
+    for run in library release devices; do
+        [ ! -e "$room/$run" ] || sed -n 's/^skipped //p' "$room/$run"
+    done
     for run in package-again package; do
         [ -e "$room/$run" ] || continue
         awk '/^SKIPPED / { count = substr($2, 2) + 0; sub(/^SKIPPED [^ ]+ [^ ]+ /, ""); of[$0] += count }
@@ -68,10 +90,12 @@ gate=$(cat "$room/gate")
 part library tools/test_library.py --prefix "$room/prefix"
 if [ -x crates/tiledraw/out/tiledraw ]; then
     part package-again package_again
+    [ "$gate" -ne 0 ] || part release release
     part checked tools/compare_checked.py 1000
     part explained tools/compare_explained.py 100
+    part devices tools/test_devices.py
 else
-    failed="$failed${failed:+, }program (so the package's tests, compare_checked and compare_explained weren't run over it)"
+    failed="$failed${failed:+, }program (so the package's tests, compare_checked, compare_explained and test_devices weren't run over it)"
 fi
 
 printf '\nfailed: %s; skipped: %s\n' "${failed:-nothing}" "$(skipped | joined)"

@@ -13,9 +13,12 @@ It installs the library into a folder of its own (or takes the one in FOLDER), a
   crates/gallery/stdout;
 - draws random scenes through C and holds each byte against the built program (10,000 scenes) or, where there is none,
   against plain_device.py (400);
+- plays the same scripts, and random ones, by calls of yuzuratchet_device.h, and holds all against yuzuratchet_draw;
+- tries these calls at their edges, under the thread sanitizer too, with objects that were destroyed where the library
+  looks for that, and over many frames on one device;
 - refuses each request for memory in turn in drawings of the gallery's shorter scripts;
 - prints what a call costs, beside a process;
-- runs python/tests/test_library.py over the installed library, and tools/test_page.py.
+- runs test_library.py and test_calls.py of python/tests over the installed library, and tools/test_page.py.
 
 A line is printed for each: `ok NAME`, `FAILED NAME: why`, `skipped NAME: why`, or `fails as known NAME (why): ..` where
 it is in the list KNOWN of this file. The last line counts them. The status is 0 where none failed and one passed.
@@ -30,6 +33,7 @@ import random
 import re
 import resource
 import shutil
+import signal
 import subprocess
 import sys
 import tempfile
@@ -41,6 +45,7 @@ import install_library
 import package_path
 import plain_device
 import random_scenes
+import toolchain
 from results import Results, check, told
 from yuzuratchet import __version__
 from yuzuratchet.arguments import whole_number
@@ -65,14 +70,21 @@ REFUSED_IN = ("decals.txt", "two-faced-count.txt", "eight-contexts.txt")
 FIRST = "lists.txt"
 SLOWLY = ("clear.txt", "lists.txt", "default-state.txt")
 # kilobytes of the stack of a thread on which a call has to do, and of one on which it is seen how much it takes
-STACK, WIDE_STACK = 96, 1024
+# kilobytes: the most that a call may take, as the header says, and a small and a large thread
+TAKEN, STACK, WIDE_STACK = 64, 96, 1024
 ON_A_SMALL_STACK = ("clear.txt", "lists.txt", "eight-contexts.txt", "shadow-volumes.txt")
 # what fails today. A name leaves this list with the change that mends it
-KNOWN = {
-    "small stack": "a slab of words is built on the stack (crates/binmem) and copied from there",
-    "misaligned reports": "misfit_of (crates/yuzuratchet/src/areas.rs) looks at no alignment yet",
-}
+KNOWN: dict[str, str] = {}
 SCENES_BY_PROGRAM, SCENES_BY_PLAIN_DEVICE = 10000, 400
+# frames on one device, and by how many kilobytes the process may grow behind the first tenth of them
+FRAMES, GROWTH = 100000, 256
+# what library/tests/freed.c does with objects that are none: the call and the kind that are told
+FREED = (
+    ("device_execute", "list"),
+    ("device_destroy", "device"),
+    ("device_flush", "device"),
+    ("context_draw", "context"),
+)
 PROJECT = """cmake_minimum_required(VERSION 3.13)
 project(uses LANGUAGES C)
 find_package(Yuzuratchet {wanted} REQUIRED)
@@ -99,7 +111,7 @@ class LibraryTests:
     def __init__(self, prefix: Path, folder: Path) -> None:
         self.prefix, self.folder = prefix, folder
         self.archive, self.shared = prefix / "lib" / "libyuzuratchet.a", prefix / "lib" / install_library.SHARED
-        self.header = prefix / "include" / "yuzuratchet.h"
+        self.headers = [prefix / "include" / name for name in install_library.HEADERS]
 
     # ---- what is installed
 
@@ -119,13 +131,14 @@ class LibraryTests:
         return f"{count} files"
 
     def names(self) -> None:
-        """Header, manual and map name the same calls, of which each has its version and no other name is seen."""
+        """Headers, manual and map name the same calls, of which each has its version and no other name is seen."""
         calls = sorted(install_library.calls())
-        header, manual = self.header.read_text(encoding="ascii"), install_library.MANUAL.read_text(encoding="ascii")
-        declared = sorted(set(re.findall(r"^[a-z][\w ]* \*?(yuzuratchet_\w+)\(", header, re.M)))
-        check(declared == calls, f"the header declares {declared}, and the map has {calls}")
+        header, more = (it.read_text(encoding="ascii") for it in self.headers)
+        manual = install_library.MANUAL.read_text(encoding="ascii")
+        declared = sorted(set(re.findall(r"^(?:YZ_MUST_USE )?[a-z][\w ]* \*?(\w+)\(", header + more, re.M)))
+        check(declared == calls, f"the headers declare {declared}, and the map has {calls}")
         described = sorted(set(re.findall(r"^\.F[no] (yuzuratchet_\w+)", manual, re.M)))
-        check(described == calls, f"the manual describes {described}")
+        check(described == install_library.calls_by_script(), f"the manual describes {described}")
         statuses = re.findall(r"^    (YUZURATCHET_\w+) = \d+,?$", header, re.M)
         missing = [it for it in statuses if f".It Dv {it} " not in manual and f", Dv {it} " not in manual]
         check(len(statuses) == len(STATUSES) and not missing, f"the manual lacks {missing}")
@@ -166,7 +179,7 @@ class LibraryTests:
             text=True,
             check=True,
         ).stdout.split()
-        install_library.run([compiler, install_library.LIBRARY / "example.c", *flags, "-o", self.folder / "configured"])
+        toolchain.run([compiler, install_library.LIBRARY / "example.c", *flags, "-o", self.folder / "configured"])
         self.draws_first(self.folder / "configured", LD_LIBRARY_PATH=str(self.prefix / "lib"))
 
     def cmake(self) -> None:
@@ -199,19 +212,20 @@ class LibraryTests:
         library: list[object] = (
             [self.archive] if static else [f"-L{self.prefix}/lib", "-lyuzuratchet", f"-Wl,-rpath,{self.prefix}/lib"]
         )
-        install_library.run([compiler, *FLAGS, *flags, f"-I{self.prefix}/include", source, *library, "-o", out])
+        toolchain.run([compiler, *FLAGS, *flags, f"-I{self.prefix}/include", source, *library, "-lm", "-o", out])
         return out
 
     def build_all(self, compiler: str) -> None:
-        for source in [install_library.LIBRARY / "example.c", *sorted(TESTS.glob("*.c"))]:
+        examples = [install_library.LIBRARY / name for name in ("example.c", "cube.c")]
+        for source in [*examples, *sorted(TESTS.glob("*.c"))]:
             self.built(compiler, f"{compiler}-{source.stem}", source)
             self.built(compiler, f"{compiler}-{source.stem}-shared", source, static=False)
             self.built(compiler, f"{compiler}-{source.stem}-sanitized", source, *SANITIZED)
 
     def header_in_cpp(self, compiler: str) -> None:
-        install_library.run(
-            [compiler, "-x", "c++", "-std=c++11", "-Wall", "-Wextra", "-Werror", "-fsyntax-only", self.header]
-        )
+        for standard in ("c++11", "c++17"):
+            flags = [f"-std={standard}", "-Wall", "-Wextra", "-Werror", "-fsyntax-only"]
+            toolchain.run([compiler, "-x", "c++", *flags, *self.headers])
 
     # ---- running
 
@@ -253,7 +267,7 @@ class LibraryTests:
         for name in ON_A_SMALL_STACK:
             text = (DATA / name).read_bytes()
             most = max(most, int(output([self.folder / f"{compiler}-stack", str(WIDE_STACK)], text)))
-            check(most <= 1024 * STACK, f"{name} takes {most} bytes of stack, and a thread of {STACK} KB is to do")
+            check(most <= 1024 * TAKEN, f"{name} takes {most} bytes of stack, and {TAKEN} KB are the most")
             output([self.folder / f"{compiler}-stack", str(STACK)], text)
         return f"{most} bytes at most"
 
@@ -283,7 +297,7 @@ class LibraryTests:
     def musl(self) -> str:
         """A static program over musl, whose threads have small stacks."""
         program = self.folder / "musl-example"
-        install_library.run(
+        toolchain.run(
             [
                 "musl-gcc",
                 "-static",
@@ -334,6 +348,66 @@ class LibraryTests:
             "".join(found) == STORED.read_text(encoding="ascii"), "answers or digests differ from crates/gallery/stdout"
         )
         return f"{len(names)} scripts"
+
+    # ---- calls by objects
+
+    def by_calls(self, compiler: str, kind: str = "", before: Sequence[str] = ()) -> str:
+        """What a script says and draws is the same by calls, whether it is refused or not."""
+        scripts = [DATA / name for name in INDEX.read_text(encoding="ascii").splitlines()]
+        if before or kind:
+            scripts = [it for it in scripts if is_short(str(it.relative_to(DATA)))]
+        return output([*before, self.folder / f"{compiler}-by_calls{kind}", *scripts]).decode().strip()
+
+    def random_scenes_by_calls(self, compiler: str, scenes: int) -> str:
+        """Random scenes, of which the first line that is refused ends some."""
+        chance, room, count = random.Random(60), self.folder / "scenes", 0
+        room.mkdir(exist_ok=True)
+        for first in told(range(0, scenes, 100), -(-scenes // 100), "hundred scenes"):
+            paths = [room / f"{number}.txt" for number in range(first, min(first + 100, scenes))]
+            for number, path in enumerate(paths):
+                path.write_text(random_scenes.random_scene(chance, first + number).script(), encoding="ascii")
+            last = output([self.folder / f"{compiler}-by_calls", *paths]).decode()
+            check(last == f"{len(paths)} the same, 0 differ, 0 with a fault\n", f"scenes from {first} on: {last}")
+            count += len(paths)
+        return f"{count} scenes"
+
+    def calls_on_threads(self, compiler: str) -> None:
+        """Eight contexts record side by side."""
+        program = self.built(compiler, "edges-thread", TESTS / "device_edges.c", "-fsanitize=thread")
+        output([program], TSAN_OPTIONS="halt_on_error=1")
+
+    def cube(self, compiler: str, before: Sequence[str] = ()) -> str:
+        """The cube turns, each frame as it is when it is drawn alone."""
+        image = self.folder / "cube.tga"
+        lines = output([*before, self.folder / f"{compiler}-cube", image, "60"]).decode().splitlines()
+        sizes = {int(it.removesuffix(" pixels")) for it in lines}
+        check(len(lines) == 60 and min(sizes) > 20000 and max(sizes) < 40000, f"the frames show {sizes}")
+        pixels = image.read_bytes()[18:]
+        colours = zip(pixels[::4], pixels[1::4], pixels[2::4], pixels[3::4])
+        drawn = sum(colour != (40, 28, 24, 255) for colour in colours)
+        check(len(pixels) == 4 * 256 * 256 and f"{drawn} pixels" == lines[-1], f"{drawn} pixels of the image are drawn")
+        return f"{min(sizes)} to {max(sizes)} pixels"
+
+    def frames(self, compiler: str, count: int) -> str:
+        """A device that stays draws frame after frame, and takes no more memory for it."""
+        each, grown = output([self.folder / f"{compiler}-frames", str(count)]).decode().split()
+        check(int(grown) < GROWTH, f"the process grew by {grown} KB over {count} frames")
+        return f"{each} microseconds of processor time a frame, {grown} KB more after {count} frames"
+
+    def freed(self, compiler: str, builds: install_library.Builds | None = None) -> str:
+        """A library that looks for it finds objects that were destroyed or are of another kind."""
+        to = install_library.install(self.folder / "checked", builds=builds, flags=[install_library.CHECKED])
+        checked = LibraryTests(to, self.folder)
+        program = checked.built(compiler, "freed-checked", TESTS / "freed.c")
+        for number, (call, kind) in enumerate(FREED):
+            ran = subprocess.run([program, str(number)], capture_output=True, text=True, timeout=SECONDS, check=False)
+            wanted = f"yuzuratchet: yz_{call}: this is no {kind}, or it was destroyed\n"
+            check((ran.returncode, ran.stderr) == (-signal.SIGABRT, wanted), f"freed {number}: {ran}")
+        output([program, str(len(FREED))])
+        output([checked.built(compiler, "edges-checked", TESTS / "device_edges.c")])
+        return f"{len(FREED)} calls"
+
+    # ---- random scenes, and costs
 
     def random_scenes(self, compiler: str, program: Path | None, scenes: int) -> str:
         chance, refused = random.Random(39), 0
@@ -427,7 +501,10 @@ def test_compiler(results: Results, tests: LibraryTests, compiler: str) -> bool:
         results.test(f"{compiler} bounds{kind}", tests.ends_well, f"{compiler}-bounds{kind}")
         results.test(f"{compiler} threads{kind}", tests.ends_well, f"{compiler}-threads{kind}")
         results.test(f"{compiler} memory{kind}", tests.memory, compiler, [FIRST], kind)
+        results.test(f"{compiler} edges of calls{kind}", tests.ends_well, f"{compiler}-device_edges{kind}")
     results.test(f"{compiler} example", tests.example, compiler)
+    results.test(f"{compiler} cube", tests.cube, compiler)
+    results.test(f"{compiler} scripts by calls, sanitized", tests.by_calls, compiler, "-sanitized")
     results.test(f"{compiler} numbers of 128 bits", tests.ends_well, f"{compiler}-wide-sanitized")
     return True
 
@@ -459,9 +536,25 @@ def test_drawing(results: Results, tests: LibraryTests, compiler: str, scenes: i
         results.skip("the program's bytes and its cost", "crates/tiledraw isn't built, so plain_device.py stood in")
 
 
+def test_calls(results: Results, tests: LibraryTests, compiler: str, scenes: int | None) -> None:
+    """The calls by objects, as far as it is the same with each compiler."""
+    results.test("scripts by calls", tests.by_calls, compiler)
+    results.test("random scenes by calls", tests.random_scenes_by_calls, compiler, scenes or SCENES_BY_PROGRAM)
+    results.test("calls on threads", tests.calls_on_threads, compiler)
+    results.test("frames", tests.frames, compiler, FRAMES)
+    if toolchain.is_there():
+        results.test("destroyed objects", tests.freed, compiler)
+    else:
+        results.skip("destroyed objects", "the command rt is missing, which builds the library that looks for them")
+    edges = tests.folder / f"{compiler}-device_edges"
+    test_if(results, "valgrind", "edges of calls under valgrind", output, [*VALGRIND, edges])
+    test_if(results, "valgrind", "scripts by calls under valgrind", tests.by_calls, compiler, "", VALGRIND)
+
+
 def test_above(results: Results, shared: Path) -> None:
     """The Python package over the library, and the page: each has tests of its own, whose last line is repeated."""
-    package: list[object] = ["sh", package_path.TOP / "python" / "run-tests.sh", "-q", "-k", "test_library"]
+    tests = package_path.TOP / "python" / "run-tests.sh"
+    package: list[object] = ["sh", tests, "-q", "-k", "test_library or test_calls"]
     page: list[object] = [sys.executable, package_path.TOP / "tools" / "test_page.py"]
     results.test("the package over the library", above, package, {VARIABLE: str(shared)})
     results.test("the page", above, page, {})
@@ -496,6 +589,7 @@ def test_all(results: Results, prefix: Path, folder: Path, scenes: int | None) -
     working = [name for name in compilers if test_compiler(results, tests, name)]
     if working:
         test_drawing(results, tests, working[0], scenes)
+        test_calls(results, tests, working[0], scenes)
     test_above(results, tests.shared)
 
 
@@ -505,7 +599,7 @@ def main() -> int:
     parser.add_argument("--scenes", metavar="N", type=whole_number(0), help=many)
     parser.add_argument("--prefix", metavar="FOLDER", type=Path, help="where the library is installed, or is to be")
     words = parser.parse_args()
-    results = Results(KNOWN, [install_library.NotBuilt])
+    results = Results(KNOWN, [toolchain.NotBuilt])
     with tempfile.TemporaryDirectory() as room:
         folder = Path(room)
         prefix = words.prefix.absolute() if words.prefix else folder / "prefix"

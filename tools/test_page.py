@@ -3,12 +3,12 @@
 
     tools/test_page.py [--module FILE.wasm] [--picture FILE.png]
 
-In both each script of the gallery gives the answers and the image that crates/gallery/stdout has. In node the modules
-of web/engine are tried alone (web/tests), pixels' histories are held against the package's `explain`, and columns of
-faults against its `check`. In the browser scripts are chosen, typed, opened, linked and played by lines, pixels are
-pointed at and tapped, and each is compared with what the device gives elsewhere; the page is looked at in narrow
-windows and at fractional ratios of pixels. In Firefox all is tried that needs neither pointer nor keys. Types are
-checked by the TypeScript compiler where it is there.
+In both each script of the gallery gives the answers and the image that crates/gallery/stdout has, in node by calls too.
+There the modules of web/engine are tried alone (web/tests), pixels' histories are held against the package's `explain`,
+and columns of faults against its `check`. In the browser scripts are chosen, typed, opened, linked and played by lines,
+pixels are pointed at and tapped, and each is compared with what the device gives elsewhere; the page is looked at in
+narrow windows and at fractional ratios of pixels. In Firefox all is tried that needs neither pointer nor keys. Types
+are checked by the TypeScript compiler where it is there.
 
 Where the module isn't built, or there is no node or no browser, that is told, and counted in the last line. The status
 is 0 where nothing failed and something passed. Python alone is wanted beside them.
@@ -68,6 +68,7 @@ ASKED_BY_LINES = [
 ]
 # scenes in which it is asked in two ways what touched a pixel, and changed scripts whose faulty letters are asked for
 RANDOM_SCENES, CHANGED_SCRIPTS = 40, 300
+SCENES_BY_CALLS = 500
 IN_CHROMIUM = (
     "answers",
     "menu",
@@ -146,10 +147,11 @@ class NodeTests:
     def units(self) -> str:
         """The tests of the modules alone."""
         files = sorted((TOP / "web" / "tests").glob("*.test.js"))
-        command: list[Any] = [self.words[0], "--test", *files]
+        command: list[Any] = [*self.words, "--test", *files]
         environment = {
             **os.environ,
             "PATH": os.pathsep.join([str(pathlib.Path(sys.executable).parent), os.environ["PATH"]]),
+            "YUZURATCHET_MODULE": str(self.module.resolve()),
         }
         ran = subprocess.run(
             command, capture_output=True, encoding="utf-8", timeout=SECONDS, env=environment, check=False
@@ -174,6 +176,12 @@ class NodeTests:
     def memory(self) -> None:
         names = ["lists.txt", "two-faced-count.txt", "rows/four-tiles-cut-behind-14.txt"]
         check(self.printed("memory", names).split() == names, "something else was printed")
+
+    def calls(self) -> str:
+        """Random scenes by calls, of which the first call that is refused ends some."""
+        names = write_random_scenes(self.room, SCENES_BY_CALLS)
+        check(self.printed("calls", names, self.room).split() == names, "something else was printed")
+        return f"{len(names)} scenes"
 
     def history(self) -> str:
         """The lines that changed a pixel, against a play of the script up to each line."""
@@ -224,9 +232,9 @@ class NodeTests:
         return f"{compared} of {len(scripts)} scripts"
 
 
-def write_random_scenes(room: pathlib.Path) -> list[str]:
+def write_random_scenes(room: pathlib.Path, count: int = RANDOM_SCENES) -> list[str]:
     """Random scenes in a folder, and their names."""
-    chance, names = random.Random(1), [f"{number}.txt" for number in range(RANDOM_SCENES)]
+    chance, names = random.Random(1), [f"{number}.txt" for number in range(count)]
     for number, name in enumerate(names):
         scene = random_scenes.random_scene(chance, number, kinds=random_scenes.KINDS)
         pathlib.Path(room, name).write_text(scene.script(), encoding="ascii")
@@ -265,7 +273,7 @@ def test_in_node(results: Results, node: str | None, module: pathlib.Path) -> No
     words, why = node_words(node)
     with tempfile.TemporaryDirectory(prefix="page-") as room:
         tests = NodeTests(words, module, room) if words else None
-        for name in ("units", "gallery", "memory", "history", "explained", "blamed"):
+        for name in ("units", "gallery", "calls", "memory", "history", "explained", "blamed"):
             reason = why_no_device() if words and name == "explained" else why
             if reason:
                 results.skip(f"node {name}", reason)

@@ -8,13 +8,16 @@ contracts of what it calls and never from their bodies, so edits of different fu
 round applies one edit of each function of a crate to a copy and checks the copy once. What the check says of each
 edited function is read off its lines:
 
-    search did not prove .., not proved     refused, as it must be
+    search did not prove .., not proved     refused by a goal of a contract, as it must be
+    an answer names what isn't there        refused, but only since a written answer names a goal that is gone
+    error[borrow-..]                        refused by the borrow checker, before the prover saw it
     proved                                  NOT REFUSED: the contract lets the wrong body through
     no proof: it calls ..                   it stands on a refused function, and wasn't looked at: a later round
     nothing                                 the check stopped before it: a later round, alone at last
 
 An edit outside of every function (a constant, a field) is tried alone, and then any refusal of the crate counts.
-Before its edits each crate is tried with one that changes nothing, which must be told as proved.
+Before its edits each crate is tried with one that changes nothing, which must be told as proved. The last line counts
+what refused the edits; one that isn't refused by a goal says little of the contract, and is named.
 
 The copy lies in FOLDER (a new folder under /tmp without --room), and --keep leaves it there, so that the next run has
 the work of this one. With --all the edits of must-fail/ are tried too. Status 0: each edit was refused; 1: one
@@ -24,6 +27,7 @@ wasn't, or couldn't be applied or judged; 2: wrong words.
 from __future__ import annotations
 
 import argparse
+import enum
 import os
 import re
 import shutil
@@ -31,6 +35,7 @@ import subprocess
 import sys
 import tempfile
 import time
+from collections import Counter
 from collections.abc import Callable
 from typing import Optional
 
@@ -48,6 +53,17 @@ LITERAL = re.compile(r'//[^\n]*|/\*.*?\*/|b?"(?:\\.|[^"\\])*"|b?\'(?:\\.[^\']*|[
 ITEM = re.compile(r"\b(fn|impl|trait|mod)\b")
 # a method of a type is named by the module in which the type stands, and not by that of its impl
 METHOD = r"(?:\w+::)*"
+# what a check says where a proof file names what isn't there, and which file that is
+GONE = re.compile(r"^(?:\./)?proofs/(\S+)/\w+\.antt:\S* error: .* has no `[^`]*` that can be named from here", re.M)
+BORROW = re.compile(r"error\[borrow-")
+
+
+class Refusal(enum.Enum):
+    """What refused an edit."""
+
+    GOAL = "by a goal of a contract"
+    NAME = "since a written answer names a goal that is gone"
+    BORROW = "by the borrow checker"
 
 
 class Edit:
@@ -58,6 +74,7 @@ class Edit:
         self.label = os.path.relpath(path, f"{TOP}/crates")
         self.pairs: list[tuple[str, str, str]] = []
         self.outcome: str | None = None
+        self.refusal: Refusal | None = None
         file = old = None
         with open(path, encoding="utf-8") as lines:
             for line in lines.read().split("\n"):
@@ -280,18 +297,31 @@ def round_of(
     return chosen, {file: text for file, text in changed.items() if text != texts[file]}
 
 
+def refusal_of(functions: Functions, said: str) -> Refusal:
+    """What refused an edit of these functions, as the check said it."""
+    if BORROW.search(said):
+        return Refusal.BORROW
+    gone = ["::" + path.replace("/", "::") for path in GONE.findall(said)]
+    known = [re.sub(r"^\w+(?=::)", "", it) for it in functions if it]
+    if any(re.fullmatch(name, path) for name in known for path in gone) or (None in functions and gone):
+        return Refusal.NAME
+    return Refusal.GOAL
+
+
 def judge(edit: Edit, functions: Functions, code: int, said: str, alone: bool) -> None:
-    """Notes an edit's outcome, if the check told it."""
+    """Notes an edit's outcome, if the check told it, and what refused it."""
+    told = {told_of(said, it) for it in functions if it}
     if None in functions:
         edit.outcome = "refused" if code == 1 else "NOT REFUSED"
-        return
-    told = {told_of(said, it) for it in functions if it}
-    if "refused" in told:
+    elif "refused" in told:
         edit.outcome = "refused"
     elif told == {"proved"}:
         edit.outcome = "NOT REFUSED"
     elif alone:
-        edit.outcome = "refused" if code == 1 and "later" in told else "NOT JUDGED: the check never looked at it"
+        seen = "later" in told or BORROW.search(said)
+        edit.outcome = "refused" if code == 1 and seen else "NOT JUDGED: the check never looked at it"
+    if edit.outcome == "refused":
+        edit.refusal = refusal_of(functions, said)
 
 
 def harmless(crate: str, folder: str, texts: Texts, bodies: Bodies) -> bool:
@@ -307,7 +337,13 @@ def harmless(crate: str, folder: str, texts: Texts, bodies: Bodies) -> bool:
     return True
 
 
-def try_crate(crate: str, room: str, with_gate: bool) -> bool:
+def counted(refusals: Counter[Refusal]) -> str:
+    """How many edits were refused by what."""
+    return ", ".join(f"{refusals[it]} {it.value}" for it in Refusal if refusals[it] or it is Refusal.GOAL)
+
+
+def try_crate(crate: str, room: str, with_gate: bool, refusals: Counter[Refusal]) -> bool:
+    """Tries a crate's edits, and adds what refused them. Whether all were refused."""
     folder = f"{room}/crates/{crate}"
     kinds = ["edits", "must-fail"] if with_gate else ["edits"]
     paths = [f"{TOP}/crates/{crate}/{kind}" for kind in kinds]
@@ -342,6 +378,9 @@ def try_crate(crate: str, room: str, with_gate: bool) -> bool:
     for edit in edits:
         if edit.outcome != "refused":
             print(f"{edit.label}: {edit.outcome}", flush=True)
+        elif edit.refusal and edit.refusal is not Refusal.GOAL:
+            print(f"{edit.label}: refused {edit.refusal.value}", flush=True)
+    refusals.update(edit.refusal for edit in edits if edit.refusal)
     refused = sum(edit.outcome == "refused" for edit in edits)
     print(f"{crate}: {refused} of {len(edits)} refused, {rounds} rounds, {time.time() - began:.0f} s", flush=True)
     return well and refused == len(edits)
@@ -378,12 +417,13 @@ def main() -> int:
     room = given.room or tempfile.mkdtemp(prefix="try-edits-")
     os.makedirs(room, exist_ok=True)
     copied(room)
+    refusals: Counter[Refusal] = Counter()
     try:
-        failed = [it for it in crates if not try_crate(it, room, given.all)]
+        failed = [it for it in crates if not try_crate(it, room, given.all, refusals)]
     finally:
         if not given.keep:
             shutil.rmtree(room, ignore_errors=True)
-    print(f"failed: {' '.join(failed)}" if failed else "all refused")
+    print(f"{f'failed: {chr(32).join(failed)}' if failed else 'all refused'}; {counted(refusals)}")
     return 1 if failed else 0
 
 
