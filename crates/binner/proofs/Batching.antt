@@ -10,8 +10,8 @@ use Rattle.gfxspec.specs.Predication.{performed}
 use Rattle.meaning.specs.OneMore.{settings_with, triangles_of, performed_items}
 use Rattle.meaning.proofs.Nearest.{settings_after-push}
 use Rattle.meaning.proofs.Withheld.{items_performed-push}
-use Rattle.cmdlist.specs.declared.command.Command.{Command as Code}
-use Rattle.cmdlist.specs.Seen.{command_value}
+use Rattle.command.specs.declared.command.Command.{Command as Code}
+use Rattle.command.specs.Seen.{command_value}
 use Rattle.binner.specs.declared.compiling.Compiling.{Compiling}
 use Rattle.binner.specs.declared.entry.Current.{Current}
 use Rattle.binner.specs.Meaning.{entry_of, AreBits}

@@ -1,6 +1,5 @@
 -- One command more.
 use Rattle.std.proofs.Common.{◌≡◌, ◌∙◌, ap, sym, subst, refl, arith, ℕ, ℤ, ◌+◌, ◌≤◌, List, [], ◌∷◌, ◌++◌, length, length-append, append-nil}
-use Rattle.std.specs.Prelude.{Result, Ok, Err, OnOk}
 use Rattle.gfxspec.specs.declared.pixel.DepthStencil.{DepthStencil}
 use Rattle.gfxspec.specs.State.{Settings}
 use Rattle.gfxspec.specs.Assembly.{Primitive}
@@ -8,12 +7,12 @@ use Rattle.gfxspec.specs.Items.{Item}
 use Rattle.gfxspec.specs.Commands.{Command, ClearColor, ClearDepthStencil}
 use Rattle.gfxspec.specs.Recorded.{drawn_items, items_at}
 use Rattle.meaning.specs.OneMore.{triangles_of}
-use Rattle.cmdlist.specs.declared.command.Command.{Command as Code}
-use Rattle.cmdlist.specs.declared.command.Command.TheVariants as code
-use Rattle.cmdlist.specs.Seen.{command_value}
+use Rattle.command.specs.declared.command.Command.{Command as Code}
+use Rattle.command.specs.declared.command.Command.TheVariants as code
+use Rattle.command.specs.Seen.{command_value}
 use Rattle.binner.specs.declared.compiling.Compiling.{Compiling}
 use Rattle.binner.specs.Meaning.{AreBits, entry_of}
-use Rattle.binner.specs.Compiling.{HasCompiled, IsSound, IsEntry, IsCurrent, AddsColor, AddsDepth, Grows, Draws}
+use Rattle.binner.specs.Compiling.{HasCompiled, IsSound, IsEntry, IsCurrent, AddsColor, AddsDepth, Grows, DrawsTriangles, Draws}
 use Rattle.binner.proofs.Growing.{color_means, color_sound, depth_means, depth_sound}
 
 -- a command that neither draws nor clears
@@ -75,11 +74,11 @@ module _ {A : Type 0} (old new : Compiling A) (s : Settings) (bits : ℕ) (sound
     means = λ items opened are c. depth_means old new v items h c;
   }
 
-pub draws_primitives : {A : Type 0} {T E : Type 0} (r : Result T E) (old new : Compiling A) (s : Settings) (bits : ℕ) (c : Command) (ps : List Primitive) → ((opened : List ℕ) → drawn_items s opened ps ≡ items_at s opened c) → length ps ≡ triangles_of s c → OnOk r (IsSound new) → OnOk r (IsCurrent new s bits) → OnOk r (Grows (length ps) old new) → ((items : List Item) (opened : List ℕ) → AreBits bits opened → HasCompiled old items → OnOk r (HasCompiled new (items ++ drawn_items s opened ps))) → OnOk r (Draws s bits c old new)
-draws_primitives (Ok x) old new s bits c ps is count sound current grows means = record {
-  sound = sound;
-  current = current;
-  grows = subst (λ n. Grows n old new) count grows;
-  means = λ items opened are h. subst (λ l. HasCompiled new (items ++ l)) (is opened) (means items opened are h);
+-- a draw of its triangles is what the command is
+pub draws_triangles : {A : Type 0} (old new : Compiling A) (s : Settings) (bits : ℕ) (c : Command) (ps : List Primitive) → ((opened : List ℕ) → drawn_items s opened ps ≡ items_at s opened c) → length ps ≡ triangles_of s c → DrawsTriangles s bits ps old new → Draws s bits c old new
+draws_triangles old new s bits c ps is count h = record {
+  sound = h.sound;
+  current = h.current;
+  grows = subst (λ n. Grows n old new) count h.grows;
+  means = λ items opened are m. subst (λ l. HasCompiled new (items ++ l)) (is opened) (h.means items opened are m);
 }
-draws_primitives (Err e) old new s bits c ps is count sound current grows means = sound

@@ -12,9 +12,9 @@ use Rattle.meaning.specs.OneMore.{settings_with, performed_items}
 use Rattle.meaning.proofs.Nearest.{settings_after-push}
 use Rattle.meaning.proofs.Withheld.{items_performed-push}
 use Rattle.meaning.proofs.Accepting.{sound_with}
-use Rattle.cmdlist.specs.declared.command.Command.{Command as Code}
-use Rattle.cmdlist.specs.Seen.{command_value}
-use Rattle.binner.specs.Ready.{IsDrawable}
+use Rattle.command.specs.declared.command.Command.{Command as Code}
+use Rattle.command.specs.Seen.{command_value}
+use Rattle.cmdlist.specs.Drawable.{IsDrawable}
 use Rattle.binner.specs.Segments.{ReadyBehind, IsOpenSegment, CanFollow, IsSame, IsMore, cut_items, laid_items}
 use Rattle.binner.proofs.Accepted.{done, done_more, whole, drawable, accepted_at}
 use Rattle.binner.proofs.Batching.{none_open, still_none}

@@ -11,7 +11,7 @@ use Rattle.binner.specs.declared.setup.TriSetup.{TriSetup}
 use Rattle.binner.specs.declared.compiling.Compiling.{Compiling}
 use Rattle.binner.specs.Meaning.{IsSetupOf, AreBits, entry_of}
 use Rattle.binner.specs.Lists.{at}
-use Rattle.binner.specs.Compiling.{tables, HasCompiled, IsSound, IsEntry, Enters, AddsSetup}
+use Rattle.binner.specs.Compiling.{tables, HasCompiled, IsSound, IsEntry, Enters, AddsSetup, DrawsTriangles}
 use Rattle.gfxspec.proofs.TileLaws.{tile_within}
 use Rattle.binner.proofs.Steps.{skip_listed, small_tile}
 use Rattle.binner.proofs.Growing.{entered_means, entered_sound, setup_means, setup_sound}
@@ -105,9 +105,26 @@ module _ {A : Type 0} (old : Compiling A) (s : Settings) (bits : ℕ) (now : Cur
         less : (t w l r : ℕ) → w ≡ suc l → t + w ≤ r → t + l ≤ r
         less t w l r q h = omega arith
 
-  pub drew_all : (new : Compiling A) (left : List Primitive) → left ≡ [] → Drew old new s bits now all left → (items : List Item) (opened : List ℕ) → AreBits bits opened → HasCompiled old items → HasCompiled new (items ++ drawn_items s opened all)
+  drew_all : (new : Compiling A) (left : List Primitive) → left ≡ [] → Drew old new s bits now all left → (items : List Item) (opened : List ℕ) → AreBits bits opened → HasCompiled old items → HasCompiled new (items ++ drawn_items s opened all)
   drew_all new left is h items opened are c =
       subst (λ ps. HasCompiled new (items ++ drawn_items s opened ps)) (sym (append-nil h.done) ∙ ap (λ l. h.done ++ l) (sym is) ∙ h.split) (h.means items opened are c)
+
+  pub drew_whole : (new : Compiling A) (left : List Primitive) → left ≡ [] → Drew old new s bits now all left → DrawsTriangles s bits all old new
+  drew_whole new left is h = record {
+    sound = h.sound;
+    current = λ n e. subst (IsEntry new.states.items (entry_of s bits)) (same n (sym h.current ∙ e)) h.place;
+    grows = record { size = h.size; states = h.states; drawn = fewer _ _ _ h.triangles; clears = alike _ _ _ _ (ap length h.colors) (ap length h.depths) };
+    means = drew_all new left is h;
+  }
+    where
+      same : (n : Current) → Some now ≡ Some n → now ≡ n
+      same n e = cc
+
+      fewer : (t l r : ℕ) → t + l ≤ r → t ≤ r
+      fewer t l r h = omega arith
+
+      alike : (a b c d : ℕ) → a ≡ c → b ≡ d → a + b ≤ c + d + 1
+      alike a b c d p q = omega arith
 
   pub drew_more : (new : Compiling A) (p : Primitive) (left whole : List Primitive) → whole ≡ p ∷ left → length old.triangles.items + length all ≤ 65536 → Drew old new s bits now all whole → length new.triangles.items < 65536
   drew_more new p left whole is a h = few _ _ _ _ (ap length is) h.triangles a

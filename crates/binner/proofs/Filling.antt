@@ -9,7 +9,8 @@ use Rattle.binner.specs.declared.setup.TriSetup.{TriSetup}
 use Rattle.binner.specs.declared.compiling.Compiling.{Compiling}
 use Rattle.binner.specs.Meaning.{IsSetupOf}
 use Rattle.binner.specs.Compiling.{AddsSetup}
-use Rattle.binner.specs.Setups.{ReachesNothing, AreSetups, drawn_by}
+use Rattle.binner.specs.Setups.{ReachesNothing, AreSetups}
+use Rattle.cmdlist.specs.Drawable.{drawn_by}
 use Rattle.binner.proofs.Drawing.{Drew, drew_setup, drew_skip}
 
 -- how many triangles a command draws

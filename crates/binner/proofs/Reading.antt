@@ -4,9 +4,9 @@ use Rattle.std.proofs.lemmas.List.{append-nil}
 use Rattle.gfxspec.specs.State.{Settings}
 use Rattle.gfxspec.specs.Commands.{Command}
 use Rattle.gfxspec.specs.Recorded.{settings_after}
-use Rattle.cmdlist.specs.declared.command.Command.{Command as Code}
-use Rattle.cmdlist.specs.Seen.{command_value}
-use Rattle.binner.specs.Ready.{IsDrawable}
+use Rattle.command.specs.declared.command.Command.{Command as Code}
+use Rattle.command.specs.Seen.{command_value}
+use Rattle.cmdlist.specs.Drawable.{IsDrawable}
 use Rattle.binner.specs.Segments.{ReadyBehind}
 use Rattle.binner.proofs.Accepted.{done, whole}
 

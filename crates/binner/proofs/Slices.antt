@@ -14,15 +14,16 @@ use Rattle.gfxspec.specs.Assembly.{Primitive}
 use Rattle.gfxspec.specs.Recorded.{settings_after}
 use Rattle.meaning.specs.OneMore.{settings_with}
 use Rattle.meaning.proofs.Nearest.{settings_after-push}
-use Rattle.cmdlist.specs.declared.command.Command.{Command as Code}
-use Rattle.cmdlist.specs.Seen.{command_value}
+use Rattle.command.specs.declared.command.Command.{Command as Code}
+use Rattle.command.specs.Seen.{command_value}
 use Rattle.assemble.specs.Triangle.{primitive_of}
 use Rattle.binner.specs.declared.setup.TriSetup.{TriSetup}
 use Rattle.binner.specs.declared.ahead.DrawSetups.{DrawSetups}
 use Rattle.binner.specs.declared.ahead.ReadyTri.{ReadyTri}
 use Rattle.binner.specs.Meaning.{IsSetupOf}
 use Rattle.binner.proofs.Accepted.{done, done_more}
-use Rattle.binner.specs.Setups.{ReachesNothing, AreSetups, all_setups, drawn_by, settings_at, MatchesDraw, Notes}
+use Rattle.binner.specs.Setups.{ReachesNothing, AreSetups, all_setups, settings_at, MatchesDraw, Notes}
+use Rattle.cmdlist.specs.Drawable.{drawn_by}
 
 abbrev pub primitive_at : ReadyTri → Primitive
 primitive_at t = primitive_of (record { v = t.v })

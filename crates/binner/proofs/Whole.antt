@@ -11,16 +11,16 @@ use Rattle.meaning.proofs.Nearest.{settings_after-push}
 use Rattle.meaning.proofs.Growing.{issues-push, triangle_count-push}
 use Rattle.meaning.proofs.Performed.{performed_alike}
 use Rattle.meaning.proofs.Withheld.{items_performed-push}
-use Rattle.cmdlist.specs.declared.command.Command.{Command as Code}
-use Rattle.cmdlist.specs.Seen.{command_value}
+use Rattle.command.specs.declared.command.Command.{Command as Code}
+use Rattle.command.specs.Seen.{command_value}
 use Rattle.binner.specs.declared.compiling.Compiling.{Compiling}
 use Rattle.binner.specs.Meaning.{entry_of}
 use Rattle.binner.specs.Opened.{IsOpened, CanNote}
-use Rattle.binner.specs.Compiling.{tables, ListMeans, HasCompiled, HasRoom, IsSound, IsEntry, IsCurrent, Performs, SameTables, IsFresh, IsWhole}
+use Rattle.binner.specs.Compiling.{tables, ListMeans, HasCompiled, HasRoom, IsSound, IsEntry, IsCurrent, CanTake, Performs, SameTables, IsFresh, IsWhole}
 use Rattle.gfxspec.specs.Items.{Item}
 use Rattle.gfxspec.specs.Tiles.{tile_count, tile_rect}
 use Rattle.binner.specs.Lists.{at, IsLists, IsShort}
-use Rattle.binner.specs.Ready.{IsDrawable}
+use Rattle.cmdlist.specs.Drawable.{IsDrawable}
 use Rattle.binner.specs.declared.entry.Current.{Current}
 use Rattle.binner.proofs.Steps.{list_entered}
 use Rattle.binner.proofs.Accepted.{done, done_more, accepted_at, within_limits, can_note, drawable}
@@ -41,11 +41,9 @@ pub record SoFar {A : Type 0} (results : ℕ → Bool) (cs : List (Code A)) (i :
   pub means : HasCompiled now (items (performed results (done cs i)))
 
 -- what the next command asks
-pub record CanAdd {A : Type 0} (s : Settings) (begun : ℕ) (c : Command) (now : Compiling A) : Type 0 where
+pub record CanAdd {A : Type 0} (s : Settings) (bits begun : ℕ) (c : Command) (now : Compiling A) : Type 0 where
   pub drawable : IsDrawable s c
-  pub states : length now.states.items < 65536
-  pub triangles : length now.triangles.items + triangles_of s c ≤ 65536
-  pub clears : length now.colors.items + length now.depths.items < 65536
+  pub room : CanTake s bits (triangles_of s c) now
   pub note : CanNote begun c
 
 pub fresh_current : {A : Type 0} (c : Compiling A) (s : Settings) (bits : ℕ) → c.current ≡ None → IsCurrent c s bits
@@ -102,16 +100,20 @@ module _ {A : Type 0} (results : ℕ → Bool) (cs : List (Code A)) where
       two : (n m : ℕ) → n ≡ 0 → m ≡ 0 → n + m ≤ 65536
       two n m p q = omega arith
 
-  pub can_add : (i : ℕ) (d : Code A) (s : Settings) (bits begun : ℕ) (of_query : List ℕ) (start now : Compiling A) → AreAccepted (map command_value cs) → i < length cs → SoFar results cs i s bits begun of_query start now → CanAdd s begun (command_value (get_or cs i d)) now
+  pub can_add : (i : ℕ) (d : Code A) (s : Settings) (bits begun : ℕ) (of_query : List ℕ) (start now : Compiling A) → AreAccepted (map command_value cs) → i < length cs → SoFar results cs i s bits begun of_query start now → CanAdd s bits begun (command_value (get_or cs i d)) now
   can_add i d s bits begun of_query start now accepted l h =
       let c = command_value (get_or cs i d) in
       let a = accepted_at cs i d accepted l in
       let w = within_limits (done cs i) c a in
       record {
         drawable = drawable cs i d s accepted l h.state;
-        states = few _ _ h.states w.0;
-        triangles = subst (λ t. length now.triangles.items + triangles_of t c ≤ 65536) (sym h.state) (most _ _ _ h.triangles w.1);
-        clears = few _ _ h.clears w.0;
+        room = record {
+          sound = h.sound;
+          current = h.current;
+          states = few _ _ h.states w.0;
+          triangles = subst (λ t. length now.triangles.items + triangles_of t c ≤ 65536) (sym h.state) (most _ _ _ h.triangles w.1);
+          clears = few _ _ h.clears w.0;
+        };
         note = subst (λ n. CanNote n c) (sym h.opened.count) (can_note (done cs i) c a);
       }
     where
@@ -128,7 +130,7 @@ module _ {A : Type 0} (results : ℕ → Bool) (cs : List (Code A)) where
       one (Begin q) can h = let l = can.1 in omega (arith, l)
       one c can h = omega (arith, h)
 
-  pub one_more : (i : ℕ) (d : Code A) (s t : Settings) (bits bits' begun begun' : ℕ) (of_query of_query' : List ℕ) (kept : Bool) (start now mid new : Compiling A) → i < length cs → CanAdd s begun (command_value (get_or cs i d)) now → SoFar results cs i s bits begun of_query start now → length mid.lists.bins ≡ length now.lists.bins → Performs results s bits (command_value (get_or cs i d)) now mid → SameTables mid new → ((n : Current) → new.current ≡ Some n → IsTrue kept × (bits ≡ bits') × (mid.current ≡ Some n)) → (IsTrue kept → (s : Settings) (b : ℕ) → entry_of (settings_with (command_value (get_or cs i d)) s) b ≡ entry_of s b) → IsOpened bits' begun' of_query' (done cs i ++ command_value (get_or cs i d) ∷ []) → t ≡ settings_with (command_value (get_or cs i d)) s → SoFar results cs (i + 1) t bits' begun' of_query' start new
+  pub one_more : (i : ℕ) (d : Code A) (s t : Settings) (bits bits' begun begun' : ℕ) (of_query of_query' : List ℕ) (kept : Bool) (start now mid new : Compiling A) → i < length cs → CanAdd s bits begun (command_value (get_or cs i d)) now → SoFar results cs i s bits begun of_query start now → length mid.lists.bins ≡ length now.lists.bins → Performs results s bits (command_value (get_or cs i d)) now mid → SameTables mid new → ((n : Current) → new.current ≡ Some n → IsTrue kept × (bits ≡ bits') × (mid.current ≡ Some n)) → (IsTrue kept → (s : Settings) (b : ℕ) → entry_of (settings_with (command_value (get_or cs i d)) s) b ≡ entry_of s b) → IsOpened bits' begun' of_query' (done cs i ++ command_value (get_or cs i d) ∷ []) → t ≡ settings_with (command_value (get_or cs i d)) s → SoFar results cs (i + 1) t bits' begun' of_query' start new
   one_more i d s t bits bits' begun begun' of_query of_query' kept start now mid new l can h b m same cur keeps o e =
       let c = command_value (get_or cs i d) in
       let xs = done cs i in
@@ -149,8 +151,8 @@ module _ {A : Type 0} (results : ℕ → Bool) (cs : List (Code A)) where
             (drawn _ _ _ _ _ (ap (λ v. length v.items) same.triangles) m.grows.drawn h.triangles (triangle_count-push xs c ∙ ap (λ u. triangle_count xs + triangles_of u c) (sym h.state)));
         clears = subst (λ ys. length new.colors.items + length new.depths.items ≤ length ys) (sym more) (one _ _ _ _ (two (ap (λ v. length v.items) same.colors) (ap (λ v. length v.items) same.depths)) m.grows.clears h.clears (length-append xs (c ∷ [])));
         room = record {
-          triangles = added _ _ _ _ (ap (λ v. length v.items) same.triangles) m.grows.drawn can.triangles;
-          clears = cleared _ _ _ (two (ap (λ v. length v.items) same.colors) (ap (λ v. length v.items) same.depths)) m.grows.clears can.clears;
+          triangles = added _ _ _ _ (ap (λ v. length v.items) same.triangles) m.grows.drawn can.room.triangles;
+          clears = cleared _ _ _ (two (ap (λ v. length v.items) same.colors) (ap (λ v. length v.items) same.depths)) m.grows.clears can.room.clears;
         };
         means = kept_means mid new same (λ n q. (cur n q).2) (items (performed results (done cs (i + 1))))
             (subst (HasCompiled mid) (ap (λ u. items (performed results xs) ++ performed_items results u (open_after xs) c) h.state ∙ sym (items_performed-push results xs c) ∙ ap (λ ys. items (performed results ys)) (sym more))

@@ -5,8 +5,9 @@ use Rattle.gfxspec.specs.declared.geometry.PixelRect.{PixelRect}
 use Rattle.gfxspec.specs.State.{Settings}
 use Rattle.gfxspec.specs.Tiles.{tile_count, tile_rect}
 use Rattle.gfxspec.specs.Items.{Item}
+use Rattle.gfxspec.specs.Assembly.{Primitive}
 use Rattle.gfxspec.specs.Commands.{Command}
-use Rattle.gfxspec.specs.Recorded.{items, items_at, issues}
+use Rattle.gfxspec.specs.Recorded.{items, items_at, drawn_items, issues}
 use Rattle.meaning.specs.OneMore.{triangles_of, performed_items}
 use Rattle.tileword.specs.declared.word.Word.TheVariants.{ClearC, ClearDs}
 use Rattle.binner.specs.declared.entry.StateEntry.{StateEntry}
@@ -53,11 +54,15 @@ pub record IsEntry (states : List StateEntry) (e : StateEntry) (s : Current) : T
 abbrev pub IsCurrent : {A : Type 0} → Compiling A → Settings → ℕ → Type 0
 IsCurrent c s issues = (now : Current) → c.current ≡ Some now → IsEntry c.states.items (entry_of s issues) now
 
--- ---- steps
+-- one more command can be added that draws so many more triangles, under these settings, with these issues open
+pub record CanTake {A : Type 0} (s : Settings) (bits more : ℕ) (c : Compiling A) : Type 0 where
+  pub sound : IsSound c
+  pub current : IsCurrent c s bits
+  pub states : length c.states.items < 65536
+  pub triangles : length c.triangles.items + more ≤ 65536
+  pub clears : length c.colors.items + length c.depths.items < 65536
 
--- query results as a list has them, FALSE beyond it
-abbrev pub told : List Bool → ℕ → Bool
-told results query = slice_index_or results query false
+-- ---- steps
 
 -- it is the current one; it may be new
 pub record Enters {A : Type 0} (e : StateEntry) (s : Current) (old new : Compiling A) : Type 0 where
@@ -102,6 +107,13 @@ pub record Grows {A : Type 0} (triangles : ℕ) (old new : Compiling A) : Type 0
   pub states : length new.states.items ≤ length old.states.items + 1
   pub drawn : length new.triangles.items ≤ length old.triangles.items + triangles
   pub clears : length new.colors.items + length new.depths.items ≤ length old.colors.items + length old.depths.items + 1
+
+-- what a draw of these triangles under these settings, with these issues open, has added
+pub record DrawsTriangles {A : Type 0} (s : Settings) (bits : ℕ) (ps : List Primitive) (old new : Compiling A) : Type 0 where
+  pub sound : IsSound new
+  pub current : IsCurrent new s bits
+  pub grows : Grows (length ps) old new
+  pub means : (items : List Item) (opened : List ℕ) → AreBits bits opened → HasCompiled old items → HasCompiled new (items ++ drawn_items s opened ps)
 
 -- what a command under these settings, with these issues open, has added
 pub record Draws {A : Type 0} (s : Settings) (bits : ℕ) (c : Command) (old new : Compiling A) : Type 0 where

@@ -8,7 +8,7 @@ use Rattle.gfxspec.specs.Predication.{performed}
 use Rattle.gfxspec.specs.Accepted.{AreSound}
 use Rattle.gfxspec.specs.State.{Settings}
 use Rattle.meaning.specs.OneMore.{settings_with, performed_items}
-use Rattle.binner.specs.Ready.{IsDrawable}
+use Rattle.cmdlist.specs.Drawable.{IsDrawable}
 use Rattle.binner.specs.Compiled.{Compilation}
 use Rattle.binner.specs.Batched.{MeansItems}
 

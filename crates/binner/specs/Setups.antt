@@ -5,14 +5,14 @@ use Rattle.std.specs.declared.vec.Vec.{Vec}
 use Rattle.gfxspec.specs.declared.geometry.Size.{Size}
 use Rattle.gfxspec.specs.Limits.{side_bound}
 use Rattle.gfxspec.specs.State.{Settings}
-use Rattle.gfxspec.specs.Assembly.{Primitive, draw_primitives, draw_indexed_primitives}
+use Rattle.gfxspec.specs.Assembly.{Primitive}
 use Rattle.gfxspec.specs.Items.{reaches}
-use Rattle.gfxspec.specs.Commands.{Command, Draw, DrawIndexed}
 use Rattle.gfxspec.specs.Recorded.{settings_after}
-use Rattle.cmdlist.specs.declared.command.Command.{Command as Code}
-use Rattle.cmdlist.specs.Seen.{command_value}
+use Rattle.command.specs.declared.command.Command.{Command as Code}
+use Rattle.command.specs.Seen.{command_value}
 use Rattle.binner.specs.declared.setup.TriSetup.{TriSetup}
 use Rattle.binner.specs.declared.ahead.DrawSetups.{DrawSetups}
+use Rattle.cmdlist.specs.Drawable.{drawn_by}
 use Rattle.binner.specs.Meaning.{IsSetupOf}
 
 -- the triangle reaches no pixel of a target of this size
@@ -29,12 +29,6 @@ AreSetups s size (p ∷ ps) ts =
 -- the parts side by side
 abbrev pub all_setups : {A : Type 0} → List (Vec TriSetup A) → List TriSetup
 all_setups parts = flat_map (λ p. p.items) parts
-
--- the triangles that a command draws
-abbrev pub drawn_by : Settings → Command → List Primitive
-drawn_by s (Draw count start) = draw_primitives s count start
-drawn_by s (DrawIndexed count start base) = draw_indexed_primitives s count start base
-drawn_by s c = []
 
 -- the settings before a command of a list
 abbrev pub settings_at : {A : Type 0} → List (Code A) → ℕ → Settings

@@ -5,18 +5,17 @@ ghost use Rattle.gfxspec.specs.Items.{Item};
 ghost use Rattle.gfxspec.specs.Recorded.{items};
 ghost use Rattle.gfxspec.specs.Predication.{performed};
 ghost use Rattle.meaning.specs.OneMore.{triangles_of as count_of};
-ghost use Rattle.cmdlist.specs.Seen.{state_value, command_value};
-ghost use Rattle.binner.specs.Ready.{IsDrawable};
-ghost use Rattle.binner.specs.Compiling.{HasCompiled, HasRoom, IsSound, told};
+ghost use Rattle.command.specs.Seen.{state_value, command_value};
+ghost use Rattle.cmdlist.specs.Drawable.{IsDrawable, told};
+ghost use Rattle.binner.specs.Compiling.{HasCompiled, HasRoom, IsSound};
 ghost use Rattle.binner.specs.Segments.{IsSegment};
 
 use crate::compiled::{Compiled, finished, nothing};
 use crate::compiling::{Compiling, add_performed, forget_unless, keeps_entry};
-use crate::draws::draw_of;
 use crate::segment::Segment;
 use assemble::triangle_count;
 use binmem::Bins;
-use cmdlist::{Command, State};
+use cmdlist::{Command, State, draw_of};
 use gfxspec::Size;
 use std::alloc::{AllocError, Allocator};
 use std::marker::Model;
@@ -109,7 +108,7 @@ impl<A: Allocator + Copy> Batch<A> {
     ghost use Rattle.gfxspec.specs.Recorded.{items};
     ghost use Rattle.gfxspec.specs.Predication.{performed};
     ghost use Rattle.binmem.specs.Lists.{no_words};
-    ghost use Rattle.binner.specs.Compiling.{HasCompiled, told};
+    ghost use Rattle.binner.specs.Compiling.{HasCompiled};
     ghost use Rattle.binner.specs.Batched.{MeansItems};
 
     /// No list, for a target of this size, with empty bins of as many tiles as it has. Without memory the bins come back.

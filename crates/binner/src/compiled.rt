@@ -5,13 +5,14 @@ ghost use Rattle.gfxspec.specs.declared.error.GfxError.TheVariants.{OutOfMemory}
 ghost use Rattle.gfxspec.specs.Limits.{is_size};
 ghost use Rattle.gfxspec.specs.Tiles.{tile_count};
 ghost use Rattle.gfxspec.specs.Accepted.{AreAccepted};
-ghost use Rattle.cmdlist.specs.Seen.{command_value};
+ghost use Rattle.command.specs.Seen.{command_value};
 ghost use Rattle.binmem.specs.Lists.{no_words};
 ghost use Rattle.gfxspec.specs.Recorded.{issues as issues_of};
 ghost use Rattle.gfxspec.specs.Commands.{Command as Call};
 ghost use Rattle.gfxspec.specs.Predication.{performed};
 ghost use Rattle.binner.specs.Compiled.{Compilation as Whole, IsCompilation, MeansList, CountsAreSums};
-ghost use Rattle.binner.specs.Compiling.{IsFresh, compilation_of, told};
+ghost use Rattle.binner.specs.Compiling.{IsFresh, compilation_of};
+ghost use Rattle.cmdlist.specs.Drawable.{told};
 ghost use Rattle.binner.specs.Setups.{MatchesDraw};
 
 use crate::ahead::{DrawSetups, set_up_ahead};

@@ -1,18 +1,17 @@
 //! A list that is being compiled: each command adds to the words of the tiles.
 
-ghost use Rattle.std.specs.Prelude.{◌≡◌, ◌<◌, ◌≤◌, ◌+◌, ◌++◌, ◌∷◌, [], ℕ, List, length, slice_index_or, false, IsTrue, IfOk, IfSome, OnOk, Some, All};
+ghost use Rattle.std.specs.Prelude.{◌≡◌, ◌<◌, ◌≤◌, ℕ, List, length, slice_index_or, false, IsTrue, IfOk, IfSome, OnOk, Some, All};
 ghost use Rattle.std.specs.List.{list_all};
 ghost use Rattle.gfxspec.specs.Refusals.{is_in_range};
-ghost use Rattle.gfxspec.specs.Items.{Item, ColorCleared, DepthStencilCleared};
 ghost use Rattle.gfxspec.specs.Recorded.{drawn_items, items_at};
 ghost use Rattle.gfxspec.specs.Predication.{withholds, performed};
 ghost use Rattle.meaning.specs.OneMore.{triangles_of as count_of};
 ghost use Rattle.assemble.specs.Drawing.{IsInRange, triangles_of};
-ghost use Rattle.cmdlist.specs.Seen.{state_value, command_value};
-ghost use Rattle.binner.specs.Ready.{IsDrawable};
-ghost use Rattle.binner.specs.Meaning.{AreBits, entry_of};
-ghost use Rattle.binner.specs.Setups.{AreSetups, all_setups, drawn_by, MatchesDraw};
-ghost use Rattle.binner.specs.Compiling.{HasCompiled, IsSound, IsCurrent, HasRoom, AddsSetup, AddsColor, AddsDepth, Enters, Grows, Draws, Performs, told, SameTables, IsFresh, IsWhole};
+ghost use Rattle.command.specs.Seen.{state_value, command_value};
+ghost use Rattle.cmdlist.specs.Drawable.{IsDrawable, drawn_by, told};
+ghost use Rattle.binner.specs.Meaning.{entry_of};
+ghost use Rattle.binner.specs.Setups.{AreSetups, all_setups, MatchesDraw};
+ghost use Rattle.binner.specs.Compiling.{IsSound, IsCurrent, CanTake, HasRoom, AddsSetup, AddsColor, AddsDepth, Enters, DrawsTriangles, Draws, Performs, SameTables, IsFresh, IsWhole};
 ghost use Rattle.std.specs.Prelude.{map};
 ghost use Rattle.binner.specs.declared.entry.Current.{Current};
 ghost use Rattle.gfxspec.specs.State.{Settings};
@@ -20,15 +19,13 @@ ghost use Rattle.gfxspec.specs.Accepted.{AreAccepted};
 ghost use Rattle.meaning.specs.OneMore.{settings_with};
 
 use crate::ahead::{DrawSetups, Parts, take_ahead};
-use crate::draws::draw_of;
 use crate::entry::{Current, StateEntry};
 use crate::lists::{Lists, add_to_all, add_to_tiles};
 use crate::opened::{note, nothing_begun};
-use crate::predicate::is_withheld;
 use crate::prepare::prepared;
 use crate::setup::{Prepared, TriSetup};
 use assemble::{Draw, triangles};
-use cmdlist::{Command, State};
+use cmdlist::{Command, State, draw_of, is_withheld};
 use edges::EdgeSet;
 use gfxspec::DepthStencil;
 use std::alloc::{AllocError, Allocator};
@@ -145,19 +142,11 @@ fn add_draw<A: Allocator + Copy>(
     state: &State<'_>,
     issues: u64,
 ) -> Result<(), AllocError>
-    requires sound { IsSound compiling.old }
-    requires current { IsCurrent compiling.old (state_value state.now) issues }
-    requires states { length compiling.old.states.items < 65536 }
-    requires triangles { length compiling.old.triangles.items + length (triangles_of draw.now) ≤ 65536 }
-    requires clears { length compiling.old.colors.items + length compiling.old.depths.items ≤ 65536 }
+    requires room { CanTake (state_value state.now) issues (length (triangles_of draw.now)) compiling.old }
     requires range { IsInRange draw.now }
     requires vertices { IsTrue (list_all is_in_range draw.now.vertices.now) }
     ensures bins { length compiling.new.lists.bins ≡ length compiling.old.lists.bins }
-    ensures sound { OnOk result (IsSound compiling.new) }
-    ensures current { OnOk result (IsCurrent compiling.new (state_value state.now) issues) }
-    ensures grows { OnOk result (Grows (length (triangles_of draw.now)) compiling.old compiling.new) }
-    ensures means { (items : List Item) (opened : List ℕ) → AreBits issues opened → HasCompiled compiling.old items
-        → OnOk result (HasCompiled compiling.new (items ++ drawn_items (state_value state.now) opened (triangles_of draw.now))) }
+    ensures drawn { OnOk result (DrawsTriangles (state_value state.now) issues (triangles_of draw.now) compiling.old compiling.new) }
 {
     let current = current_entry(compiling, state, issues)?;
     for tri in triangles(draw) {
@@ -176,18 +165,10 @@ fn add_parts<A: Allocator + Copy>(
     issues: u64,
     parts: Parts<A>,
 ) -> Result<(), AllocError>
-    requires sound { IsSound compiling.old }
-    requires current { IsCurrent compiling.old (state_value state.now) issues }
-    requires states { length compiling.old.states.items < 65536 }
-    requires triangles { length compiling.old.triangles.items + length (triangles_of draw.now) ≤ 65536 }
-    requires clears { length compiling.old.colors.items + length compiling.old.depths.items ≤ 65536 }
+    requires room { CanTake (state_value state.now) issues (length (triangles_of draw.now)) compiling.old }
     requires made { AreSetups (state_value state.now) compiling.old.lists.size (triangles_of draw.now) (all_setups parts.items) }
     ensures bins { length compiling.new.lists.bins ≡ length compiling.old.lists.bins }
-    ensures sound { OnOk result (IsSound compiling.new) }
-    ensures current { OnOk result (IsCurrent compiling.new (state_value state.now) issues) }
-    ensures grows { OnOk result (Grows (length (triangles_of draw.now)) compiling.old compiling.new) }
-    ensures means { (items : List Item) (opened : List ℕ) → AreBits issues opened → HasCompiled compiling.old items
-        → OnOk result (HasCompiled compiling.new (items ++ drawn_items (state_value state.now) opened (triangles_of draw.now))) }
+    ensures drawn { OnOk result (DrawsTriangles (state_value state.now) issues (triangles_of draw.now) compiling.old compiling.new) }
 {
     let current = current_entry(compiling, state, issues)?;
     'parts: for part in parts {
@@ -207,20 +188,12 @@ fn add_drawn<A: Allocator + Copy>(
     issues: u64,
     parts: Option<Parts<A>>,
 ) -> Result<(), AllocError>
-    requires sound { IsSound compiling.old }
-    requires current { IsCurrent compiling.old (state_value state.now) issues }
-    requires states { length compiling.old.states.items < 65536 }
-    requires triangles { length compiling.old.triangles.items + length (triangles_of draw.now) ≤ 65536 }
-    requires clears { length compiling.old.colors.items + length compiling.old.depths.items ≤ 65536 }
+    requires room { CanTake (state_value state.now) issues (length (triangles_of draw.now)) compiling.old }
     requires range { IsInRange draw.now }
     requires vertices { IsTrue (list_all is_in_range draw.now.vertices.now) }
     requires made { IfSome parts (λ parts. AreSetups (state_value state.now) compiling.old.lists.size (triangles_of draw.now) (all_setups parts.items)) }
     ensures bins { length compiling.new.lists.bins ≡ length compiling.old.lists.bins }
-    ensures sound { OnOk result (IsSound compiling.new) }
-    ensures current { OnOk result (IsCurrent compiling.new (state_value state.now) issues) }
-    ensures grows { OnOk result (Grows (length (triangles_of draw.now)) compiling.old compiling.new) }
-    ensures means { (items : List Item) (opened : List ℕ) → AreBits issues opened → HasCompiled compiling.old items
-        → OnOk result (HasCompiled compiling.new (items ++ drawn_items (state_value state.now) opened (triangles_of draw.now))) }
+    ensures drawn { OnOk result (DrawsTriangles (state_value state.now) issues (triangles_of draw.now) compiling.old compiling.new) }
 {
     match parts {
         Some(parts) => add_parts(compiling, draw, state, issues, parts),
@@ -238,11 +211,7 @@ fn add_drawing<A: Allocator + Copy>(
 ) -> Result<(), AllocError>
     requires drawable { IsDrawable (state_value state.now) (command_value command.now) }
     requires draws { (opened : List ℕ) → items_at (state_value state.now) opened (command_value command.now) ≡ drawn_items (state_value state.now) opened (drawn_by (state_value state.now) (command_value command.now)) }
-    requires sound { IsSound compiling.old }
-    requires current { IsCurrent compiling.old (state_value state.now) issues }
-    requires states { length compiling.old.states.items < 65536 }
-    requires triangles { length compiling.old.triangles.items + count_of (state_value state.now) (command_value command.now) ≤ 65536 }
-    requires clears { length compiling.old.colors.items + length compiling.old.depths.items < 65536 }
+    requires room { CanTake (state_value state.now) issues (count_of (state_value state.now) (command_value command.now)) compiling.old }
     requires made { IfSome parts (λ parts. AreSetups (state_value state.now) compiling.old.lists.size (drawn_by (state_value state.now) (command_value command.now)) (all_setups parts.items)) }
     ensures bins { length compiling.new.lists.bins ≡ length compiling.old.lists.bins }
     ensures drawn { OnOk result (Draws (state_value state.now) issues (command_value command.now) compiling.old compiling.new) }
@@ -263,11 +232,7 @@ fn add_command<A: Allocator + Copy>(
     parts: Option<Parts<A>>,
 ) -> Result<(), AllocError>
     requires drawable { IsDrawable (state_value state.now) (command_value command.now) }
-    requires sound { IsSound compiling.old }
-    requires current { IsCurrent compiling.old (state_value state.now) issues }
-    requires states { length compiling.old.states.items < 65536 }
-    requires triangles { length compiling.old.triangles.items + count_of (state_value state.now) (command_value command.now) ≤ 65536 }
-    requires clears { length compiling.old.colors.items + length compiling.old.depths.items < 65536 }
+    requires room { CanTake (state_value state.now) issues (count_of (state_value state.now) (command_value command.now)) compiling.old }
     requires made { IfSome parts (λ parts. AreSetups (state_value state.now) compiling.old.lists.size (drawn_by (state_value state.now) (command_value command.now)) (all_setups parts.items)) }
     ensures bins { length compiling.new.lists.bins ≡ length compiling.old.lists.bins }
     ensures drawn { OnOk result (Draws (state_value state.now) issues (command_value command.now) compiling.old compiling.new) }
@@ -298,11 +263,7 @@ pub(crate) fn add_performed<A: Allocator + Copy>(
     parts: Option<Parts<A>>,
 ) -> Result<(), AllocError>
     requires drawable { IsDrawable (state_value state.now) (command_value command.now) }
-    requires sound { IsSound compiling.old }
-    requires current { IsCurrent compiling.old (state_value state.now) issues }
-    requires states { length compiling.old.states.items < 65536 }
-    requires triangles { length compiling.old.triangles.items + count_of (state_value state.now) (command_value command.now) ≤ 65536 }
-    requires clears { length compiling.old.colors.items + length compiling.old.depths.items < 65536 }
+    requires room { CanTake (state_value state.now) issues (count_of (state_value state.now) (command_value command.now)) compiling.old }
     requires made { IfSome parts (λ parts. AreSetups (state_value state.now) compiling.old.lists.size (drawn_by (state_value state.now) (command_value command.now)) (all_setups parts.items)) }
     ensures bins { length compiling.new.lists.bins ≡ length compiling.old.lists.bins }
     ensures drawn { OnOk result (Performs (told results.now) (state_value state.now) issues (command_value command.now) compiling.old compiling.new) }

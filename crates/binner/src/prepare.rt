@@ -6,7 +6,7 @@ ghost use Rattle.gfxspec.specs.DepthStencil.{DepthStencilSetting};
 ghost use Rattle.gfxspec.specs.Raster.{centre, covers};
 ghost use Rattle.gfxspec.specs.Items.{face_setting, in_scissor, is_in_rect, reaches};
 ghost use Rattle.assemble.specs.Triangle.{primitive_of};
-ghost use Rattle.cmdlist.specs.Seen.{state_value};
+ghost use Rattle.command.specs.Seen.{state_value};
 ghost use Rattle.binner.specs.Ready.{IsReady, common_rect};
 ghost use Rattle.binner.specs.Meaning.{IsSetupOf};
 

@@ -4,7 +4,7 @@ ghost use Rattle.std.specs.Prelude.{◌≡◌, ◌++◌, [], ℕ, Bool, map, OnO
 ghost use Rattle.gfxspec.specs.Recorded.{items, issues as issues_of};
 ghost use Rattle.gfxspec.specs.Predication.{performed};
 ghost use Rattle.gfxspec.specs.Accepted.{AreAccepted};
-ghost use Rattle.cmdlist.specs.Seen.{command_value};
+ghost use Rattle.command.specs.Seen.{command_value};
 ghost use Rattle.binner.specs.Segments.{cut_items};
 
 use cmdlist::{Command, Settings};
@@ -21,7 +21,7 @@ pub struct Segment<A: Allocator> {
 impl<A: Allocator> Model for Segment<A> {
     ghost use Rattle.std.specs.Prelude.{List, map};
     ghost use Rattle.gfxspec.specs.Commands.{Command};
-    ghost use Rattle.cmdlist.specs.Seen.{command_value};
+    ghost use Rattle.command.specs.Seen.{command_value};
     ghost use Rattle.binner.specs.Segments.{IsSegment};
 
     ghost Value = { List Command };
@@ -42,7 +42,7 @@ struct OpenSegment<A: Allocator> {
 impl<A: Allocator> Model for OpenSegment<A> {
     ghost use Rattle.std.specs.Prelude.{List, map};
     ghost use Rattle.gfxspec.specs.Commands.{Command};
-    ghost use Rattle.cmdlist.specs.Seen.{command_value, settings_value};
+    ghost use Rattle.command.specs.Seen.{command_value, settings_value};
     ghost use Rattle.binner.specs.Segments.{IsOpenSegment};
 
     ghost Value = { List Command };
@@ -76,7 +76,7 @@ struct ListDraw {
 
 impl ListDraw {
     ghost use Rattle.std.specs.Prelude.{◌≡◌};
-    ghost use Rattle.cmdlist.specs.Seen.{command_value};
+    ghost use Rattle.command.specs.Seen.{command_value};
     ghost use Rattle.binner.specs.Segments.{draw_of};
 
     /// The draw as a command.
@@ -95,7 +95,7 @@ impl<A: Allocator + Copy> OpenSegment<A> {
     ghost use Rattle.gfxspec.specs.declared.state.Topology.TheVariants.{TriangleList};
     ghost use Rattle.gfxspec.specs.Commands.{Command as Call};
     ghost use Rattle.gfxspec.specs.Recorded.{settings_after};
-    ghost use Rattle.cmdlist.specs.Seen.{command_value};
+    ghost use Rattle.command.specs.Seen.{command_value};
     ghost use Rattle.binner.specs.Segments.{CanFollow, IsMore, IsSame, draw_of};
 
     /// No command, under the default settings.

@@ -1,6 +1,6 @@
 -- One more command in a recorder.
-use Rattle.std.proofs.Common.{◌≡◌, ◌≢◌, ◌∙◌, ap, sym, subst, refl, ℕ, ◌+◌, ◌<◌, ◌≤◌, arith, Bool, true, false, cond, List, [], ◌∷◌, ◌++◌, length, map, replicate}
-use Rattle.std.specs.Prelude.{ℤ, Option, Some, None, option_map, filter_map, Result, Ok, Err, IfErr, nat_lt, nat_le, ◌==◌, ◌||◌, slice_index_or, slice_set}
+use Rattle.std.proofs.Common.{◌≡◌, ◌≢◌, ◌∙◌, ap, sym, subst, refl, inl, ℕ, ◌+◌, ◌<◌, ◌≤◌, arith, Bool, true, false, cond, List, [], ◌∷◌, ◌++◌, length, map, replicate}
+use Rattle.std.specs.Prelude.{ℤ, Option, Some, None, option_map, filter_map, Result, Ok, Err, IfErr, OnErr, nat_lt, nat_le, ◌==◌, ◌||◌, slice_index_or, slice_set}
 use Rattle.std.specs.List.{cons_option}
 use Rattle.std.proofs.Math.Bool.{or-false, or-true}
 use Rattle.std.proofs.lemmas.List.{length_push, length-append, length-set, length-replicate, map-append, get_or_past, get_or-replicate, get_or-set_same, get_or-set_other}
@@ -13,16 +13,16 @@ use Rattle.gfxspec.specs.Commands.{Command, SetPredication, DrawIndexed, Begin, 
 use Rattle.gfxspec.specs.Recorded.{settings_after, issues, query_begun, query_named, queries_named, queries_open, triangle_count}
 use Rattle.gfxspec.specs.declared.error.GfxError.{GfxError}
 use Rattle.gfxspec.specs.State.{Settings as PlainSettings}
-use Rattle.gfxspec.specs.Refusals.{Row, first_row, list_rows, too_long, is_among, is_bad_predicate}
+use Rattle.gfxspec.specs.Refusals.{Row, AnswersBy, first_row, list_rows, too_long, is_among, is_bad_predicate}
 use Rattle.gfxspec.specs.Accepted.{AreSound, IsAccepted, AreAccepted}
 use Rattle.meaning.specs.OneMore.{settings_with, queries_with}
 use Rattle.meaning.proofs.Nearest.{settings_after-push}
 use Rattle.meaning.proofs.Growing.{issues-push, triangle_count-push, queries_open-push, accepted-push, open_few}
 use Rattle.meaning.proofs.Accepting.{none_of, sound_after}
 use Rattle.meaning.proofs.Predicates.{along}
-use Rattle.cmdlist.specs.declared.command.Command.{Command as Code}
+use Rattle.command.specs.declared.command.Command.{Command as Code}
 use Rattle.cmdlist.specs.DrawRows.{draw_indexed_rows}
-use Rattle.cmdlist.specs.Seen.{settings_value, command_value}
+use Rattle.command.specs.Seen.{settings_value, command_value}
 use Rattle.cmdlist.specs.Recorder.{commands_of, IsRecorded, OnlyLength, is_call, is_begin, marked_by, marked, marks_of}
 use Rattle.cmdlist.specs.declared.context.DeferredContext.TheInside.{Inside}
 
@@ -30,6 +30,11 @@ use Rattle.cmdlist.specs.declared.context.DeferredContext.TheInside.{Inside}
 accepted : (cs : List Command) (k : Command) → is_call k ≡ true → first_row (list_rows cs k) ≡ None → IsAccepted cs k
 accepted cs (Kept s) h e = absurd cc
 accepted cs k h e = e
+
+-- what is refused by its rows is answered by them
+pub answered : (rows : List Row) (r : Result ℕ GfxError) → IfErr r (λ e. first_row rows ≡ Some e) → OnErr r (AnswersBy rows r)
+answered rows (Ok n) h = tt
+answered rows (Err e) h = inl h
 
 -- a call that isn't too long is refused by no row
 pub no_row : (cs : List Command) (k : Command) (triangles : ℕ) → OnlyLength cs k triangles → (too_long cs triangles).1 ≡ false → first_row (list_rows cs k) ≡ None
@@ -151,13 +156,13 @@ in_range cs h =
     [] cs h (record { begun = λ q past. refl; named = λ q past. refl })
 
 -- what a recorder's marks tell
-pub begun_told : {A : Type 0} (c : Inside A) (q : ℕ) → IsRecorded c → slice_index_or c.begun q false ≡ is_among q (issues (commands_of c))
+pub begun_told : {A : Type 0} (c : Inside A) (q : ℕ) → IsRecorded c → slice_index_or c.queries.begun q false ≡ is_among q (issues (commands_of c))
 begun_told c q r = ap (λ m. slice_index_or m q false) r.begun ∙ marks_tell (issues (commands_of c)) (in_range (commands_of c) r.accepted).begun q
 
-pub named_told : {A : Type 0} (c : Inside A) (q : ℕ) → IsRecorded c → slice_index_or c.named q false ≡ is_among q (queries_named (commands_of c))
+pub named_told : {A : Type 0} (c : Inside A) (q : ℕ) → IsRecorded c → slice_index_or c.queries.named q false ≡ is_among q (queries_named (commands_of c))
 named_told c q r = ap (λ m. slice_index_or m q false) r.named ∙ marks_tell (queries_named (commands_of c)) (in_range (commands_of c) r.accepted).named q
 
-pub recorded : {A : Type 0} (c d : Inside A) (k : Command) (triangles : ℕ) → IsRecorded c → OnlyLength (commands_of c) k triangles → (too_long (commands_of c) triangles).1 ≡ false → commands_of d ≡ commands_of c ++ k ∷ [] → settings_value d.settings ≡ settings_with k (settings_value c.settings) → d.triangles ≡ c.triangles + triangles → d.issues ≡ c.issues + cond (is_begin k) 1 0 → d.open_queries.items ≡ queries_with k c.open_queries.items → d.begun ≡ marked_by c.begun (query_begun k) → d.named ≡ marked_by c.named (query_named k) → IsRecorded d
+pub recorded : {A : Type 0} (c d : Inside A) (k : Command) (triangles : ℕ) → IsRecorded c → OnlyLength (commands_of c) k triangles → (too_long (commands_of c) triangles).1 ≡ false → commands_of d ≡ commands_of c ++ k ∷ [] → settings_value d.settings ≡ settings_with k (settings_value c.settings) → d.triangles ≡ c.triangles + triangles → d.queries.issues ≡ c.queries.issues + cond (is_begin k) 1 0 → d.queries.opened.items ≡ queries_with k c.queries.opened.items → d.queries.begun ≡ marked_by c.queries.begun (query_begun k) → d.queries.named ≡ marked_by c.queries.named (query_named k) → IsRecorded d
 recorded c d k triangles r only fits commands settings drawn begun opened marks names =
     let cs = commands_of c in
     let none = no_row cs k triangles only fits in
@@ -181,7 +186,7 @@ recorded c d k triangles r only fits commands settings drawn begun opened marks 
     }
 
 -- a query that begins has room among the open ones
-pub open_room : {A : Type 0} (c : Inside A) (k : Command) (triangles : ℕ) → IsRecorded c → OnlyLength (commands_of c) k triangles → (too_long (commands_of c) triangles).1 ≡ false → is_begin k ≡ true → length c.open_queries.items < 64
+pub open_room : {A : Type 0} (c : Inside A) (k : Command) (triangles : ℕ) → IsRecorded c → OnlyLength (commands_of c) k triangles → (too_long (commands_of c) triangles).1 ≡ false → is_begin k ≡ true → length c.queries.opened.items < 64
 open_room c k triangles r only fits begins =
     let few = few_begun (commands_of c) k (omega (arith, r.issues, r.few_issues)) (no_row (commands_of c) k triangles only fits) in
     let one : cond {A = ℕ} (is_begin k) 1 0 ≡ 1 = ap (λ b. cond {A = ℕ} b 1 0) begins in

@@ -1,4 +1,4 @@
-pub mod Seen
 pub mod Calls
 pub mod Recorder
 pub mod DrawRows
+pub mod Drawable

@@ -6,9 +6,10 @@ use Rattle.gfxspec.specs.Recorded.{settings_after, issues, queries_named, querie
 use Rattle.gfxspec.specs.Refusals.{first_row, list_rows, too_long}
 use Rattle.gfxspec.specs.Accepted.{AreAccepted}
 use Rattle.meaning.specs.OneMore.{triangles_of}
-use Rattle.cmdlist.specs.Seen.{settings_value, command_value}
+use Rattle.command.specs.Seen.{settings_value, command_value}
 use Rattle.cmdlist.specs.declared.context.DeferredContext.TheInside as context
 use Rattle.cmdlist.specs.declared.list.CommandList.TheInside as list
+use Rattle.cmdlist.specs.declared.list.Commands.TheInside as lent
 
 -- the commands that were recorded
 abbrev pub commands_of : {A : Type 0} → context.Inside A → List Command
@@ -34,20 +35,31 @@ pub record IsRecorded {A : Type 0} (c : context.Inside A) : Type 0 where
   pub triangles : c.triangles ≡ triangle_count (commands_of c)
   pub few_triangles : c.triangles ≤ LIST_LIMIT
   pub few_commands : length (commands_of c) ≤ LIST_LIMIT
-  pub begun : c.begun ≡ marks_of (issues (commands_of c))
-  pub named : c.named ≡ marks_of (queries_named (commands_of c))
-  pub issues : c.issues ≡ length (issues (commands_of c))
-  pub few_issues : c.issues ≤ 64
-  pub opened : c.open_queries.items ≡ queries_open (commands_of c)
-
--- commands of a finished list are accepted ones, and leave no query open
-pub record IsFinished (commands : List Command) : Type 0 where
-  pub accepted : AreAccepted commands
-  pub none_open : queries_open commands ≡ []
+  pub begun : c.queries.begun ≡ marks_of (issues (commands_of c))
+  pub named : c.queries.named ≡ marks_of (queries_named (commands_of c))
+  pub issues : c.queries.issues ≡ length (issues (commands_of c))
+  pub few_issues : c.queries.issues ≤ 64
+  pub opened : c.queries.opened.items ≡ queries_open (commands_of c)
 
 -- the commands of a finished list
 abbrev pub list_commands : {A : Type 0} → list.Inside A → List Command
 list_commands l = map command_value l.commands.items
+
+-- they are accepted ones and leave no query open, and what stands beside them is what the definitions give of them
+pub record IsFinished {A : Type 0} (l : list.Inside A) : Type 0 where
+  pub accepted : AreAccepted (list_commands l)
+  pub none_open : queries_open (list_commands l) ≡ []
+  pub triangles : l.triangles ≡ triangle_count (list_commands l)
+  pub issues : l.issues ≡ length (issues (list_commands l))
+
+-- the commands that are lent
+abbrev pub lent_commands : {A : Type 0} → lent.Inside A → List Command
+lent_commands l = map command_value l.commands.now
+
+pub record AreCounted {A : Type 0} (l : lent.Inside A) : Type 0 where
+  pub accepted : AreAccepted (lent_commands l)
+  pub triangles : l.triangles ≡ triangle_count (lent_commands l)
+  pub issues : l.issues ≡ length (issues (lent_commands l))
 
 -- a command that is a call of its own
 abbrev pub is_call : Command → Bool

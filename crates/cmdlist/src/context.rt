@@ -1,25 +1,20 @@
 //! Recording.
 
-ghost use Rattle.std.specs.Prelude.{◌≡◌, ◌<◌, ◌++◌, ◌∷◌, [], length, map, nat_le, option_map, replicate, slice_index_or, IfErr, IfOk, IsTrue, OnErr, OnOk, Some, false, true};
+ghost use Rattle.std.specs.Prelude.{◌≡◌, ◌<◌, ◌++◌, ◌∷◌, [], length, map, nat_le, replicate, slice_index_or, IfErr, IfOk, IsTrue, OnErr, OnOk, Some, false, true};
 ghost use Rattle.std.specs.List.{list_all};
-ghost use Rattle.arrayvec.specs.ArrayVec.{array_vec_len};
 ghost use Rattle.gfxspec.specs.Refusals.{is_in_range};
-ghost use Rattle.gfxspec.specs.Commands.{Kept};
+ghost use Rattle.gfxspec.specs.declared.error.GfxError.TheVariants.{ListTooLong};
+ghost use Rattle.gfxspec.specs.Commands.{Kept, SetVertices, SetIndices};
 ghost use Rattle.gfxspec.specs.Recorded.{issues, query_begun, query_named, queries_named, queries_open, after_finish};
 ghost use Rattle.gfxspec.specs.Refusals.{AnswersBy, first_row, list_rows, finish_rows, some_open, is_among, is_bad_scissor, is_bad_predicate, is_begun_predicate, too_long};
 ghost use Rattle.gfxspec.specs.Accepted.{AreAccepted, AreSound};
-ghost use Rattle.meaning.specs.OneMore.{queries_with};
-ghost use Rattle.cmdlist.specs.Recorder.{is_begin, marked_by};
-ghost use Rattle.cmdlist.specs.Calls.{call_value};
-ghost use Rattle.cmdlist.specs.Seen.{command_value, settings_value};
+ghost use Rattle.command.specs.Seen.{command_value, settings_value};
 
-use crate::call::{Call, command_of};
-use crate::command::Command;
 use crate::device_context::DeviceContext;
 use crate::drawing::{drawn_indexed_triangles, drawn_triangles};
-use crate::list::CommandList;
-use crate::settings::Settings;
-use arrayvec::ArrayVec;
+use crate::list::{CommandList, Commands};
+use crate::queries::{Queries, is_marked};
+use command::{Buffer, Command, Settings};
 use gfxspec::{
     BUFFER_LIMIT, COORDINATE_LIMIT, DEPTH_MAX, GfxError, ISSUE_LIMIT, LIST_LIMIT, PixelRect,
     QUERY_LIMIT, SIDE_LIMIT, Vertex,
@@ -62,96 +57,13 @@ fn is_predicate_bad(predicate: Option<(u32, bool)>) -> bool
     }
 }
 
-/// The query of a predicate.
-fn query_of(predicate: Option<(u32, bool)>) -> Option<u32>
-    ensures { result ≡ option_map (λ p. p.0) predicate }
-{
-    match predicate {
-        Some((query, _)) => Some(query),
-        None => None,
-    }
-}
-
-/// The query by which a command sets a predicate.
-fn named<A: Allocator>(command: &Command<A>) -> Option<u32>
-    ensures { result ≡ query_named (command_value command.now) }
-{
-    match command {
-        Command::SetPredication(predicate) => query_of(*predicate),
-        Command::Kept(settings) => query_of(settings.predicate),
-        _ => None,
-    }
-}
-
-/// The query that a command begins.
-fn begun<A: Allocator>(command: &Command<A>) -> Option<u32>
-    ensures { result ≡ query_begun (command_value command.now) }
-{
-    match command {
-        Command::Begin(query) => Some(*query),
-        _ => None,
-    }
-}
-
-/// No query is marked.
-fn no_marks() -> [bool; 64]
-    ensures { result ≡ replicate 64 false }
-{
-    [false; 64]
-}
-
-/// Marks a query, if there is one.
-fn mark(marks: &mut [bool; 64], query: Option<u32>)
-    ensures { marks.new ≡ marked_by marks.old query }
-{
-    if let Some(query) = query {
-        if query < QUERY_LIMIT {
-            marks[query as usize] = true;
-        }
-    }
-}
-
-/// Whether a query is marked.
-fn is_marked(marks: &[bool; 64], query: u32) -> bool
-    ensures { result ≡ slice_index_or marks.now query false }
-{
-    match marks.get(query as usize) {
-        Some(mark) => *mark,
-        None => false,
-    }
-}
-
-/// Whether a command begins a query.
-fn begins<A: Allocator>(command: &Command<A>) -> bool
-    ensures { result ≡ is_begin (command_value command.now) }
-{
-    matches!(command, Command::Begin(_))
-}
-
-/// Opens the query that a command begins, and closes the one that it ends.
-fn note_query<A: Allocator>(open_queries: &mut ArrayVec<u32, 64>, command: &Command<A>)
-    requires { is_begin (command_value command.now) ≡ true → array_vec_len open_queries.old < 64 }
-    ensures { open_queries.new.items ≡ queries_with (command_value command.now) open_queries.old.items }
-{
-    match command {
-        Command::Begin(query) => open_queries.push(*query),
-        Command::End(query) => open_queries.retain(|other| *other != *query),
-        _ => {}
-    }
-}
-
 /// A context that records commands and runs none (Microsoft Learn, ID3D11DeviceContext, deferred).
 #[derive(Drop)]
 pub struct DeferredContext<A: Allocator> {
     commands: Vec<Command<A>, A>,
     settings: Settings<A>,
     triangles: u32,
-    issues: u32,
-    open_queries: ArrayVec<u32, 64>,
-    /// The queries that the list has begun.
-    begun: [bool; 64],
-    /// The queries by which its commands set predicates.
-    named: [bool; 64],
+    queries: Queries,
 }
 
 impl<A: Allocator> Model for DeferredContext<A> {
@@ -178,32 +90,22 @@ impl<A: Allocator + Copy> DeferredContext<A> {
             commands: Vec::new(alloc),
             settings: Settings::new(),
             triangles: 0,
-            issues: 0,
-            open_queries: ArrayVec::new(),
-            begun: no_marks(),
-            named: no_marks(),
+            queries: Queries::none(),
         }
-    }
-
-    /// Whether the list has no room for one more command that draws so many triangles.
-    fn is_full(&self, triangles: u32) -> bool
-        ensures { result ≡ (too_long self.now triangles).1 }
-    {
-        self.commands.len() >= LIST_LIMIT as usize || triangles > LIST_LIMIT - self.triangles
     }
 
     /// Whether a query is open.
     fn is_open(&self, query: u32) -> bool
         ensures { result ≡ is_among query (queries_open self.now) }
     {
-        self.open_queries.contains(&query)
+        self.queries.opened.contains(&query)
     }
 
     /// Whether some query is open.
     pub fn has_open_queries(&self) -> bool
         ensures { result ≡ some_open (queries_open self.now) }
     {
-        !self.open_queries.is_empty()
+        !self.queries.opened.is_empty()
     }
 
     /// Whether the list has begun the query of a predicate.
@@ -211,7 +113,7 @@ impl<A: Allocator + Copy> DeferredContext<A> {
         ensures { result ≡ is_begun_predicate self.now predicate }
     {
         match predicate {
-            Some((query, _)) => is_marked(&self.begun, query),
+            Some((query, _)) => is_marked(&self.queries.begun, query),
             None => false,
         }
     }
@@ -220,59 +122,99 @@ impl<A: Allocator + Copy> DeferredContext<A> {
     fn is_named(&self, query: u32) -> bool
         ensures { result ≡ is_among query (queries_named self.now) }
     {
-        is_marked(&self.named, query)
+        is_marked(&self.queries.named, query)
     }
 
     /// Whether the list has all the issues that a list may have.
     fn has_all_issues(&self) -> bool
         ensures { result ≡ nat_le ISSUE_LIMIT (length (issues self.now)) }
     {
-        self.issues >= ISSUE_LIMIT
+        self.queries.issues >= ISSUE_LIMIT
     }
 
-    /// Looks at each row of a call but that on the length of the list, and counts the triangles that it draws.
-    fn examine_but_length(&self, call: &Call<'_>) -> Result<u32, GfxError>
-        ensures ok { IfOk result (λ triangles. OnlyLength self.now (call_value call.now) triangles) }
-        ensures err { IfErr result (λ e. first_row (list_rows self.now (call_value call.now)) ≡ Some e) }
+    /// Whether vertices may be set, whatever the length of the list. Refused with VertexCount, VertexRange.
+    fn examine_vertices(&self, vertices: &[Vertex]) -> Result<(), GfxError>
+        ensures ok { OnOk result (OnlyLength self.now (SetVertices vertices.now) 0) }
+        ensures err { IfErr result (λ e. first_row (list_rows self.now (SetVertices vertices.now)) ≡ Some e) }
     {
-        match *call {
-            Call::SetVertices(vertices) if vertices.len() > BUFFER_LIMIT => {
-                Err(GfxError::VertexCount)
+        if vertices.len() > BUFFER_LIMIT {
+            return Err(GfxError::VertexCount);
+        }
+        if !are_in_range(vertices) {
+            return Err(GfxError::VertexRange);
+        }
+        Ok(())
+    }
+
+    /// Whether indices may be set, whatever the length of the list. Refused with VertexCount.
+    fn examine_indices(&self, indices: &[u16]) -> Result<(), GfxError>
+        ensures ok { OnOk result (OnlyLength self.now (SetIndices indices.now) 0) }
+        ensures err { IfErr result (λ e. first_row (list_rows self.now (SetIndices indices.now)) ≡ Some e) }
+    {
+        if indices.len() > BUFFER_LIMIT {
+            return Err(GfxError::VertexCount);
+        }
+        Ok(())
+    }
+
+    /// Looks at each row of a command but that on the length of the list, and counts the triangles that it draws.
+    fn examine_but_length(&self, command: &Command<A>) -> Result<u32, GfxError>
+        ensures ok { IfOk result (λ triangles. OnlyLength self.now (command_value command.now) triangles) }
+        ensures err { OnErr result (AnswersBy (list_rows self.now (command_value command.now)) result) }
+    {
+        match command {
+            Command::SetVertices(vertices) => {
+                self.examine_vertices(vertices.as_slice())?;
+                Ok(0)
             }
-            Call::SetVertices(vertices) if !are_in_range(vertices) => Err(GfxError::VertexRange),
-            Call::SetIndices(indices) if indices.len() > BUFFER_LIMIT => Err(GfxError::VertexCount),
-            Call::SetScissor(scissor) if is_scissor_bad(scissor) => Err(GfxError::ScissorRect),
-            Call::SetPredication(predicate) if is_predicate_bad(predicate) => {
+            Command::SetIndices(indices) => {
+                self.examine_indices(indices.as_slice())?;
+                Ok(0)
+            }
+            Command::SetScissor(scissor) if is_scissor_bad(*scissor) => Err(GfxError::ScissorRect),
+            Command::SetPredication(predicate) if is_predicate_bad(*predicate) => {
                 Err(GfxError::QueryNumber)
             }
-            Call::SetPredication(predicate) if self.is_predicate_begun(predicate) => {
+            Command::SetPredication(predicate) if self.is_predicate_begun(*predicate) => {
                 Err(GfxError::PredicateInList)
             }
-            Call::Draw(count, start) => drawn_triangles(&self.settings.state(), count, start),
-            Call::DrawIndexed(count, start, base) => {
-                drawn_indexed_triangles(&self.settings.state(), count, start, base)
+            Command::Draw(count, start) => drawn_triangles(&self.settings.state(), *count, *start),
+            Command::DrawIndexed(count, start, base) => {
+                drawn_indexed_triangles(&self.settings.state(), *count, *start, *base)
             }
-            Call::ClearDepthStencil(depth, _) if depth > DEPTH_MAX => Err(GfxError::VertexRange),
-            Call::Begin(query) if query >= QUERY_LIMIT => Err(GfxError::QueryNumber),
-            Call::Begin(query) if self.is_open(query) => Err(GfxError::QueryOpen),
-            Call::Begin(query) if self.is_named(query) => Err(GfxError::PredicateInList),
-            Call::Begin(_) if self.has_all_issues() => Err(GfxError::TooManyIssues),
-            Call::End(query) if query >= QUERY_LIMIT => Err(GfxError::QueryNumber),
-            Call::End(query) if !self.is_open(query) => Err(GfxError::QueryNotOpen),
+            Command::ClearDepthStencil(depth, _) if *depth > DEPTH_MAX => {
+                Err(GfxError::VertexRange)
+            }
+            Command::Begin(query) if *query >= QUERY_LIMIT => Err(GfxError::QueryNumber),
+            Command::Begin(query) if self.is_open(*query) => Err(GfxError::QueryOpen),
+            Command::Begin(query) if self.is_named(*query) => Err(GfxError::PredicateInList),
+            Command::Begin(_) if self.has_all_issues() => Err(GfxError::TooManyIssues),
+            Command::End(query) if *query >= QUERY_LIMIT => Err(GfxError::QueryNumber),
+            Command::End(query) if !self.is_open(*query) => Err(GfxError::QueryNotOpen),
+            Command::Kept(_) => Err(GfxError::OutOfMemory),
             _ => Ok(0),
         }
     }
 
-    /// Looks at each row of a call, and counts the triangles that it draws.
-    fn examine(&self, call: &Call<'_>) -> Result<u32, GfxError>
-        ensures answer { AnswersBy (list_rows self.now (call_value call.now)) result }
-        ensures only { IfOk result (λ triangles. OnlyLength self.now (call_value call.now) triangles) }
-        ensures room { IfOk result (λ triangles. (too_long self.now triangles).1 ≡ false) }
+    /// Whether the list has room for one more command that draws so many triangles. Refused with ListTooLong.
+    fn examine_length(&self, triangles: u32) -> Result<(), GfxError>
+        ensures ok { OnOk result ((too_long self.now triangles).1 ≡ false) }
+        ensures err { IfErr result (λ e. ((too_long self.now triangles).1 ≡ true) × (e ≡ ListTooLong)) }
     {
-        let triangles = self.examine_but_length(call)?;
-        if self.is_full(triangles) {
+        if self.commands.len() >= LIST_LIMIT as usize || triangles > LIST_LIMIT - self.triangles {
             return Err(GfxError::ListTooLong);
         }
+        Ok(())
+    }
+
+    /// Looks at each row of a command, and counts the triangles that it draws.
+    fn examine(&self, command: &Command<A>) -> Result<u32, GfxError>
+        ensures answer { AnswersBy (list_rows self.now (command_value command.now)) result }
+        ensures only { IfOk result (λ triangles. OnlyLength self.now (command_value command.now) triangles) }
+        ensures room { IfOk result (λ triangles. (too_long self.now triangles).1 ≡ false) }
+    {
+        let triangles = self.examine_but_length(command)?;
+        self.examine_length(triangles)?;
         Ok(triangles)
     }
 
@@ -287,10 +229,7 @@ impl<A: Allocator + Copy> DeferredContext<A> {
         self.commands.try_reserve(1)?;
         self.settings.change(&command)?;
         self.triangles += triangles;
-        self.issues += u32::from(begins(&command));
-        note_query(&mut self.open_queries, &command);
-        mark(&mut self.begun, begun(&command));
-        mark(&mut self.named, named(&command));
+        self.queries.note(&command);
         self.commands.push(command).unwrap();
         Ok(())
     }
@@ -317,6 +256,17 @@ impl<A: Allocator + Copy> DeferredContext<A> {
         ensures accepted { AreAccepted self.now }
     {
         self.commands.as_slice()
+    }
+
+    /// These commands, lent with what was counted of them.
+    pub fn recorded(&self) -> Commands<'_, A>
+        ensures { result ≡ self.now }
+    {
+        Commands {
+            commands: self.commands.as_slice(),
+            triangles: self.triangles,
+            issues: self.queries.issues,
+        }
     }
 
     /// Whether the list holds the kept state alone. A finish that keeps the state then begins the same list again.
@@ -348,6 +298,8 @@ impl<A: Allocator + Copy> DeferredContext<A> {
     {
         CommandList {
             commands: self.commands,
+            triangles: self.triangles,
+            issues: self.queries.issues,
         }
     }
 
@@ -358,19 +310,16 @@ impl<A: Allocator + Copy> DeferredContext<A> {
         ensures kept { IfOk result (λ context. context ≡ Kept (settings_value settings) ∷ []) }
         ensures memory { IfErr result (λ e. e ≡ GfxError.OutOfMemory) }
     {
-        let mut named = no_marks();
-        mark(&mut named, query_of(settings.predicate));
-        let kept = Box::new(alloc, kept)?;
+        let kept = Command::Kept(Box::new(alloc, kept)?);
+        let mut queries = Queries::none();
+        queries.note(&kept);
         let mut commands = Vec::new(alloc);
-        commands.push(Command::Kept(kept))?;
+        commands.push(kept)?;
         Ok(DeferredContext {
             commands,
             settings,
             triangles: 0,
-            issues: 0,
-            open_queries: ArrayVec::new(),
-            begun: no_marks(),
-            named,
+            queries,
         })
     }
 }
@@ -382,10 +331,26 @@ impl<A: Allocator + Copy> DeviceContext for DeferredContext<A> {
 
     ghost with = { λ commands c. commands ++ c ∷ [] };
 
-    fn record(&mut self, call: &Call<'_>) -> Result<(), GfxError> {
-        let triangles = self.examine(call)?;
-        let command = command_of(*self.commands.allocator(), call)?;
+    type Alloc = A;
+
+    fn record(&mut self, command: &Command<A>) -> Result<(), GfxError> {
+        let triangles = self.examine(command)?;
+        let command = command.share(*self.commands.allocator())?;
         self.append(command, triangles)
+    }
+
+    fn ia_set_vertices(&mut self, vertices: &[Vertex]) -> Result<(), GfxError> {
+        self.examine_vertices(vertices)?;
+        self.examine_length(0)?;
+        let vertices = Buffer::from_slice(*self.commands.allocator(), vertices)?;
+        self.append(Command::SetVertices(vertices), 0)
+    }
+
+    fn ia_set_indices(&mut self, indices: &[u16]) -> Result<(), GfxError> {
+        self.examine_indices(indices)?;
+        self.examine_length(0)?;
+        let indices = Buffer::from_slice(*self.commands.allocator(), indices)?;
+        self.append(Command::SetIndices(indices), 0)
     }
 
     ghost appends = { λ commands c. refl };

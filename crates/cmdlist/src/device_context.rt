@@ -2,62 +2,61 @@
 
 ghost use Rattle.std.specs.Prelude.{◌≡◌, ◌++◌, ◌∷◌, [], List};
 ghost use Rattle.gfxspec.specs.Commands.{Command, SetVertices, SetIndices, SetTopology, SetRaster, SetScissor, SetDepthStencil, SetBlend, SetPredication, Draw, DrawIndexed, ClearColor, ClearDepthStencil, Begin, End};
-ghost use Rattle.cmdlist.specs.Calls.{call_value, RecordsCall};
+ghost use Rattle.command.specs.Seen.{command_value};
+ghost use Rattle.cmdlist.specs.Calls.{RecordsCall};
 
-use crate::call::Call;
+use command::Command;
 use gfxspec::{GfxError, PixelRect, Topology, Vertex};
 use states::{BlendState, DepthStencilState, RasterState};
+use std::alloc::Allocator;
 
 /// A context that records calls (Microsoft Learn, ID3D11DeviceContext): deferred or immediate.
 ///
 /// A call is answered by its rows, looked at in their order; it is one command more where it is accepted, and changes
 /// nothing where it is refused. Any call may be refused with OutOfMemory, behind its other rows.
 pub trait DeviceContext {
+    /// Where commands have their memory from.
+    type Alloc: Allocator;
+
     /// The commands of the list that the context is recording.
     ghost recorded: { Self → List Command };
 
     /// The context with one command more, and nothing else changed.
     ghost with: { Self → Command → Self };
 
-    /// Records a call.
-    fn record(&mut self, call: &Call<'_>) -> Result<(), GfxError>
-        ensures { RecordsCall recorded with self.old (call_value call.now) self.new result };
+    /// Records a command. The kept state is no call: it is refused with OutOfMemory.
+    fn record(&mut self, command: &Command<Self::Alloc>) -> Result<(), GfxError>
+        ensures { RecordsCall recorded with self.old (command_value command.now) self.new result };
+
+    /// Sets the vertices, which are copied. Refused with VertexCount, VertexRange, ListTooLong.
+    fn ia_set_vertices(&mut self, vertices: &[Vertex]) -> Result<(), GfxError>
+        ensures { RecordsCall recorded with self.old (SetVertices vertices.now) self.new result };
+
+    /// Sets the indices, which are copied. Refused with VertexCount, ListTooLong.
+    fn ia_set_indices(&mut self, indices: &[u16]) -> Result<(), GfxError>
+        ensures { RecordsCall recorded with self.old (SetIndices indices.now) self.new result };
 
     ghost appends: { (context : Self) (c : Command) → recorded (with context c) ≡ recorded context ++ c ∷ [] };
-
-    /// Sets the vertices. Refused with VertexCount, VertexRange, ListTooLong.
-    final fn ia_set_vertices(&mut self, vertices: &[Vertex]) -> Result<(), GfxError>
-        ensures { RecordsCall recorded with self.old (SetVertices vertices.now) self.new result }
-    {
-        self.record(&Call::SetVertices(vertices))
-    }
-
-    /// Sets the indices. Refused with VertexCount, ListTooLong.
-    final fn ia_set_indices(&mut self, indices: &[u16]) -> Result<(), GfxError>
-        ensures { RecordsCall recorded with self.old (SetIndices indices.now) self.new result }
-    {
-        self.record(&Call::SetIndices(indices))
-    }
 
     /// Sets the topology. Refused with ListTooLong.
     final fn ia_set_topology(&mut self, topology: Topology) -> Result<(), GfxError>
         ensures { RecordsCall recorded with self.old (SetTopology topology) self.new result }
     {
-        self.record(&Call::SetTopology(topology))
+        self.record(&Command::SetTopology(topology))
     }
 
     /// Sets the rasterizer state. Refused with ListTooLong.
     final fn rs_set_state(&mut self, raster: RasterState) -> Result<(), GfxError>
         ensures { RecordsCall recorded with self.old (SetRaster raster) self.new result }
     {
-        self.record(&Call::SetRaster(raster))
+        self.record(&Command::SetRaster(raster))
     }
 
     /// Sets the scissor rectangle, in pixels. Refused with ScissorRect, ListTooLong.
     final fn rs_set_scissor(&mut self, scissor: PixelRect) -> Result<(), GfxError>
         ensures { RecordsCall recorded with self.old (SetScissor scissor) self.new result }
     {
-        self.record(&Call::SetScissor(scissor))
+        self.record(&Command::SetScissor(scissor))
     }
 
     /// Sets the depth-stencil state with its reference. Refused with ListTooLong.
@@ -68,14 +67,14 @@ pub trait DeviceContext {
     ) -> Result<(), GfxError>
         ensures { RecordsCall recorded with self.old (SetDepthStencil depth_stencil reference) self.new result }
     {
-        self.record(&Call::SetDepthStencil(depth_stencil, reference))
+        self.record(&Command::SetDepthStencil(depth_stencil, reference))
     }
 
     /// Sets the blend state. Refused with ListTooLong.
     final fn om_set_blend(&mut self, blend: BlendState) -> Result<(), GfxError>
         ensures { RecordsCall recorded with self.old (SetBlend blend) self.new result }
     {
-        self.record(&Call::SetBlend(blend))
+        self.record(&Command::SetBlend(blend))
     }
 
     /// Sets the predicate, a query, 0 to 63, and a value, or none. Draws and clears under it are not performed where the
@@ -84,14 +83,14 @@ pub trait DeviceContext {
     final fn set_predication(&mut self, predicate: Option<(u32, bool)>) -> Result<(), GfxError>
         ensures { RecordsCall recorded with self.old (SetPredication predicate) self.new result }
     {
-        self.record(&Call::SetPredication(predicate))
+        self.record(&Command::SetPredication(predicate))
     }
 
     /// Draws vertices: a count, and the first place. Refused with TopologyUnset, DrawRange, ListTooLong.
     final fn draw(&mut self, count: u32, start: u32) -> Result<(), GfxError>
         ensures { RecordsCall recorded with self.old (Draw count start) self.new result }
     {
-        self.record(&Call::Draw(count, start))
+        self.record(&Command::Draw(count, start))
     }
 
     /// Draws vertices by indices: a count, the first place in the indices, and what is added to each index. Refused with
@@ -99,14 +98,14 @@ pub trait DeviceContext {
     final fn draw_indexed(&mut self, count: u32, start: u32, base: i32) -> Result<(), GfxError>
         ensures { RecordsCall recorded with self.old (DrawIndexed count start base) self.new result }
     {
-        self.record(&Call::DrawIndexed(count, start, base))
+        self.record(&Command::DrawIndexed(count, start, base))
     }
 
     /// Clears the colour of every pixel of the target, whatever the state is but the predicate. Refused with ListTooLong.
     final fn clear_color(&mut self, rgba: [u8; 4]) -> Result<(), GfxError>
         ensures { RecordsCall recorded with self.old (ClearColor rgba) self.new result }
     {
-        self.record(&Call::ClearColor(rgba))
+        self.record(&Command::ClearColor(rgba))
     }
 
     /// Clears depth and stencil of every pixel of the target, whatever the state is but the predicate. Refused with
@@ -114,7 +113,7 @@ pub trait DeviceContext {
     final fn clear_depth_stencil(&mut self, depth: u32, stencil: u8) -> Result<(), GfxError>
         ensures { RecordsCall recorded with self.old (ClearDepthStencil depth stencil) self.new result }
     {
-        self.record(&Call::ClearDepthStencil(depth, stencil))
+        self.record(&Command::ClearDepthStencil(depth, stencil))
     }
 
     /// Begins a query, 0 to 63. Refused with QueryNumber, QueryOpen, PredicateInList where a predicate of the list names
@@ -122,13 +121,13 @@ pub trait DeviceContext {
     final fn begin(&mut self, query: u32) -> Result<(), GfxError>
         ensures { RecordsCall recorded with self.old (Begin query) self.new result }
     {
-        self.record(&Call::Begin(query))
+        self.record(&Command::Begin(query))
     }
 
     /// Ends a query that is open. Refused with QueryNumber, QueryNotOpen, ListTooLong.
     final fn end(&mut self, query: u32) -> Result<(), GfxError>
         ensures { RecordsCall recorded with self.old (End query) self.new result }
     {
-        self.record(&Call::End(query))
+        self.record(&Command::End(query))
     }
 }

@@ -5,11 +5,11 @@ ghost use Rattle.std.specs.List.{list_all};
 ghost use Rattle.gfxspec.specs.Assembly.{draw_primitives, draw_indexed_primitives};
 ghost use Rattle.gfxspec.specs.Refusals.{first_row, is_used_well};
 ghost use Rattle.gfxspec.specs.Accepted.{AreSound};
-ghost use Rattle.cmdlist.specs.Seen.{state_value};
+ghost use Rattle.command.specs.Seen.{state_value};
 ghost use Rattle.cmdlist.specs.DrawRows.{draw_rows, draw_indexed_rows};
 
-use crate::settings::State;
 use assemble::{Draw, triangle_count};
+use command::State;
 use gfxspec::{GfxError, STRIP_CUT, Topology};
 
 /// Whether an index with the base is a vertex, or the cut of a strip.

@@ -3,7 +3,7 @@
 
 use crate::calls::list_of;
 use crate::meeting::AllAtOnce;
-use cmdlist::{Call, CommandList};
+use cmdlist::{Buffer, Command, CommandList};
 use gfxspec::{GfxError, Size, Topology, Vertex};
 use immediate::{ImmediateContext, RunCrew};
 use refusing::Refusing;
@@ -58,16 +58,16 @@ fn large_of<'x, A: Allocator + Copy>(
     list_of(
         alloc,
         &[
-            Call::SetVertices(vertices),
-            Call::SetIndices(indices),
-            Call::SetTopology(Topology::TriangleList),
-            Call::Draw(CORNERS, 0),
-            Call::ClearDepthStencil(5_500_000, 3),
-            Call::DrawIndexed(900, 7, BASE),
-            Call::SetTopology(Topology::TriangleStrip),
-            Call::Draw(290, 50),
-            Call::SetTopology(Topology::TriangleList),
-            Call::Draw(7, 3),
+            Command::SetVertices(Buffer::from_slice(alloc, vertices)?),
+            Command::SetIndices(Buffer::from_slice(alloc, indices)?),
+            Command::SetTopology(Topology::TriangleList),
+            Command::Draw(CORNERS, 0),
+            Command::ClearDepthStencil(5_500_000, 3),
+            Command::DrawIndexed(900, 7, BASE),
+            Command::SetTopology(Topology::TriangleStrip),
+            Command::Draw(290, 50),
+            Command::SetTopology(Topology::TriangleList),
+            Command::Draw(7, 3),
         ],
     )
 }
@@ -87,9 +87,9 @@ fn small_of<A: Allocator + Copy>(
     list_of(
         alloc,
         &[
-            Call::SetVertices(vertices),
-            Call::SetTopology(Topology::TriangleList),
-            Call::Draw(3, 300),
+            Command::SetVertices(Buffer::from_slice(alloc, vertices)?),
+            Command::SetTopology(Topology::TriangleList),
+            Command::Draw(3, 300),
         ],
     )
 }

@@ -11,8 +11,8 @@ use Rattle.meaning.specs.Contexts.{Context, HasRun, shown, answered, performed_n
 use Rattle.meaning.proofs.Folding.{after_items-append}
 use Rattle.meaning.proofs.Performed.{performed_alike}
 use Rattle.meaning.proofs.Predicates.{performed_same, no_last_begun, withholds_same}
-use Rattle.cmdlist.specs.declared.command.Command.{Command as Code}
-use Rattle.cmdlist.specs.Seen.{command_value}
+use Rattle.command.specs.declared.command.Command.{Command as Code}
+use Rattle.command.specs.Seen.{command_value}
 use Rattle.immediate.proofs.Settled.{first_false, second_false}
 use Rattle.gfxspec.specs.declared.geometry.Size.{Size}
 use Rattle.gfxspec.specs.Items.{Item, after_items}
@@ -25,20 +25,9 @@ use Rattle.tileprog.proofs.Several.{several_drawn}
 use Rattle.immediate.specs.Outputs as outputs
 use Rattle.immediate.specs.Outputs.{Outputs, performed_over, cut_over}
 use Rattle.immediate.specs.Held.{Held, outputs_of, context_of, stored}
-use Rattle.binner.specs.Compiling.{told}
+use Rattle.cmdlist.specs.Drawable.{told}
 use Rattle.immediate.specs.Batched.{HasDrawn}
 use Rattle.immediate.proofs.Runs.{IsKept}
-
--- where no command begins a query there is no issue
-pub no_issues : {A : Type 0} (cs : List (Code A)) → list_any (λ c. is_some (query_begun (command_value c))) cs ≡ false → issues (map command_value cs) ≡ []
-no_issues [] h = refl
-no_issues (c ∷ cs) h =
-    by (query_begun (command_value c)) (first_false (is_some (query_begun (command_value c))) (list_any (λ d. is_some (query_begun (command_value d))) cs) h)
-    (no_issues cs (second_false (is_some (query_begun (command_value c))) (list_any (λ d. is_some (query_begun (command_value d))) cs) h))
-  where
-    by : (o : Option ℕ) → is_some o ≡ false → issues (map command_value cs) ≡ [] → cons_option o (issues (map command_value cs)) ≡ []
-    by None e k = k
-    by (Some q) e k = absurd cc
 
 -- ---- segments
 

@@ -6,7 +6,7 @@ use Rattle.gfxspec.specs.declared.error.GfxError.{GfxError}
 use Rattle.gfxspec.specs.Commands.{Command}
 use Rattle.tileblock.specs.Surface.{Surface}
 use Rattle.binner.specs.Compiled.{Compilation}
-use Rattle.binner.specs.Compiling.{told}
+use Rattle.cmdlist.specs.Drawable.{told}
 use Rattle.binner.specs.Segments.{cut_items, AreCompiled}
 use Rattle.segmentrun.specs.declared.job.SegmentJob.{SegmentJob}
 use Rattle.segmentrun.specs.Running.{running}

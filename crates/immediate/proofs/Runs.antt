@@ -19,7 +19,7 @@ use Rattle.gfxspec.specs.Accepted.{AreAccepted}
 use Rattle.port.specs.declared.submission.Submission.{Submission}
 use Rattle.tileblock.specs.Surface.{Surface, IsWhole, pixel_of}
 use Rattle.binner.specs.Compiled.{Compilation, IsCompilation, MeansList}
-use Rattle.binner.specs.Compiling.{told}
+use Rattle.cmdlist.specs.Drawable.{told}
 use Rattle.tileprog.specs.Programs.{ProgramsRan}
 use Rattle.tileprog.proofs.Ordering.{list_ran}
 use Rattle.immediate.specs.Outputs as outputs

@@ -8,7 +8,7 @@ use Rattle.gfxspec.specs.Predication.{performed, result_of}
 use Rattle.gfxspec.specs.Accepted.{AreAccepted}
 use Rattle.meaning.specs.Contexts.{result_at}
 use Rattle.meaning.proofs.Predicates.{performed_same}
-use Rattle.binner.specs.Compiling.{told}
+use Rattle.cmdlist.specs.Drawable.{told}
 
 pub record ToldSoFar (results : List (Option ℕ)) (i : ℕ) (flags : List Bool) : Type 0 where
   pub long : length flags ≡ 64

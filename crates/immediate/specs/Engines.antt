@@ -12,10 +12,10 @@ use Rattle.gfxspec.specs.Predication.{performed}
 use Rattle.gfxspec.specs.Accepted.{AreAccepted}
 use Rattle.tileblock.specs.Surface.{Surface, IsWhole}
 use Rattle.binmem.specs.Lists.{no_words}
-use Rattle.cmdlist.specs.declared.command.Command.{Command as Code}
-use Rattle.cmdlist.specs.Seen.{command_value}
+use Rattle.command.specs.declared.command.Command.{Command as Code}
+use Rattle.command.specs.Seen.{command_value}
 use Rattle.binner.specs.Compiled.{Compilation, IsCompilation, MeansList}
-use Rattle.binner.specs.Compiling.{told}
+use Rattle.cmdlist.specs.Drawable.{told}
 use Rattle.binner.specs.Segments.{cut_items, AreCompiled}
 use Rattle.segmentrun.specs.declared.job.SegmentJob.{SegmentJob}
 use Rattle.segmentrun.specs.Running.{running}

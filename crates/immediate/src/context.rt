@@ -6,7 +6,6 @@ ghost use Rattle.gfxspec.specs.declared.TheConstants.{QUERY_LIMIT};
 ghost use Rattle.gfxspec.specs.declared.error.GfxError.TheVariants.{OutOfMemory};
 ghost use Rattle.gfxspec.specs.Recorded.{items, issues, queries_open, is_drawing, after_finish};
 ghost use Rattle.gfxspec.specs.Refusals.{AnswersBy, flush_rows, pixel_rows, query_rows, flush_rows_by, pixel_rows_by, query_rows_by, worker_rows};
-ghost use Rattle.gfxspec.specs.Accepted.{AreAccepted};
 ghost use Rattle.tileblock.specs.Surface.{IsWhole, pixel_of, size_rows};
 ghost use Rattle.meaning.specs.Standing.{IsNew};
 ghost use Rattle.meaning.specs.Contexts.{result_at};
@@ -17,7 +16,7 @@ ghost use Rattle.immediate.specs.declared.task.Task.TheVariants.{Settle};
 ghost use Rattle.immediate.specs.Engines.{IsEngine, MayList, IsListed, MayCompile, AreMade, MayDraw, IsDrawnBy};
 ghost use Rattle.immediate.specs.Tasks.{Performs};
 ghost use Rattle.immediate.specs.Held.{context_of, shown, answered, Stays, Ran, Executed, MayHaveRun, Runs, Enqueues, IsExamined};
-ghost use Rattle.cmdlist.specs.Seen.{command_value};
+ghost use Rattle.command.specs.Seen.{command_value};
 
 use crate::counts::some_begins;
 use crate::crew::RunCrew;
@@ -26,12 +25,11 @@ use crate::engine::{Engine, EngineBy, EngineOf};
 use crate::executions::{Executions, wait};
 use crate::output::Output;
 use crate::pending::{run_all, run_waiting};
-use crate::room::some_begin;
 use crate::task::Task;
 use binmem::Bins;
 use binner::{Compiled, compile, compile_parallel};
-use cmdlist::{Call, Command, CommandList, DeferredContext, DeviceContext};
-use gfxspec::{GfxError, Pixel, QUERY_LIMIT, Size, WORKER_LIMIT};
+use cmdlist::{Command, CommandList, Commands, DeferredContext, DeviceContext};
+use gfxspec::{GfxError, Pixel, QUERY_LIMIT, Size, Vertex, WORKER_LIMIT};
 use port::{DrainPass, Ports, Submission};
 use segmentrun::{Lists, SegmentJob, compile_alone, compile_by_crew};
 use std::alloc::Allocator;
@@ -53,11 +51,6 @@ fn begin_anew<A: Allocator + Copy>(alloc: A, pending: &mut DeferredContext<A>, r
 
 /// The task of a flush: nothing is executed behind the pending commands, and the state stays.
 const FLUSH: Task = Task::Execute { restore: true };
-
-/// The commands that a flush executes.
-fn no_commands<A: Allocator>() -> [Command<A>; 0] {
-    []
-}
 
 /// The answer for a submission whose list was executed: its port and number, or why the execution was refused, and then it
 /// comes back.
@@ -202,13 +195,12 @@ impl<A: Allocator + Copy + Send> ImmediateContext<A> {
     /// Runs the pending commands, and then those of a list.
     fn run<E: EngineOf<A>>(
         &mut self,
-        list: &[Command<A>],
+        list: &Commands<'_, A>,
         restore: bool,
         engine: &E,
     ) -> Result<(), GfxError>
         requires engine { IsEngine (E.may_list engine.now) (E.lists engine.now) (E.may_compile engine.now) (E.compiles engine.now) (E.may_draw engine.now) (E.draws engine.now) }
-        requires accepted { AreAccepted (map command_value list.now) }
-        ensures ok { OnOk result (Ran (map command_value list.now) restore self.old self.new) }
+        ensures ok { OnOk result (Ran list.now restore self.old self.new) }
         ensures memory { IfErr result (λ e. e ≡ OutOfMemory) }
         ensures left { OnErr result (MayHaveRun self.old self.new) }
     {
@@ -225,9 +217,8 @@ impl<A: Allocator + Copy + Send> ImmediateContext<A> {
 
     /// Leaves the pending commands and those of a list behind them waiting, so many workers beside the caller being to run them. It
     /// says whether they wait; if not, nothing is changed.
-    fn wait(&mut self, list: &[Command<A>], restore: bool, workers: u32) -> bool
-        requires accepted { AreAccepted (map command_value list.now) }
-        ensures waits { result ≡ true → Executed (map command_value list.now) restore self.old self.new }
+    fn wait(&mut self, list: &Commands<'_, A>, restore: bool, workers: u32) -> bool
+        ensures waits { result ≡ true → Executed list.now restore self.old self.new }
         ensures same { result ≡ false → self.new ≡ self.old }
     {
         wait(&mut self.waiting, &mut self.pending, list, restore, workers)
@@ -237,17 +228,16 @@ impl<A: Allocator + Copy + Send> ImmediateContext<A> {
     /// waits has run. Else all run at once.
     fn enqueue<E: EngineOf<A>>(
         &mut self,
-        list: &[Command<A>],
+        list: &Commands<'_, A>,
         restore: bool,
         engine: &E,
     ) -> Result<(), GfxError>
         requires engine { IsEngine (E.may_list engine.now) (E.lists engine.now) (E.may_compile engine.now) (E.compiles engine.now) (E.may_draw engine.now) (E.draws engine.now) }
-        requires accepted { AreAccepted (map command_value list.now) }
-        ensures ok { OnOk result (Executed (map command_value list.now) restore self.old self.new) }
+        ensures ok { OnOk result (Executed list.now restore self.old self.new) }
         ensures memory { IfErr result (λ e. e ≡ OutOfMemory) }
         ensures left { OnErr result (MayHaveRun self.old self.new) }
     {
-        if some_begin(self.pending.commands()) || some_begin(list) {
+        if self.pending.recorded().begin_queries() || list.begin_queries() {
             return self.run(list, restore, engine);
         }
         if self.wait(list, restore, engine.workers()) {
@@ -272,10 +262,9 @@ impl<A: Allocator + Copy + Send> ImmediateContext<A> {
             Program = TileProgram<A>,
             Drawn = Drawn<A>,
         >,
-    >(&mut self, task: Task, list: &[Command<A>], engine: &E) -> Result<(), GfxError>
+    >(&mut self, task: Task, list: &Commands<'_, A>, engine: &E) -> Result<(), GfxError>
         requires engine { IsEngine (E.may_list engine.now) (E.lists engine.now) (E.may_compile engine.now) (E.compiles engine.now) (E.may_draw engine.now) (E.draws engine.now) }
-        requires accepted { AreAccepted (map command_value list.now) }
-        ensures { Performs task (map command_value list.now) self.old self.new result }
+        ensures { Performs task list.now self.old self.new result }
     {
         match task {
             Task::Settle => self.settle(engine),
@@ -285,9 +274,8 @@ impl<A: Allocator + Copy + Send> ImmediateContext<A> {
     }
 
     /// Performs a task on the caller's thread.
-    fn perform_alone(&mut self, task: Task, list: &[Command<A>]) -> Result<(), GfxError>
-        requires { AreAccepted (map command_value list.now) }
-        ensures { Performs task (map command_value list.now) self.old self.new result }
+    fn perform_alone(&mut self, task: Task, list: &Commands<'_, A>) -> Result<(), GfxError>
+        ensures { Performs task list.now self.old self.new result }
     {
         let alloc = self.alloc;
         let engine = EngineBy::new(
@@ -320,7 +308,7 @@ impl<A: Allocator + Copy + Send> ImmediateContext<A> {
         ensures { Runs (flush_rows (queries_open self.old.pending)) [] true self.old self.new result }
     {
         self.examine_run(0)?;
-        self.perform_alone(FLUSH, &no_commands())
+        self.perform_alone(FLUSH, &Commands::none())
     }
 
     /// Runs the pending commands, and then those of a list, which begins from the default state. With `restore` the
@@ -329,7 +317,7 @@ impl<A: Allocator + Copy + Send> ImmediateContext<A> {
         ensures { Runs (flush_rows (queries_open self.old.pending)) list.now restore self.old self.new result }
     {
         self.examine_run(0)?;
-        self.perform_alone(Task::Execute { restore }, list.commands())
+        self.perform_alone(Task::Execute { restore }, &list.recorded())
     }
 
     /// What a pixel holds after all accepted commands; it runs the pending ones. Refused with PixelRange, QueryOpen,
@@ -339,7 +327,7 @@ impl<A: Allocator + Copy + Send> ImmediateContext<A> {
         ensures value { IfOk result (λ p. p ≡ shown self.old x y) }
     {
         self.examine_pixel(x, y, 0)?;
-        self.perform_alone(FLUSH, &no_commands())?;
+        self.perform_alone(FLUSH, &Commands::none())?;
         Ok(self.stored_pixel(x, y))
     }
 
@@ -350,7 +338,7 @@ impl<A: Allocator + Copy + Send> ImmediateContext<A> {
         ensures value { IfOk result (λ count. Some count ≡ answered self.old query) }
     {
         self.examine_query(query, 0)?;
-        self.perform_alone(FLUSH, &no_commands())?;
+        self.perform_alone(FLUSH, &Commands::none())?;
         Ok(self.counted(query))
     }
 
@@ -381,7 +369,7 @@ impl<A: Allocator + Copy + Send> ImmediateContext<A> {
     pub fn settle_alone(&mut self) -> Result<(), GfxError>
         ensures { Performs Settle [] self.old self.new result }
     {
-        self.perform_alone(Task::Settle, &no_commands())
+        self.perform_alone(Task::Settle, &Commands::none())
     }
 
     /// Executes a list, as `execute_alone` does, and may leave it and the pending commands waiting: what waits runs when a call next
@@ -395,7 +383,7 @@ impl<A: Allocator + Copy + Send> ImmediateContext<A> {
         ensures { Enqueues (flush_rows (queries_open self.old.pending)) list.now restore self.old self.new result }
     {
         self.examine_run(0)?;
-        self.perform_alone(Task::Enqueue { restore }, list.commands())
+        self.perform_alone(Task::Enqueue { restore }, &list.recorded())
     }
 }
 
@@ -404,11 +392,10 @@ impl<A: Allocator + Copy + Send + Sync> ImmediateContext<A> {
     fn perform_by_crew<R: Threads + Wait + Sync, G: Gate>(
         &mut self,
         task: Task,
-        list: &[Command<A>],
+        list: &Commands<'_, A>,
         crew: &RunCrew<'_, '_, A, R, G>,
     ) -> Result<(), GfxError>
-        requires { AreAccepted (map command_value list.now) }
-        ensures { Performs task (map command_value list.now) self.old self.new result }
+        ensures { Performs task list.now self.old self.new result }
     {
         let alloc = self.alloc;
         let rt = crew.rt;
@@ -446,14 +433,13 @@ impl<A: Allocator + Copy + Send + Sync> ImmediateContext<A> {
     fn perform_in_threads<R: Threads + Sync, G: Gate + Sync>(
         &mut self,
         task: Task,
-        list: &[Command<A>],
+        list: &Commands<'_, A>,
         rt: &R,
         workers: u32,
         gate: &G,
     ) -> Result<(), GfxError>
-        requires accepted { AreAccepted (map command_value list.now) }
         requires workers { workers ≤ 15 }
-        ensures { Performs task (map command_value list.now) self.old self.new result }
+        ensures { Performs task list.now self.old self.new result }
     {
         if workers == 0 {
             return self.perform_alone(task, list);
@@ -493,7 +479,7 @@ impl<A: Allocator + Copy + Send + Sync> ImmediateContext<A> {
         ensures { Runs (flush_rows_by (worker_rows workers) (queries_open self.old.pending)) [] true self.old self.new result }
     {
         self.examine_run(workers)?;
-        self.perform_in_threads(FLUSH, &no_commands(), rt, workers, gate)
+        self.perform_in_threads(FLUSH, &Commands::none(), rt, workers, gate)
     }
 
     /// `execute_alone` with as many threads beside the caller. Refused with QueryOpen, WorkerCount, OutOfMemory.
@@ -510,7 +496,7 @@ impl<A: Allocator + Copy + Send + Sync> ImmediateContext<A> {
         self.examine_run(workers)?;
         self.perform_in_threads(
             Task::Execute { restore },
-            list.commands(),
+            &list.recorded(),
             rt,
             workers,
             gate,
@@ -530,7 +516,7 @@ impl<A: Allocator + Copy + Send + Sync> ImmediateContext<A> {
         ensures value { IfOk result (λ p. p ≡ shown self.old x y) }
     {
         self.examine_pixel(x, y, workers)?;
-        self.perform_in_threads(FLUSH, &no_commands(), rt, workers, gate)?;
+        self.perform_in_threads(FLUSH, &Commands::none(), rt, workers, gate)?;
         Ok(self.stored_pixel(x, y))
     }
 
@@ -547,7 +533,7 @@ impl<A: Allocator + Copy + Send + Sync> ImmediateContext<A> {
         ensures value { IfOk result (λ count. Some count ≡ answered self.old query) }
     {
         self.examine_query(query, workers)?;
-        self.perform_in_threads(FLUSH, &no_commands(), rt, workers, gate)?;
+        self.perform_in_threads(FLUSH, &Commands::none(), rt, workers, gate)?;
         Ok(self.counted(query))
     }
 
@@ -585,7 +571,7 @@ impl<A: Allocator + Copy + Send + Sync> ImmediateContext<A> {
         ensures { Runs (flush_rows (queries_open self.old.pending)) [] true self.old self.new result }
     {
         self.examine_run(0)?;
-        self.perform_by_crew(FLUSH, &no_commands(), crew)
+        self.perform_by_crew(FLUSH, &Commands::none(), crew)
     }
 
     /// `settle_alone` by a crew beside the caller.
@@ -595,7 +581,7 @@ impl<A: Allocator + Copy + Send + Sync> ImmediateContext<A> {
     ) -> Result<(), GfxError>
         ensures { Performs Settle [] self.old self.new result }
     {
-        self.perform_by_crew(Task::Settle, &no_commands(), crew)
+        self.perform_by_crew(Task::Settle, &Commands::none(), crew)
     }
 
     /// `enqueue_execution_alone` by a crew beside the caller.
@@ -608,7 +594,7 @@ impl<A: Allocator + Copy + Send + Sync> ImmediateContext<A> {
         ensures { Enqueues (flush_rows (queries_open self.old.pending)) list.now restore self.old self.new result }
     {
         self.examine_run(0)?;
-        self.perform_by_crew(Task::Enqueue { restore }, list.commands(), crew)
+        self.perform_by_crew(Task::Enqueue { restore }, &list.recorded(), crew)
     }
 }
 
@@ -620,8 +606,18 @@ impl<A: Allocator + Copy + Send> DeviceContext for ImmediateContext<A> {
 
     ghost with = { held_more };
 
-    fn record(&mut self, call: &Call<'_>) -> Result<(), GfxError> {
-        self.pending.record(call)
+    type Alloc = A;
+
+    fn record(&mut self, command: &Command<A>) -> Result<(), GfxError> {
+        self.pending.record(command)
+    }
+
+    fn ia_set_vertices(&mut self, vertices: &[Vertex]) -> Result<(), GfxError> {
+        self.pending.ia_set_vertices(vertices)
+    }
+
+    fn ia_set_indices(&mut self, indices: &[u16]) -> Result<(), GfxError> {
+        self.pending.ia_set_indices(indices)
     }
 
     ghost appends = { λ context c. refl };

@@ -2,9 +2,9 @@
 
 ghost use Rattle.std.specs.Prelude.{◌≡◌, ℕ, Some, map, slice_index, slice_set};
 ghost use Rattle.std.specs.List.{list_any};
-ghost use Rattle.gfxspec.specs.Recorded.{issues, query_begun};
+ghost use Rattle.gfxspec.specs.Recorded.{issues};
 ghost use Rattle.meaning.specs.Contexts.{with_counts};
-ghost use Rattle.cmdlist.specs.Seen.{command_value};
+ghost use Rattle.command.specs.Seen.{command_value};
 ghost use Rattle.immediate.specs.Issues.{begins};
 
 use cmdlist::Command;
@@ -30,16 +30,6 @@ fn store(results: &mut [Option<u64>; 64], query: u32, count: u64)
     }
 }
 
-/// The query that a command begins.
-fn begun<A: Allocator>(command: &Command<A>) -> Option<u32>
-    ensures { result ≡ query_begun (command_value command.now) }
-{
-    match command {
-        Command::Begin(query) => Some(*query),
-        _ => None,
-    }
-}
-
 /// Stores the counts of a list's issues, in order, each under its query.
 pub(crate) fn store_counts<A: Allocator>(
     results: &mut [Option<u64>; 64],
@@ -50,7 +40,7 @@ pub(crate) fn store_counts<A: Allocator>(
 {
     let mut issue = 0;
     for command in commands {
-        if let Some(query) = begun(command) {
+        if let Some(query) = command.query_begun() {
             store(results, query, count_of(counts, issue));
             issue += 1;
         }

@@ -3,14 +3,13 @@
 ghost use Rattle.std.specs.Prelude.{true, false, ◌≡◌, [], map, IfSome};
 ghost use Rattle.gfxspec.specs.Recorded.{items, issues};
 ghost use Rattle.gfxspec.specs.Accepted.{AreAccepted};
-ghost use Rattle.cmdlist.specs.Seen.{command_value};
 ghost use Rattle.immediate.specs.Held.{Executed, held_behind};
 ghost use Rattle.immediate.specs.Outputs.{Outputs, performed_over, cut_over};
 ghost use Rattle.immediate.specs.Batched.{executed_items};
 
-use crate::room::{Room, some_begin};
+use crate::room::Room;
 use binner::{Segment, cut};
-use cmdlist::{Command, DeferredContext};
+use cmdlist::{Commands, DeferredContext};
 use gfxspec::Size;
 use segmentrun::SegmentJob;
 use std::alloc::Allocator;
@@ -97,8 +96,6 @@ impl<A: Allocator + Copy> Executions<A> {
     ghost use Rattle.segmentrun.specs.Running.{running};
     ghost use Rattle.immediate.specs.Batched.{part};
     ghost use Rattle.gfxspec.specs.Recorded.{items, issues};
-    ghost use Rattle.gfxspec.specs.Accepted.{AreAccepted};
-    ghost use Rattle.cmdlist.specs.Seen.{command_value};
     ghost use Rattle.immediate.specs.Outputs.{Outputs, performed_over, cut_over};
 
     /// The job of compiling the segments of some places, under these results of the queries: where all draw much, in a window for each
@@ -131,17 +128,17 @@ impl<A: Allocator + Copy> Executions<A> {
     }
 
     /// Adds commands, which so many workers beside the caller are to run. Where they begin a query, and without memory, all are given up.
-    pub(crate) fn with(self, alloc: A, commands: &[Command<A>], workers: u32) -> Option<Self>
-        requires accepted { AreAccepted (map command_value commands.now) }
-        ensures unissued { IfSome result (λ e. issues (map command_value commands.now) ≡ []) }
-        ensures means { IfSome result (λ e. (output : Outputs) → cut_over output e ≡ cut_over output self ++ items (performed_over output (map command_value commands.now))) }
+    pub(crate) fn with(self, alloc: A, commands: &Commands<'_, A>, workers: u32) -> Option<Self>
+        ensures unissued { IfSome result (λ e. issues commands.now ≡ []) }
+        ensures means { IfSome result (λ e. (output : Outputs) → cut_over output e ≡ cut_over output self ++ items (performed_over output commands.now)) }
     {
-        if some_begin(commands) {
+        if commands.begin_queries() {
             return None;
         }
         let room = Room::of(commands);
+        let triangles = room.triangles_each(workers);
         let mut segments = self.segments;
-        let Ok(()) = cut(alloc, commands, room.triangles_each(workers), &mut segments) else {
+        let Ok(()) = cut(alloc, commands.as_slice(), triangles, &mut segments) else {
             return None;
         };
         Some(Executions {
@@ -165,22 +162,22 @@ fn pending_segments<A: Allocator + Copy>(
     if pending.is_kept_state_alone() {
         return Some(none);
     }
-    none.with(alloc, pending.commands(), workers)
+    none.with(alloc, &pending.recorded(), workers)
 }
 
 /// The segments of the pending commands, and of a list behind them: a list of nothing is none.
 fn segments_behind<A: Allocator + Copy>(
     alloc: A,
     pending: &DeferredContext<A>,
-    list: &[Command<A>],
+    list: &Commands<'_, A>,
     workers: u32,
 ) -> Option<Executions<A>>
-    requires accepted { AreAccepted (map command_value list.now) }
-    ensures unissued { IfSome result (λ e. (issues pending.now ≡ []) × (issues (map command_value list.now) ≡ [])) }
-    ensures means { IfSome result (λ e. (output : Outputs) → cut_over output e ≡ executed_items output pending.now (map command_value list.now)) }
+    ensures accepted { IfSome result (λ e. AreAccepted list.now) }
+    ensures unissued { IfSome result (λ e. (issues pending.now ≡ []) × (issues list.now ≡ [])) }
+    ensures means { IfSome result (λ e. (output : Outputs) → cut_over output e ≡ executed_items output pending.now list.now) }
 {
     let before = pending_segments(alloc, pending, workers)?;
-    if list.is_empty() {
+    if list.as_slice().is_empty() {
         return Some(before);
     }
     before.with(alloc, list, workers)
@@ -192,12 +189,11 @@ fn segments_behind<A: Allocator + Copy>(
 pub(crate) fn wait<A: Allocator + Copy>(
     waiting: &mut Executions<A>,
     pending: &mut DeferredContext<A>,
-    list: &[Command<A>],
+    list: &Commands<'_, A>,
     restore: bool,
     workers: u32,
 ) -> bool
-    requires accepted { AreAccepted (map command_value list.now) }
-    ensures waits { result ≡ true → (output : Outputs) → Executed (map command_value list.now) restore (held_behind output waiting.old pending.old) (held_behind output waiting.new pending.new) }
+    ensures waits { result ≡ true → (output : Outputs) → Executed list.now restore (held_behind output waiting.old pending.old) (held_behind output waiting.new pending.new) }
     ensures same { result ≡ false → (waiting.new ≡ waiting.old) × (pending.new ≡ pending.old) }
 {
     let alloc = *waiting.segments.allocator();

@@ -5,7 +5,7 @@ ghost use Rattle.std.specs.List.{list_any};
 ghost use Rattle.gfxspec.specs.declared.error.GfxError.TheVariants.{OutOfMemory};
 ghost use Rattle.gfxspec.specs.Items.{opening};
 ghost use Rattle.gfxspec.specs.Recorded.{issues};
-ghost use Rattle.binner.specs.Compiling.{told};
+ghost use Rattle.cmdlist.specs.Drawable.{told};
 ghost use Rattle.gfxspec.specs.Predication.{result_of};
 ghost use Rattle.gfxspec.specs.Refusals.{AnswersBy};
 ghost use Rattle.gfxspec.specs.Accepted.{AreAccepted};
@@ -13,7 +13,7 @@ ghost use Rattle.gfxspec.specs.Tiles.{tile_count};
 ghost use Rattle.tileblock.specs.Surface.{IsWhole, pixel_of, size_rows};
 ghost use Rattle.binmem.specs.Lists.{no_words};
 ghost use Rattle.meaning.specs.Contexts.{result_at, with_counts};
-ghost use Rattle.cmdlist.specs.Seen.{command_value};
+ghost use Rattle.command.specs.Seen.{command_value};
 ghost use Rattle.immediate.specs.Issues.{acts};
 ghost use Rattle.binner.specs.Segments.{AreCompiled};
 ghost use Rattle.tileprog.specs.Programs.{lists_of};
@@ -29,7 +29,7 @@ use crate::executions::Executions;
 use crate::room::Room;
 use binmem::Bins;
 use binner::Compiled;
-use cmdlist::Command;
+use cmdlist::{Command, Commands};
 use gfxspec::GfxError;
 use std::alloc::{AllocError, Allocator};
 use std::marker::Model;
@@ -252,27 +252,27 @@ impl<A: Allocator + Copy + Send> Output<A> {
     /// is taken.
     pub(crate) fn run<E: EngineOf<A>>(
         &mut self,
-        commands: &[Command<A>],
+        commands: &Commands<'_, A>,
         engine: &E,
     ) -> Result<(), GfxError>
         requires engine { IsEngine (E.may_list engine.now) (E.lists engine.now) (E.may_compile engine.now) (E.compiles engine.now) (E.may_draw engine.now) (E.draws engine.now) }
-        requires accepted { AreAccepted (map command_value commands.now) }
-        ensures ok { OnOk result (HasRun (map command_value commands.now) self.old self.new) }
+        ensures accepted { AreAccepted commands.now }
+        ensures ok { OnOk result (HasRun commands.now self.old self.new) }
         ensures memory { IfErr result (λ e. e ≡ OutOfMemory) }
         ensures err { OnErr result (self.new ≡ self.old) }
     {
+        let listed = commands.as_slice();
         if self.run_cut(commands, engine) {
             return Ok(());
         }
-        self.run_listed(commands, engine)
+        self.run_listed(listed, engine)
     }
 
     /// Runs commands that draw much and begin no query, cut into segments for those who work beside the caller. It says whether they
     /// ran: there may be no memory for it.
-    fn run_cut<E: EngineOf<A>>(&mut self, commands: &[Command<A>], engine: &E) -> bool
+    fn run_cut<E: EngineOf<A>>(&mut self, commands: &Commands<'_, A>, engine: &E) -> bool
         requires engine { IsEngine (E.may_list engine.now) (E.lists engine.now) (E.may_compile engine.now) (E.compiles engine.now) (E.may_draw engine.now) (E.draws engine.now) }
-        requires accepted { AreAccepted (map command_value commands.now) }
-        ensures ran { result ≡ true → HasRun (map command_value commands.now) self.old self.new }
+        ensures ran { result ≡ true → HasRun commands.now self.old self.new }
         ensures same { result ≡ false → self.new ≡ self.old }
     {
         let workers = engine.workers();

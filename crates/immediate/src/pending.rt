@@ -10,7 +10,7 @@ ghost use Rattle.immediate.specs.Held.{Ran, MayHaveRun, held_of, held_behind};
 use crate::engine::EngineOf;
 use crate::executions::{Executions, wait};
 use crate::output::Output;
-use cmdlist::{Command, DeferredContext, DeviceContext};
+use cmdlist::{Commands, DeferredContext, DeviceContext};
 use gfxspec::GfxError;
 use std::alloc::Allocator;
 
@@ -29,7 +29,7 @@ fn run_pending<A: Allocator + Copy + Send, E: EngineOf<A>>(
         return Ok(());
     }
     let next = pending.next(true)?;
-    output.run(pending.commands(), engine)?;
+    output.run(&pending.recorded(), engine)?;
     *pending = next;
     Ok(())
 }
@@ -93,8 +93,7 @@ pub(crate) fn run_all<A: Allocator + Copy + Send, E: EngineOf<A>>(
     if waiting.are_none() {
         return run_pending(output, pending, engine);
     }
-    let nothing: [Command<A>; 0] = [];
-    if wait(waiting, pending, &nothing, true, engine.workers()) {
+    if wait(waiting, pending, &Commands::none(), true, engine.workers()) {
         return run_waiting(output, waiting, engine);
     }
     run_waiting(output, waiting, engine)?;

@@ -1,12 +1,7 @@
-//! What decides how commands run: how many they are, how many triangles they draw, and whether they begin a query.
+//! What decides how commands run: how many they are, and how many triangles they draw.
 
-ghost use Rattle.std.specs.Prelude.{◌≡◌, is_some};
-ghost use Rattle.std.specs.List.{list_any};
-ghost use Rattle.gfxspec.specs.Recorded.{query_begun};
-ghost use Rattle.cmdlist.specs.Seen.{command_value};
-
-use cmdlist::Command;
-use gfxspec::{LIST_LIMIT, Topology};
+use cmdlist::Commands;
+use gfxspec::LIST_LIMIT;
 use std::alloc::Allocator;
 
 /// How many commands and how many triangles run as one at most: as many as a list has.
@@ -18,51 +13,7 @@ const LEAST_CUT: usize = 192;
 /// Into how many segments a list is cut for each who compiles. Segments of all lists of a run are shared out evenly then.
 const SEGMENTS_EACH: usize = 2;
 
-/// Whether a command begins a query.
-fn begins_query<A: Allocator>(command: &Command<A>) -> bool
-    ensures { result ≡ is_some (query_begun (command_value command.now)) }
-{
-    matches!(command, Command::Begin(_))
-}
-
-/// Whether some of the commands begins a query.
-pub(crate) fn some_begin<A: Allocator>(commands: &[Command<A>]) -> bool
-    ensures { result ≡ list_any (λ command. is_some (query_begun (command_value command))) commands.now }
-{
-    commands.iter().any(begins_query)
-}
-
-/// How many vertices a command draws.
-fn vertices_drawn<A: Allocator>(command: &Command<A>) -> usize {
-    match command {
-        Command::Draw(count, _) => *count as usize,
-        Command::DrawIndexed(count, _, _) => *count as usize,
-        _ => 0,
-    }
-}
-
-/// How many triangles so many vertices make, where no index cuts their strip.
-fn triangles_made(topology: Option<Topology>, vertices: usize) -> usize {
-    match topology {
-        Some(Topology::TriangleList) => vertices / 3,
-        Some(Topology::TriangleStrip) => vertices.saturating_sub(2),
-        None => 0,
-    }
-}
-
-/// The topology behind a command.
-fn topology_behind<A: Allocator>(
-    command: &Command<A>,
-    before: Option<Topology>,
-) -> Option<Topology> {
-    match command {
-        Command::SetTopology(topology) => Some(*topology),
-        Command::Kept(settings) => settings.topology,
-        _ => before,
-    }
-}
-
-/// How much of a run's room commands take: how many they are, and how many triangles they draw at most.
+/// How much of a run's room commands take: how many they are, and how many triangles they draw.
 #[derive(Clone, Copy)]
 pub(crate) struct Room {
     commands: usize,
@@ -79,17 +30,10 @@ impl Room {
     }
 
     /// What the commands of a list take, or the pending ones.
-    pub(crate) fn of<A: Allocator>(commands: &[Command<A>]) -> Self {
-        let mut topology = None;
-        let mut triangles = 0usize;
-        for command in commands {
-            topology = topology_behind(command, topology);
-            let drawn = triangles_made(topology, vertices_drawn(command));
-            triangles = triangles.saturating_add(drawn);
-        }
+    pub(crate) fn of<A: Allocator>(commands: &Commands<'_, A>) -> Self {
         Room {
-            commands: commands.len(),
-            triangles,
+            commands: commands.as_slice().len(),
+            triangles: commands.triangles() as usize,
         }
     }
 

@@ -12,8 +12,8 @@ use Rattle.meaning.specs.OneMore.{settings_with, triangles_of, performed_items}
 use Rattle.meaning.proofs.Nearest.{settings_after-push}
 use Rattle.meaning.proofs.Growing.{triangle_count-push}
 use Rattle.meaning.proofs.Withheld.{items_performed-push}
-use Rattle.cmdlist.specs.declared.command.Command.{Command as Code}
-use Rattle.cmdlist.specs.Seen.{command_value}
+use Rattle.command.specs.declared.command.Command.{Command as Code}
+use Rattle.command.specs.Seen.{command_value}
 use Rattle.binner.proofs.Accepted.{done, done_more, accepted_at, within_limits}
 use Rattle.pixelhistory.specs.declared.trace.Trace.{Trace}
 use Rattle.pixelhistory.specs.Tracing.{GoesPast}

@@ -8,8 +8,8 @@ use Rattle.gfxspec.specs.Predication.{performed}
 use Rattle.meaning.specs.OneMore.{settings_with, performed_items}
 use Rattle.meaning.proofs.Nearest.{settings_after-push}
 use Rattle.meaning.proofs.Withheld.{items_performed-push}
-use Rattle.cmdlist.specs.declared.command.Command.{Command as Code}
-use Rattle.cmdlist.specs.Seen.{command_value}
+use Rattle.command.specs.declared.command.Command.{Command as Code}
+use Rattle.command.specs.Seen.{command_value}
 use Rattle.binner.proofs.Accepted.{done, done_more, whole, accepted_at, within_limits}
 use Rattle.pixelevents.specs.declared.Place.{Place}
 use Rattle.pixelevents.specs.Places.{StandsAt}

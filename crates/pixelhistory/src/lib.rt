@@ -4,7 +4,6 @@
 //! words of the definitions. So a history is slow where lists are long, and needs no memory but for its events.
 #![tactic(auto)]
 
-mod draws;
 mod list;
 mod places;
 mod recorded;

@@ -5,15 +5,12 @@ ghost use Rattle.gfxspec.specs.Recorded.{items, items_at};
 ghost use Rattle.gfxspec.specs.Accepted.{AreAccepted};
 ghost use Rattle.gfxspec.specs.Predication.{performed};
 ghost use Rattle.meaning.specs.OneMore.{performed_items};
-ghost use Rattle.cmdlist.specs.Seen.{state_value, command_value};
-ghost use Rattle.binner.specs.Ready.{IsDrawable};
-ghost use Rattle.binner.specs.Setups.{drawn_by};
-ghost use Rattle.binner.specs.Compiling.{told};
+ghost use Rattle.command.specs.Seen.{state_value, command_value};
+ghost use Rattle.cmdlist.specs.Drawable.{IsDrawable, drawn_by, told};
 ghost use Rattle.pixelevents.specs.Places.{StandsAt};
 
-use crate::draws::{draw_of, is_withheld};
 use assemble::triangle_count;
-use cmdlist::{Command, State};
+use cmdlist::{Command, State, draw_of, is_withheld};
 use pixelevents::Place;
 use std::alloc::Allocator;
 

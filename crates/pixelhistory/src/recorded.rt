@@ -4,7 +4,7 @@ ghost use Rattle.std.specs.Prelude.{◌<◌, OnOk};
 ghost use Rattle.gfxspec.specs.Limits.{side_bound};
 ghost use Rattle.gfxspec.specs.Recorded.{items};
 ghost use Rattle.gfxspec.specs.Predication.{performed};
-ghost use Rattle.binner.specs.Compiling.{told};
+ghost use Rattle.cmdlist.specs.Drawable.{told};
 ghost use Rattle.pixelhistory.specs.Tracing.{GoesPast};
 
 use crate::list::trace_list;

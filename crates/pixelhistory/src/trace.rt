@@ -8,7 +8,7 @@ ghost use Rattle.gfxspec.specs.Items.{Drawn, ColorCleared, DepthStencilCleared};
 ghost use Rattle.gfxspec.specs.Recorded.{drawn_items};
 ghost use Rattle.assemble.specs.Triangle.{primitive_of};
 ghost use Rattle.assemble.specs.Drawing.{IsInRange, triangles_of};
-ghost use Rattle.cmdlist.specs.Seen.{state_value};
+ghost use Rattle.command.specs.Seen.{state_value};
 ghost use Rattle.binner.specs.Ready.{IsReady};
 ghost use Rattle.pixelhistory.specs.Tracing.{Adds, GoesPast};
 

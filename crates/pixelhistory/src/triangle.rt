@@ -12,7 +12,7 @@ ghost use Rattle.snap.specs.Corners.{triangle_of};
 ghost use Rattle.depthplane.specs.Plane.{deep_of};
 ghost use Rattle.depthplane.specs.Place.{depth_of};
 ghost use Rattle.assemble.specs.Triangle.{primitive_of};
-ghost use Rattle.cmdlist.specs.Seen.{state_value};
+ghost use Rattle.command.specs.Seen.{state_value};
 ghost use Rattle.binner.specs.Ready.{IsReady};
 ghost use Rattle.pixelevents.specs.History.{event};
 

@@ -1,5 +1,4 @@
 pub mod Recordings
-pub mod Made
 pub mod Growing
 pub mod RowLemmas
 pub mod Places

@@ -1,6 +1,5 @@
 pub mod Dealing
 pub mod Recording
-pub mod Calls
 pub mod Apart
 pub mod Sinks
 pub mod Taking

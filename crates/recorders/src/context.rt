@@ -1,17 +1,17 @@
 //! A deferred context that takes its lines, and the two contexts of a recorder.
 
 ghost use Rattle.std.specs.Prelude.{◌≡◌, ◌<◌, ◌+◌, ◌^◌, OnOk, IfErr};
+ghost use Rattle.scenetext.specs.Scene.{Finish};
 ghost use Rattle.scenetext.specs.Seen.{actor_value, verb_value, line_value};
 ghost use Rattle.scenetext.specs.Spelling.{is_deferred};
 ghost use Rattle.recorders.specs.Taking.{starting, VerbTaken, VerbRefused, HasTaken};
 ghost use Rattle.recorders.specs.Recorders.{IsRecording};
 
-use crate::calls::take_call;
 use crate::dealing::DealtLines;
 use crate::ports::Recorded;
 use crate::refusal::{ContextEnd, RecordingEnd, RefusedLine};
 use crate::sink::ListSink;
-use cmdlist::{CommandList, DeferredContext};
+use cmdlist::{CommandList, DeferredContext, DeviceContext};
 use gfxspec::GfxError;
 use scenetext::{Actor, Line, Verb};
 use std::alloc::Allocator;
@@ -54,7 +54,29 @@ impl<A: Allocator + Copy> ContextRecorder<A> {
         }
     }
 
-    /// Takes a verb of its own, and puts the list that it finishes.
+    /// Finishes its list and puts it. The next one begins with the kept state, if `restore` says so.
+    fn finish<S: ListSink<CommandList<A>>>(
+        &mut self,
+        restore: bool,
+        sink: &mut S,
+    ) -> Result<(), GfxError>
+        requires { self.old.end.lists + 1 < 2 ^ 64 }
+        ensures way { S.way sink.new ≡ S.way sink.old }
+        ensures ok { OnOk result (VerbTaken (Finish restore) self.old self.new (S.put_lists sink.old) (S.put_lists sink.new)) }
+        ensures err { IfErr result (VerbRefused (Finish restore) self.old self.new (S.put_lists sink.old) (S.put_lists sink.new)) }
+    {
+        let list = self.deferred.finish(restore)?;
+        let recorded = Recorded {
+            context: self.context,
+            number: self.end.lists,
+            list,
+        };
+        sink.put(recorded)?;
+        self.end.lists += 1;
+        Ok(())
+    }
+
+    /// Takes a verb of its own, and puts the list that it finishes. Verbs of the immediate context do nothing.
     fn take_verb<S: ListSink<CommandList<A>>>(
         &mut self,
         verb: &Verb<A>,
@@ -65,18 +87,11 @@ impl<A: Allocator + Copy> ContextRecorder<A> {
         ensures ok { OnOk result (VerbTaken (verb_value verb.now) self.old self.new (S.put_lists sink.old) (S.put_lists sink.new)) }
         ensures err { IfErr result (VerbRefused (verb_value verb.now) self.old self.new (S.put_lists sink.old) (S.put_lists sink.new)) }
     {
-        if let Verb::Finish(restore) = verb {
-            let list = self.deferred.finish(*restore)?;
-            let recorded = Recorded {
-                context: self.context,
-                number: self.end.lists,
-                list,
-            };
-            sink.put(recorded)?;
-            self.end.lists += 1;
-            return Ok(());
+        match verb {
+            Verb::Record(command) => self.deferred.record(command),
+            Verb::Finish(restore) => self.finish(*restore, sink),
+            _ => Ok(()),
         }
-        take_call(&mut self.deferred, verb)
     }
 
     /// Takes the line at a place, if it is one of its own and none was refused, and puts the list that it finishes.

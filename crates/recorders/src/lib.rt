@@ -7,8 +7,8 @@
 //!
 //! From a line to its context: `deal` goes over the lines once, and says whose each is. `receive` starts a thread for each
 //! pair of contexts that has lines (`recorder::start`), and `record_alone` has none; both come to `context::record_lines`,
-//! which takes the pair's lines in one pass, up to the first that each refuses. `take_call` makes the call that a verb is on a `cmdlist::DeferredContext`; a finished list goes by the
-//! pair's port to the caller (`sink::ListSender`), or is kept.
+//! which takes the pair's lines in one pass, up to the first that each refuses: a line's command is recorded by a
+//! `cmdlist::DeferredContext`, and a finished list goes by the pair's port to the caller (`sink::ListSender`), or is kept.
 //!
 //! The trick: each list carries its context and number. While threads run, nothing else is known of one that came by a
 //! port, so what the caller knows stands under one premise, that each is the list of that context and number. At the end the
@@ -17,7 +17,6 @@
 #![tactic(auto)]
 
 mod alone;
-mod calls;
 mod context;
 mod dealing;
 mod ports;
@@ -29,7 +28,6 @@ mod sink;
 mod source;
 
 pub use alone::{RecordedLists, record_alone};
-pub use calls::take_call;
 pub use dealing::{CALLER, DealtLines, deal};
 pub use ports::{ListPorts, Passes, Returned, open_ports, settle};
 pub use received::{ReceivedLists, receive};

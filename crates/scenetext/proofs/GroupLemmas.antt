@@ -8,7 +8,7 @@ use Rattle.std.proofs.lemmas.List.{length-append, length-map}
 use Rattle.std.proofs.lemmas.Bool.{eqb-true}
 use Rattle.gfxspec.specs.declared.geometry.Vertex.{Vertex}
 use Rattle.scenetext.specs.declared.range.Range.{Range}
-use Rattle.scenetext.specs.declared.command.CommandWord.TheVariants as words
+use Rattle.scenetext.specs.declared.command_word.CommandWord.TheVariants as words
 use Rattle.scenetext.specs.declared.range.TheConstants.{U32, BYTE, INDEX}
 use Rattle.scenetext.specs.Numbers.{Kind, fits_kind, fit, i32s}
 use Rattle.scenetext.specs.Commands.{vertex_kinds, Groups, ranges, shape, kinds_of}

@@ -1,11 +1,11 @@
 -- Reading line by line.
-use Rattle.std.proofs.Common.{◌≡◌, ◌≢◌, ℕ, ◌+◌, ◌<◌, ◌≤◌, Bool, true, false, cond, not, ◌&&◌, eqb, eq-eqb, List, [], ◌∷◌, ◌++◌, length, get_or, set, map, Option, Some, None, replicate, refl, sym, ap, subst, ◌∙◌, append_assoc, arith, inl, inr}
+use Rattle.std.proofs.Common.{◌≡◌, ◌≢◌, ℕ, ◌+◌, ◌<◌, ◌≤◌, ◌^◌, Bool, true, false, cond, not, ◌&&◌, eqb, eq-eqb, List, [], ◌∷◌, ◌++◌, length, get_or, set, map, Option, Some, None, replicate, refl, sym, ap, subst, ◌∙◌, append_assoc, arith, inl, inr}
 use Rattle.std.specs.Prelude.{count_by, slice_index}
 use Rattle.std.specs.Option.{option_map_or}
 use Rattle.std.specs.List.{flat_map, join_with_byte}
 use Rattle.std.proofs.lemmas.List.{map-append, length-append, length-map, length-set, append-nil, get_or-set_same, get_or-set_other, get_or-replicate}
 use Rattle.std.proofs.lemmas.Bool.{eqb-true}
-use Rattle.std.proofs.lemmas.List.Sums.{sum_by_push}
+use Rattle.std.proofs.lemmas.List.Sums.{sum_by_push, count_by-le-length}
 use Rattle.scenetext.specs.declared.fault.Fault.{Fault}
 use Rattle.scenetext.specs.declared.fault.Fault.TheVariants as faults
 use Rattle.scenetext.specs.declared.fault.ReadError.{ReadError}
@@ -17,7 +17,7 @@ use Rattle.scenetext.specs.Seen.{line_value}
 use Rattle.scenetext.specs.Text.{TextLine, before_lines, lines_of, line_text}
 use Rattle.scenetext.specs.Spelling.{is_finish, is_deferred, finishes_list, line_words, size_words, IsVerb, HasList, IsLine, AreLines, IsTarget, Spells}
 use Rattle.scenetext.specs.Faults.{number_of_fault, found_in, line_fault, first_fault, fault_of_lines, fault_of, last_read}
-use Rattle.scenetext.specs.Reading.{Counts, HasCounted, ReadsLine, line_record, CutsLine, ReadsSize, number_of_error, counted_for, counted_by, ReadsFirst, RefusesText, ReadsNext, RefusesNext, Refused}
+use Rattle.scenetext.specs.Reading.{Counts, HasCounted, HasRoom, ReadsLine, line_record, CutsLine, ReadsSize, number_of_error, counted_for, counted_by, ReadsFirst, RefusesText, ReadsNext, RefusesNext, Refused}
 use Rattle.scenetext.proofs.TextLemmas.{line_bytes, text_from-lines_of, join-words_of}
 use Rattle.scenetext.proofs.SceneLemmas.{raw, raw_line, earlier_of, texts_of, count-earlier, line_faultless, first_faultless}
 use Rattle.scenetext.proofs.ReadingLaw.{bytes_of}
@@ -42,6 +42,10 @@ pub record SoFar (text : List ℕ) (size : Size) (ls : List Line) (finished rest
   pub counts : (k : ℕ) → k < 8 → slice_index finished k ≡ count_by (finishes_list k) ls
   pub wide : length finished ≡ 8
   pub room : length ls + length rest < length text
+
+-- the counts of finished lists have room for one more
+pub has_room : (text : List ℕ) (size : Size) (ls : List Line) (finished rest : List ℕ) → SoFar text size ls finished rest → length text < 2 ^ 63 → HasRoom finished
+has_room text size ls finished rest s few k h = omega (arith, s.counts k h, count_by-le-length (finishes_list k) ls, s.room, few)
 
 zero_counts : (k : ℕ) → k < 8 → get_or {A = ℕ} (replicate 8 0) k 0 ≡ 0
 zero_counts k h = get_or-replicate 8 k 0 0 h

@@ -8,8 +8,8 @@ use Rattle.gfxspec.specs.State.{RasterSetting}
 use Rattle.gfxspec.specs.Commands as gfx
 use Rattle.scenetext.specs.declared.range.Range.{Range}
 use Rattle.scenetext.specs.declared.range.TheConstants.{U32}
-use Rattle.scenetext.specs.declared.command.CommandWord.{CommandWord}
-use Rattle.scenetext.specs.declared.command.CommandWord.TheVariants as words
+use Rattle.scenetext.specs.declared.command_word.CommandWord.{CommandWord}
+use Rattle.scenetext.specs.declared.command_word.CommandWord.TheVariants as words
 use Rattle.scenetext.specs.Scene.{Verb, Call, Finish, Flush, Query, Pixel}
 use Rattle.scenetext.specs.Commands.{name, serves, face_ranges, ranges}
 use Rattle.scenetext.specs.Spelling.{flag_number, raster_numbers, face_numbers, depth_stencil_numbers, blend_numbers, verb_words, may_take, IsVerb}

@@ -12,8 +12,8 @@ use Rattle.gfxspec.specs.DepthStencil.{FaceSetting}
 use Rattle.scenetext.specs.declared.fault.Fault.TheVariants as faults
 use Rattle.scenetext.specs.declared.fault.ReadError.{ReadError}
 use Rattle.scenetext.specs.declared.fault.ReadError.TheVariants as errors
-use Rattle.scenetext.specs.declared.command.CommandWord.{CommandWord}
-use Rattle.scenetext.specs.declared.command.CommandWord.TheVariants as words
+use Rattle.scenetext.specs.declared.command_word.CommandWord.{CommandWord}
+use Rattle.scenetext.specs.declared.command_word.CommandWord.TheVariants as words
 use Rattle.scenetext.specs.Scene.{Actor, Verb, Execute}
 use Rattle.scenetext.specs.Text.{TextLine, words_of}
 use Rattle.scenetext.specs.Numbers.{Kind, NonZero, context_word, fits_kind, fit}

@@ -9,8 +9,8 @@ use Rattle.std.proofs.lemmas.Fmt.{digits_value-decimal}
 use Rattle.gfxspec.specs.declared.geometry.Size.{Size}
 use Rattle.scenetext.specs.declared.fault.Fault.{Fault}
 use Rattle.scenetext.specs.declared.fault.Fault.TheVariants as faults
-use Rattle.scenetext.specs.declared.command.CommandWord.{CommandWord}
-use Rattle.scenetext.specs.declared.command.CommandWord.TheVariants.{Vb}
+use Rattle.scenetext.specs.declared.command_word.CommandWord.{CommandWord}
+use Rattle.scenetext.specs.declared.command_word.CommandWord.TheVariants.{Vb}
 use Rattle.scenetext.specs.Scene.{Actor, Immediate, Deferred, Verb, Execute, Line, Scene}
 use Rattle.scenetext.specs.Text.{TextLine, lines_of, words_of, has_form, line_text, is_printable, is_word}
 use Rattle.scenetext.specs.Numbers.{context_word, fit, is_context}

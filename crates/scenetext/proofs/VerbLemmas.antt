@@ -12,8 +12,8 @@ use Rattle.gfxspec.specs.State.{RasterSetting}
 use Rattle.gfxspec.specs.Commands as gfx
 use Rattle.scenetext.specs.declared.range.Range.{Range}
 use Rattle.scenetext.specs.declared.range.TheConstants.{U32, FLAG}
-use Rattle.scenetext.specs.declared.command.CommandWord.{CommandWord}
-use Rattle.scenetext.specs.declared.command.CommandWord.TheVariants as words
+use Rattle.scenetext.specs.declared.command_word.CommandWord.{CommandWord}
+use Rattle.scenetext.specs.declared.command_word.CommandWord.TheVariants as words
 use Rattle.scenetext.specs.Scene.{Verb, Call, Finish, Flush, Execute, Query, Pixel}
 use Rattle.scenetext.specs.Text.{is_printable, is_word}
 use Rattle.scenetext.specs.Numbers.{context_word, Kind, NonZero, Context, is_context, fits_kind, fit, i32s}

@@ -1,8 +1,8 @@
 -- The table of commands: the word, who may use it, and its arguments. A command that comes in later is a row of each definition.
 use Rattle.std.specs.Prelude.{ℕ, ◌==◌, ◌/◌, ◌%◌, Bool, true, ◌&&◌, not, List, [], ◌∷◌, ◌++◌, length, Option, Some, None, bytes_eq, codes, find, replicate, if◌then◌else◌}
 use Rattle.std.specs.List.{flat_map}
-use Rattle.scenetext.specs.declared.command.CommandWord.{CommandWord}
-use Rattle.scenetext.specs.declared.command.CommandWord.TheVariants.{Vb, Ib, Topology, Raster, Scissor, Ds, Blend, Predicate, Draw, Drawi, Clearc, Cleards, Begin, End, Finish, Flush, Exec, Query, Pixel}
+use Rattle.scenetext.specs.declared.command_word.CommandWord.{CommandWord}
+use Rattle.scenetext.specs.declared.command_word.CommandWord.TheVariants.{Vb, Ib, Topology, Raster, Scissor, Ds, Blend, Predicate, Draw, Drawi, Clearc, Cleards, Begin, End, Finish, Flush, Exec, Query, Pixel}
 use Rattle.scenetext.specs.declared.range.Range.{Range}
 use Rattle.scenetext.specs.declared.range.TheConstants.{U32, BYTE, FLAG, INDEX, TOPOLOGY, CULL, COMPARISON, STENCIL_OP, LOGIC_OP, COLOR_MASK}
 use Rattle.scenetext.specs.Numbers.{Kind, NonZero, Context, i32s}

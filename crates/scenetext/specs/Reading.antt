@@ -8,7 +8,7 @@ use Rattle.scenetext.specs.declared.range.Range.{Range}
 use Rattle.scenetext.specs.declared.range.TheConstants.{U32}
 use Rattle.scenetext.specs.declared.fault.ReadError.{ReadError}
 use Rattle.scenetext.specs.declared.fault.ReadError.TheVariants as errors
-use Rattle.scenetext.specs.declared.command.CommandWord.{CommandWord}
+use Rattle.scenetext.specs.declared.command_word.CommandWord.{CommandWord}
 use Rattle.scenetext.specs.declared.text.FrontForm.{FrontForm}
 use Rattle.gfxspec.specs.declared.geometry.Size.{Size}
 use Rattle.scenetext.specs.Scene.{Actor, Immediate, Deferred, Verb, Execute, Line}

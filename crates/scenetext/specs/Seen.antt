@@ -1,5 +1,5 @@
 -- A line of the code as a plain one.
-use Rattle.gfxspec.specs.Commands as gfx
+use Rattle.command.specs.Seen.{command_value}
 use Rattle.scenetext.specs.declared.scene.Actor as code_actor
 use Rattle.scenetext.specs.declared.scene.Actor.TheVariants as actors
 use Rattle.scenetext.specs.declared.scene.Verb as code_verb
@@ -12,20 +12,7 @@ actor_value actors.Immediate = Immediate
 actor_value (actors.Deferred k) = Deferred k
 
 abbrev pub verb_value : {A : Type 0} → code_verb.Verb A → Verb
-verb_value (verbs.SetVertices vertices) = Call (gfx.SetVertices vertices)
-verb_value (verbs.SetIndices indices) = Call (gfx.SetIndices indices)
-verb_value (verbs.SetTopology topology) = Call (gfx.SetTopology topology)
-verb_value (verbs.SetRaster raster) = Call (gfx.SetRaster raster)
-verb_value (verbs.SetScissor rectangle) = Call (gfx.SetScissor rectangle)
-verb_value (verbs.SetDepthStencil depth_stencil reference) = Call (gfx.SetDepthStencil depth_stencil reference)
-verb_value (verbs.SetBlend blend) = Call (gfx.SetBlend blend)
-verb_value (verbs.SetPredication predicate) = Call (gfx.SetPredication predicate)
-verb_value (verbs.Draw count start) = Call (gfx.Draw count start)
-verb_value (verbs.DrawIndexed count start base) = Call (gfx.DrawIndexed count start base)
-verb_value (verbs.ClearColor rgba) = Call (gfx.ClearColor rgba)
-verb_value (verbs.ClearDepthStencil depth stencil) = Call (gfx.ClearDepthStencil depth stencil)
-verb_value (verbs.Begin query) = Call (gfx.Begin query)
-verb_value (verbs.End query) = Call (gfx.End query)
+verb_value (verbs.Record command) = Call (command_value command)
 verb_value (verbs.Finish restore) = Finish restore
 verb_value verbs.Flush = Flush
 verb_value (verbs.Execute context list restore) = Execute context list restore

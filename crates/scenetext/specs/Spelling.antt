@@ -14,7 +14,7 @@ use Rattle.gfxspec.specs.Commands as gfx
 use Rattle.scenetext.specs.Scene.{Actor, Immediate, Deferred, Verb, Call, Finish, Flush, Execute, Query, Pixel, Line, Scene}
 use Rattle.scenetext.specs.Text.{line_text}
 use Rattle.scenetext.specs.declared.range.TheConstants.{U32}
-use Rattle.scenetext.specs.declared.command.CommandWord.TheVariants as commands
+use Rattle.scenetext.specs.declared.command_word.CommandWord.TheVariants as commands
 use Rattle.scenetext.specs.Numbers.{context_word}
 use Rattle.scenetext.specs.Ranges.{IsIn, AreIn}
 use Rattle.scenetext.specs.Commands.{ranges}

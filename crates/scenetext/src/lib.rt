@@ -8,7 +8,7 @@
 #![tactic(auto)]
 
 mod argument;
-mod command;
+mod command_word;
 mod fault;
 mod law;
 mod lines;
@@ -22,4 +22,4 @@ mod words;
 
 pub use law::one_reading;
 pub use reader::read;
-pub use scene::{Actor, Indices, Line, Lines, Scene, Verb, Vertices};
+pub use scene::{Actor, Line, Lines, Scene, Verb};

@@ -9,7 +9,7 @@ ghost use Rattle.scenetext.specs.Faults.{is_immediate};
 ghost use Rattle.scenetext.specs.Reading.{ReadsLine, RefusesLine, HasCounted, LacksCounted, IsHead, RefusesHead, ReadsSize, RefusesFirst};
 
 use crate::argument::next_argument;
-use crate::command::CommandWord;
+use crate::command_word::CommandWord;
 use crate::fault::{Fault, ReadError};
 use crate::numbers::expect;
 use crate::scene::{Actor, Line, Verb};
@@ -72,7 +72,7 @@ fn head_of(words: &mut Words) -> Result<(Actor, CommandWord), ReadError>
 }
 
 /// A later line, where the contexts have finished so many lists.
-pub(crate) fn line_of<A: Allocator>(
+pub(crate) fn line_of<A: Allocator + Copy>(
     alloc: A,
     finished: &[u64; 8],
     line: FormedLine,

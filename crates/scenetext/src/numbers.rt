@@ -10,7 +10,7 @@ ghost use Rattle.scenetext.specs.Faults.{word};
 ghost use Rattle.scenetext.specs.Ranges.{kinds, AreIn};
 
 use crate::argument::next_argument;
-use crate::command::CommandWord;
+use crate::command_word::CommandWord;
 use crate::fault::{Fault, ReadError};
 use crate::words::{Words, context};
 use gfxspec::Vertex;

@@ -47,7 +47,7 @@ fn first_of(text: &[u8]) -> Result<(Size, &[u8]), ReadError>
 }
 
 /// The line at the front of a text that follows other lines, and the text behind it.
-fn next_of<'a, A: Allocator>(
+fn next_of<'a, A: Allocator + Copy>(
     alloc: A,
     finished: &[u64; 8],
     text: &'a [u8],

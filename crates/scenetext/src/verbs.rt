@@ -10,18 +10,19 @@ ghost use Rattle.scenetext.specs.Ranges.{kinds, AreIn};
 ghost use Rattle.scenetext.specs.Spelling.{raster_numbers};
 
 use crate::argument::next_argument;
-use crate::command::CommandWord;
+use crate::command_word::CommandWord;
 use crate::fault::{Fault, ReadError};
 use crate::numbers::{
     expect, next_color, next_context, next_face, next_integer, next_nonzero, next_vertex,
 };
-use crate::scene::{Indices, Verb, Vertices};
+use crate::scene::Verb;
 use crate::words::Words;
+use command::{Buffer, Command};
 use gfxspec::PixelRect;
 use states::{BlendDesc, BlendState, DepthStencilDesc, DepthStencilState, RasterDesc, RasterState};
 use std::alloc::Allocator;
 
-fn set_vertices<A: Allocator>(alloc: A, words: &mut Words) -> Result<Verb<A>, ReadError>
+fn set_vertices<A: Allocator + Copy>(alloc: A, words: &mut Words) -> Result<Verb<A>, ReadError>
     ensures ok { IfOk result (λ v. Reads CommandWord.Vb words.old (verb_value v)) }
     ensures err { IfErr result (Refuses CommandWord.Vb words.old) }
 {
@@ -33,10 +34,10 @@ fn set_vertices<A: Allocator>(alloc: A, words: &mut Words) -> Result<Verb<A>, Re
     for _ in 0..count / 7 {
         vertices.push(next_vertex(words)?)?;
     }
-    Ok(Verb::SetVertices(Vertices::from_vec(vertices)))
+    Ok(Verb::Record(Command::SetVertices(Buffer::from_vec(vertices)?)))
 }
 
-fn set_indices<A: Allocator>(alloc: A, words: &mut Words) -> Result<Verb<A>, ReadError>
+fn set_indices<A: Allocator + Copy>(alloc: A, words: &mut Words) -> Result<Verb<A>, ReadError>
     ensures ok { IfOk result (λ v. Reads CommandWord.Ib words.old (verb_value v)) }
     ensures err { IfErr result (Refuses CommandWord.Ib words.old) }
 {
@@ -45,7 +46,7 @@ fn set_indices<A: Allocator>(alloc: A, words: &mut Words) -> Result<Verb<A>, Rea
     for _ in 0..count {
         indices.push(next_argument(words)?)?;
     }
-    Ok(Verb::SetIndices(Indices::from_vec(indices)))
+    Ok(Verb::Record(Command::SetIndices(Buffer::from_vec(indices)?)))
 }
 
 fn set_topology<A: Allocator>(words: &mut Words) -> Result<Verb<A>, ReadError>
@@ -53,7 +54,7 @@ fn set_topology<A: Allocator>(words: &mut Words) -> Result<Verb<A>, ReadError>
     ensures err { IfErr result (Refuses CommandWord.Topology words.old) }
 {
     expect(words, 1)?;
-    Ok(Verb::SetTopology(next_argument(words)?))
+    Ok(Verb::Record(Command::SetTopology(next_argument(words)?)))
 }
 
 /// The rasterizer state that the next three words spell, with no bias.
@@ -79,10 +80,11 @@ fn set_biased_raster<A: Allocator>(words: &mut Words) -> Result<Verb<A>, ReadErr
 {
     let raster = next_raster(words)?;
     let depth_bias = next_nonzero(words)?;
-    Ok(Verb::SetRaster(RasterState::new(RasterDesc {
+    let raster = RasterState::new(RasterDesc {
         depth_bias,
         ..raster
-    })))
+    });
+    Ok(Verb::Record(Command::SetRaster(raster)))
 }
 
 fn set_raster<A: Allocator>(words: &mut Words) -> Result<Verb<A>, ReadError>
@@ -94,7 +96,7 @@ fn set_raster<A: Allocator>(words: &mut Words) -> Result<Verb<A>, ReadError>
     }
     expect(words, 3)?;
     let raster = next_raster(words)?;
-    Ok(Verb::SetRaster(RasterState::new(raster)))
+    Ok(Verb::Record(Command::SetRaster(RasterState::new(raster))))
 }
 
 fn set_scissor<A: Allocator>(words: &mut Words) -> Result<Verb<A>, ReadError>
@@ -102,12 +104,12 @@ fn set_scissor<A: Allocator>(words: &mut Words) -> Result<Verb<A>, ReadError>
     ensures err { IfErr result (Refuses CommandWord.Scissor words.old) }
 {
     expect(words, 4)?;
-    Ok(Verb::SetScissor(PixelRect {
+    Ok(Verb::Record(Command::SetScissor(PixelRect {
         left: next_argument(words)?,
         top: next_argument(words)?,
         right: next_argument(words)?,
         bottom: next_argument(words)?,
-    }))
+    })))
 }
 
 fn set_depth_stencil<A: Allocator>(words: &mut Words) -> Result<Verb<A>, ReadError>
@@ -125,7 +127,8 @@ fn set_depth_stencil<A: Allocator>(words: &mut Words) -> Result<Verb<A>, ReadErr
         front: next_face(words)?,
         back: next_face(words)?,
     });
-    Ok(Verb::SetDepthStencil(state, next_argument(words)?))
+    let reference = next_argument(words)?;
+    Ok(Verb::Record(Command::SetDepthStencil(state, reference)))
 }
 
 fn set_blend<A: Allocator>(words: &mut Words) -> Result<Verb<A>, ReadError>
@@ -133,11 +136,12 @@ fn set_blend<A: Allocator>(words: &mut Words) -> Result<Verb<A>, ReadError>
     ensures err { IfErr result (Refuses CommandWord.Blend words.old) }
 {
     expect(words, 3)?;
-    Ok(Verb::SetBlend(BlendState::new(BlendDesc {
+    let blend = BlendState::new(BlendDesc {
         logic: next_argument(words)?,
         op: next_argument(words)?,
         mask: next_argument(words)?,
-    })))
+    });
+    Ok(Verb::Record(Command::SetBlend(blend)))
 }
 
 fn set_predication<A: Allocator>(words: &mut Words) -> Result<Verb<A>, ReadError>
@@ -145,12 +149,12 @@ fn set_predication<A: Allocator>(words: &mut Words) -> Result<Verb<A>, ReadError
     ensures err { IfErr result (Refuses CommandWord.Predicate words.old) }
 {
     if words.count() == 0 {
-        return Ok(Verb::SetPredication(None));
+        return Ok(Verb::Record(Command::SetPredication(None)));
     }
     expect(words, 2)?;
     let query = next_argument(words)?;
     let value = next_argument(words)?;
-    Ok(Verb::SetPredication(Some((query, value))))
+    Ok(Verb::Record(Command::SetPredication(Some((query, value)))))
 }
 
 fn draw<A: Allocator>(words: &mut Words) -> Result<Verb<A>, ReadError>
@@ -160,7 +164,7 @@ fn draw<A: Allocator>(words: &mut Words) -> Result<Verb<A>, ReadError>
     expect(words, 2)?;
     let count = next_argument(words)?;
     let start = next_argument(words)?;
-    Ok(Verb::Draw(count, start))
+    Ok(Verb::Record(Command::Draw(count, start)))
 }
 
 fn draw_indexed<A: Allocator>(words: &mut Words) -> Result<Verb<A>, ReadError>
@@ -171,7 +175,7 @@ fn draw_indexed<A: Allocator>(words: &mut Words) -> Result<Verb<A>, ReadError>
     let count = next_argument(words)?;
     let start = next_argument(words)?;
     let base = next_integer(words)?;
-    Ok(Verb::DrawIndexed(count, start, base))
+    Ok(Verb::Record(Command::DrawIndexed(count, start, base)))
 }
 
 fn clear_color<A: Allocator>(words: &mut Words) -> Result<Verb<A>, ReadError>
@@ -179,7 +183,7 @@ fn clear_color<A: Allocator>(words: &mut Words) -> Result<Verb<A>, ReadError>
     ensures err { IfErr result (Refuses CommandWord.Clearc words.old) }
 {
     expect(words, 4)?;
-    Ok(Verb::ClearColor(next_color(words)?))
+    Ok(Verb::Record(Command::ClearColor(next_color(words)?)))
 }
 
 fn clear_depth_stencil<A: Allocator>(words: &mut Words) -> Result<Verb<A>, ReadError>
@@ -189,7 +193,7 @@ fn clear_depth_stencil<A: Allocator>(words: &mut Words) -> Result<Verb<A>, ReadE
     expect(words, 2)?;
     let depth = next_argument(words)?;
     let stencil = next_argument(words)?;
-    Ok(Verb::ClearDepthStencil(depth, stencil))
+    Ok(Verb::Record(Command::ClearDepthStencil(depth, stencil)))
 }
 
 fn begin<A: Allocator>(words: &mut Words) -> Result<Verb<A>, ReadError>
@@ -197,7 +201,7 @@ fn begin<A: Allocator>(words: &mut Words) -> Result<Verb<A>, ReadError>
     ensures err { IfErr result (Refuses CommandWord.Begin words.old) }
 {
     expect(words, 1)?;
-    Ok(Verb::Begin(next_argument(words)?))
+    Ok(Verb::Record(Command::Begin(next_argument(words)?)))
 }
 
 fn end<A: Allocator>(words: &mut Words) -> Result<Verb<A>, ReadError>
@@ -205,7 +209,7 @@ fn end<A: Allocator>(words: &mut Words) -> Result<Verb<A>, ReadError>
     ensures err { IfErr result (Refuses CommandWord.End words.old) }
 {
     expect(words, 1)?;
-    Ok(Verb::End(next_argument(words)?))
+    Ok(Verb::Record(Command::End(next_argument(words)?)))
 }
 
 fn finish<A: Allocator>(words: &mut Words) -> Result<Verb<A>, ReadError>
@@ -254,7 +258,7 @@ fn pixel<A: Allocator>(words: &mut Words) -> Result<Verb<A>, ReadError>
 }
 
 /// The verb of a command with these arguments.
-pub(crate) fn verb_of<A: Allocator>(
+pub(crate) fn verb_of<A: Allocator + Copy>(
     alloc: A,
     command: CommandWord,
     words: &mut Words,

@@ -5,7 +5,7 @@ ghost use Rattle.gfxspec.specs.declared.error.GfxError.TheVariants.{OutOfMemory}
 ghost use Rattle.gfxspec.specs.Limits.{is_size};
 ghost use Rattle.gfxspec.specs.Tiles.{tile_count};
 ghost use Rattle.binmem.specs.Lists.{no_words};
-ghost use Rattle.binner.specs.Compiling.{told};
+ghost use Rattle.cmdlist.specs.Drawable.{told};
 ghost use Rattle.binner.specs.Segments.{cut_items};
 ghost use Rattle.segmentrun.specs.Windows.{IsCompiled};
 

@@ -11,7 +11,7 @@ ghost use Rattle.binmem.specs.Lists.{no_words};
 ghost use Rattle.board.specs.declared.view.Hand.TheVariants.{Empty};
 ghost use Rattle.board.specs.Known.{IsSeatOf, AreNew};
 ghost use Rattle.binner.specs.Compiled.{Compilation};
-ghost use Rattle.binner.specs.Compiling.{told};
+ghost use Rattle.cmdlist.specs.Drawable.{told};
 ghost use Rattle.binner.specs.Segments.{cut_items, AreCompiled};
 ghost use Rattle.segmentrun.specs.declared.job.SegmentJob.{SegmentJob};
 ghost use Rattle.segmentrun.specs.declared.job.OpenWindow.{OpenWindow};

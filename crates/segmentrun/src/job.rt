@@ -175,7 +175,7 @@ impl<A: Allocator + Copy + Send> TileJob for SegmentJob<A> {
     type Done = DoneWindow<A>;
 
     ghost use Rattle.std.specs.Prelude.{◌≡◌, ◌<◌, IfSome};
-    ghost use Rattle.binner.specs.Compiling.{told};
+    ghost use Rattle.cmdlist.specs.Drawable.{told};
     ghost use Rattle.binner.specs.Segments.{cut_items};
     ghost use Rattle.segmentrun.specs.Windows.{window_of, IsCompiled};
     ghost use Rattle.segmentrun.specs.Running.{running};

@@ -5,11 +5,10 @@ ghost use Rattle.gfxspec.specs.Recorded.{queries_open};
 ghost use Rattle.gfxspec.specs.Accepted.{AreAccepted};
 
 use answers::Answer;
-use cmdlist::CommandList;
+use cmdlist::{Command, CommandList, DeviceContext};
 use gfxspec::GfxError;
 use immediate::ImmediateContext;
-use recorders::{ListSource, take_call};
-use scenetext::Verb;
+use recorders::ListSource;
 use std::alloc::Allocator;
 
 /// What is executed: the pending commands alone, which then run, or those and then a list, which may wait.
@@ -31,20 +30,24 @@ pub(crate) enum Question {
 
 /// The immediate context, as contracts see it that don't know who runs the tiles, and the calls that run nothing.
 pub(crate) trait RecordsCalls {
-    ghost use Rattle.scenetext.specs.Seen.{verb_value};
-    ghost use Rattle.recorders.specs.Calls.{TakesCall};
+    ghost use Rattle.scenetext.specs.Scene.{Call};
+    ghost use Rattle.command.specs.Seen.{command_value};
+    ghost use Rattle.cmdlist.specs.Calls.{RecordsCall};
     ghost use Rattle.immediate.specs.Held.{Held, IsExamined, held_more};
     ghost use Rattle.std.specs.Prelude.{◌≡◌, [], OnOk, IfErr};
     ghost use Rattle.gfxspec.specs.Refusals.{first_row};
     ghost use Rattle.recorders.specs.Apart.{Cause};
     ghost use Rattle.sessions.specs.Taking.{held_rows, verb_asked, IsInside, stored_answer};
 
+    /// Where commands have their memory from.
+    type Alloc: Allocator;
+
     ghost held: { Self → Held };
 
-    /// Records the call that a verb is. A verb that is none does nothing.
-    fn record_verb<A: Allocator>(&mut self, verb: &Verb<A>) -> Result<(), GfxError>
-        ensures taken { TakesCall (λ (h : Held). h.pending) held_more (held self.old) (verb_value verb.now) (held self.new) result }
-        ensures cause { IfErr result (Cause (first_row (held_rows (held self.old) (verb_value verb.now)))) };
+    /// Records a command.
+    fn record_command(&mut self, command: &Command<Self::Alloc>) -> Result<(), GfxError>
+        ensures taken { RecordsCall (λ (h : Held). h.pending) held_more (held self.old) (command_value command.now) (held self.new) result }
+        ensures cause { IfErr result (Cause (first_row (held_rows (held self.old) (Call (command_value command.now))))) };
 
     /// Whether a question is refused before anything runs for it.
     fn examine(&self, question: Question) -> Result<(), GfxError>
@@ -59,10 +62,12 @@ pub(crate) trait RecordsCalls {
 }
 
 impl<A: Allocator + Copy + Send> RecordsCalls for ImmediateContext<A> {
+    type Alloc = A;
+
     ghost held = { λ context. context };
 
-    fn record_verb<B: Allocator>(&mut self, verb: &Verb<B>) -> Result<(), GfxError> {
-        take_call(self, verb)
+    fn record_command(&mut self, command: &Command<A>) -> Result<(), GfxError> {
+        self.record(command)
     }
 
     fn examine(&self, question: Question) -> Result<(), GfxError> {

@@ -2,7 +2,7 @@
 
 use crate::calls::{list_of, record_all};
 use crate::meeting::AllAtOnce;
-use cmdlist::Call;
+use cmdlist::{Buffer, Command};
 use gfxspec::{GfxError, Topology, Vertex};
 use immediate::ImmediateContext;
 use refusing::Refusing;
@@ -46,11 +46,11 @@ fn drawn<A: Allocator + Copy + Send>(alloc: A) -> Result<ImmediateContext<A>, Gf
         corner(128, 128),
     ];
     let calls = [
-        Call::SetVertices(&corners),
-        Call::SetTopology(Topology::TriangleStrip),
-        Call::Begin(0),
-        Call::Draw(4, 0),
-        Call::End(0),
+        Command::SetVertices(Buffer::from_slice(alloc, &corners)?),
+        Command::SetTopology(Topology::TriangleStrip),
+        Command::Begin(0),
+        Command::Draw(4, 0),
+        Command::End(0),
     ];
     let mut context = ImmediateContext::new(alloc, 128, 128)?;
     record_all(&mut context, &calls)?;
@@ -65,7 +65,7 @@ fn execute<A: Allocator + Copy + Send + Sync, R: Threads + Sync, G: Gate + Sync>
     workers: u32,
     gate: &G,
 ) -> Result<(), GfxError> {
-    let list = list_of(alloc, &[Call::ClearColor([9; 4])])?;
+    let list = list_of(alloc, &[Command::ClearColor([9; 4])])?;
     context.execute(rt, &list, true, workers, gate)
 }
 

@@ -2,7 +2,7 @@ use Rattle.std.proofs.Common.{arith, ap, subst, ◌∙◌, map}
 use Rattle.std.specs.Prelude.{max, IfOk}
 use Rattle.std.specs.List.{AllZip}
 use Rattle.rayon.specs.Lists.{chunks_of, chunks_size, chunks_slice, min_len_base}
-use Rattle.cmdlist.specs.Seen.{state_value}
+use Rattle.command.specs.Seen.{state_value}
 use Rattle.binner.specs.Setups.{AreSetups}
 use Rattle.binner.proofs.Slices.{primitive_at, parts_whole}
 use Rattle.binner.proofs.ahead.parts_of.Goals as goal

@@ -1,6 +1,6 @@
 use Rattle.std.proofs.Common.{subst}
 use Rattle.std.specs.Prelude.{IfOk, IfSome}
-use Rattle.cmdlist.specs.Seen.{state_value}
+use Rattle.command.specs.Seen.{state_value}
 use Rattle.binner.specs.Setups.{AreSetups, all_setups}
 use Rattle.binner.proofs.ahead.parts_of_command.Goals as goal
 

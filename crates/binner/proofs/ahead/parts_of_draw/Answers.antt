@@ -1,5 +1,5 @@
 use Rattle.std.proofs.Common.{ap, subst, ◌∙◌, map}
-use Rattle.cmdlist.specs.Seen.{state_value}
+use Rattle.command.specs.Seen.{state_value}
 use Rattle.binner.specs.Setups.{AreSetups, all_setups}
 use Rattle.binner.proofs.Slices.{primitive_at}
 use Rattle.binner.proofs.ahead.parts_of_draw.Goals as goal

@@ -1,9 +1,9 @@
 use Rattle.std.proofs.Common.{rules, sym, subst, ◌≡◌}
 use Rattle.std.specs.Prelude.{IfSome}
 use Rattle.meaning.specs.OneMore.{settings_with}
-use Rattle.cmdlist.specs.Seen.{state_value, command_value}
-use Rattle.binner.specs.Ready.{IsDrawable}
-use Rattle.binner.specs.Setups.{AreSetups, all_setups, drawn_by}
+use Rattle.command.specs.Seen.{state_value, command_value}
+use Rattle.cmdlist.specs.Drawable.{IsDrawable, drawn_by}
+use Rattle.binner.specs.Setups.{AreSetups, all_setups}
 use Rattle.binner.proofs.Accepted.{drawable}
 use Rattle.binner.proofs.Slices.{noted, settings_more}
 use Rattle.binner.proofs.ahead.set_up_ahead.Goals as goal

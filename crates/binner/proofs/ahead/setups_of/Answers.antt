@@ -1,5 +1,5 @@
 use Rattle.std.proofs.Common.{sym, subst, refl, map, take, ◌+◌, IsNone}
-use Rattle.cmdlist.specs.Seen.{state_value}
+use Rattle.command.specs.Seen.{state_value}
 use Rattle.binner.specs.Meaning.{IsSetupOf}
 use Rattle.binner.specs.Setups.{AreSetups, ReachesNothing}
 use Rattle.binner.proofs.Slices.{primitive_at, one_dropped, one_made}

@@ -1,5 +1,5 @@
 use Rattle.std.proofs.Common.{map, take}
-use Rattle.cmdlist.specs.Seen.{state_value}
+use Rattle.command.specs.Seen.{state_value}
 use Rattle.binner.specs.Setups.{AreSetups}
 use Rattle.binner.proofs.Slices.{primitive_at}
 use Rattle.binner.proofs.ahead.setups_of.Given as goal

@@ -1,10 +1,10 @@
 use Rattle.std.proofs.Common.{rules, sym, subst, ◌≡◌, ℕ}
 use Rattle.gfxspec.specs.State.{Settings}
 use Rattle.meaning.specs.OneMore.{settings_with}
-use Rattle.cmdlist.specs.Seen.{state_value, command_value}
+use Rattle.command.specs.Seen.{state_value, command_value}
 use Rattle.binner.specs.Meaning.{entry_of}
-use Rattle.binner.specs.Ready.{IsDrawable}
-use Rattle.binner.specs.Compiling.{Performs, told}
+use Rattle.cmdlist.specs.Drawable.{IsDrawable, told}
+use Rattle.binner.specs.Compiling.{Performs}
 use Rattle.binner.proofs.Batching.{HasRoomFor, none_added, one_added, all_added}
 use Rattle.binner.proofs.Reading.{ready_at}
 use Rattle.binner.proofs.batch.add_behind.Goals as goal
@@ -25,14 +25,14 @@ add_performed-requires-clause-drawable g c =
     subst (λ k. IsDrawable (state_value l.state) (command_value k)) (sym c.command-item.is)
     (ready_at c.args.commands.now l.command-index c.command-item.result (state_value l.state) c.requires.segment.ready c.loop-command-test.true l.invariant.state)
 
-pub add_performed-requires-clause-states : goal.add_performed-requires-clause-states
-add_performed-requires-clause-states g c = c.has_room.ensures.states (search rules)
-
-pub add_performed-requires-clause-triangles : goal.add_performed-requires-clause-triangles
-add_performed-requires-clause-triangles g c = c.has_room.ensures.triangles (search rules)
-
-pub add_performed-requires-clause-clears : goal.add_performed-requires-clause-clears
-add_performed-requires-clause-clears g c = c.has_room.ensures.clears (search rules)
+pub add_performed-requires-clause-room : goal.add_performed-requires-clause-room
+add_performed-requires-clause-room g c = record {
+  sound = c.loop-command.invariant.sound;
+  current = c.loop-command.invariant.current;
+  states = c.has_room.ensures.states (search rules);
+  triangles = c.has_room.ensures.triangles (search rules);
+  clears = c.has_room.ensures.clears (search rules);
+}
 
 pub loop-command-preserved : goal.loop-command-preserved
 loop-command-preserved g c =

@@ -1,5 +1,5 @@
-use Rattle.cmdlist.specs.Seen.{state_value}
-use Rattle.binner.specs.Compiling.{told}
+use Rattle.command.specs.Seen.{state_value}
+use Rattle.cmdlist.specs.Drawable.{told}
 use Rattle.binner.proofs.Batching.{Added}
 use Rattle.binner.proofs.batch.add_behind.Given as goal
 

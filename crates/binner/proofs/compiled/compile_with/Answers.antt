@@ -1,9 +1,9 @@
 use Rattle.std.proofs.Common.{ap, length, map, subst, sym, ◌∙◌}
 use Rattle.gfxspec.specs.Predication.{performed}
 use Rattle.meaning.proofs.Performed.{performed_alike}
-use Rattle.cmdlist.specs.Seen.{command_value}
+use Rattle.command.specs.Seen.{command_value}
 use Rattle.binner.specs.Compiled.{Compilation, MeansList}
-use Rattle.binner.specs.Compiling.{told}
+use Rattle.cmdlist.specs.Drawable.{told}
 use Rattle.binner.proofs.Ending.{is_compilation, means_list}
 use Rattle.binner.proofs.compiled.compile_with.Goals as goal
 

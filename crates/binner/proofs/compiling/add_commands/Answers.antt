@@ -1,12 +1,13 @@
 use Rattle.std.proofs.Common.{rules, sym, subst, ◌≡◌, ◌++◌, ◌∷◌, [], ℕ}
 use Rattle.gfxspec.specs.State.{Settings}
 use Rattle.meaning.specs.OneMore.{settings_with}
-use Rattle.cmdlist.specs.Seen.{state_value, command_value}
+use Rattle.command.specs.Seen.{state_value, command_value}
 use Rattle.binner.specs.Meaning.{entry_of}
 use Rattle.binner.specs.Opened.{IsOpened}
-use Rattle.binner.specs.Compiling.{Performs, told}
+use Rattle.binner.specs.Compiling.{Performs}
+use Rattle.cmdlist.specs.Drawable.{told, drawn_by}
 use Rattle.std.specs.Prelude.{IfSome}
-use Rattle.binner.specs.Setups.{AreSetups, all_setups, drawn_by}
+use Rattle.binner.specs.Setups.{AreSetups, all_setups}
 use Rattle.binner.proofs.Slices.{set_up_for}
 use Rattle.binner.proofs.Accepted.{done}
 use Rattle.binner.proofs.Whole.{so_far, can_add, CanAdd, one_more, all_compiled}
@@ -21,24 +22,14 @@ loop-place-init g c = record {
 pub add_performed-requires-clause-drawable : goal.add_performed-requires-clause-drawable
 add_performed-requires-clause-drawable g c =
     let l = c.loop-place in
-    (subst (λ k. CanAdd (state_value l.state) l.begun (command_value k) l.compiling) (sym c.index-commands-place.is)
+    (subst (λ k. CanAdd (state_value l.state) l.bits l.begun (command_value k) l.compiling) (sym c.index-commands-place.is)
     (can_add (told c.args.results.now) c.args.commands.now l.place c.index-commands-place.result (state_value l.state) l.bits l.begun l.of_query c.args.compiling.now l.compiling c.requires.accepted (search rules) l.invariant.so_far)).drawable
 
-pub add_performed-requires-clause-states : goal.add_performed-requires-clause-states
-add_performed-requires-clause-states g c =
+pub add_performed-requires-clause-room : goal.add_performed-requires-clause-room
+add_performed-requires-clause-room g c =
     let l = c.loop-place in
-    (can_add (told c.args.results.now) c.args.commands.now l.place c.index-commands-place.result (state_value l.state) l.bits l.begun l.of_query c.args.compiling.now l.compiling c.requires.accepted (search rules) l.invariant.so_far).states
-
-pub add_performed-requires-clause-triangles : goal.add_performed-requires-clause-triangles
-add_performed-requires-clause-triangles g c =
-    let l = c.loop-place in
-    (subst (λ k. CanAdd (state_value l.state) l.begun (command_value k) l.compiling) (sym c.index-commands-place.is)
-    (can_add (told c.args.results.now) c.args.commands.now l.place c.index-commands-place.result (state_value l.state) l.bits l.begun l.of_query c.args.compiling.now l.compiling c.requires.accepted (search rules) l.invariant.so_far)).triangles
-
-pub add_performed-requires-clause-clears : goal.add_performed-requires-clause-clears
-add_performed-requires-clause-clears g c =
-    let l = c.loop-place in
-    (can_add (told c.args.results.now) c.args.commands.now l.place c.index-commands-place.result (state_value l.state) l.bits l.begun l.of_query c.args.compiling.now l.compiling c.requires.accepted (search rules) l.invariant.so_far).clears
+    (subst (λ k. CanAdd (state_value l.state) l.bits l.begun (command_value k) l.compiling) (sym c.index-commands-place.is)
+    (can_add (told c.args.results.now) c.args.commands.now l.place c.index-commands-place.result (state_value l.state) l.bits l.begun l.of_query c.args.compiling.now l.compiling c.requires.accepted (search rules) l.invariant.so_far)).room
 
 pub add_performed-requires-clause-made : goal.add_performed-requires-clause-made
 add_performed-requires-clause-made g c =
@@ -50,7 +41,7 @@ add_performed-requires-clause-made g c =
 pub note-requires : goal.note-requires
 note-requires g c =
     let l = c.loop-place in
-    (subst (λ k. CanAdd (state_value l.state) l.begun (command_value k) l.compiling) (sym c.index-commands-place.is)
+    (subst (λ k. CanAdd (state_value l.state) l.bits l.begun (command_value k) l.compiling) (sym c.index-commands-place.is)
     (can_add (told c.args.results.now) c.args.commands.now l.place c.index-commands-place.result (state_value l.state) l.bits l.begun l.of_query c.args.compiling.now l.compiling c.requires.accepted (search rules) l.invariant.so_far)).note
 
 pub loop-place-preserved : goal.loop-place-preserved

@@ -1,9 +1,9 @@
 use Rattle.std.proofs.Common.{rules, sym, subst, ◌≡◌, ◌∷◌, refl, IsNone}
 use Rattle.assemble.specs.Triangle.{primitive_of}
 use Rattle.assemble.specs.Drawing.{triangles_of}
-use Rattle.cmdlist.specs.Seen.{state_value}
+use Rattle.command.specs.Seen.{state_value}
 use Rattle.binner.proofs.Readying.{AreReady, draw_ready}
-use Rattle.binner.proofs.Drawing.{drew_begin, drew_setup, drew_skip, drew_all}
+use Rattle.binner.proofs.Drawing.{drew_begin, drew_setup, drew_skip, drew_whole}
 use Rattle.binner.proofs.compiling.add_draw.Goals as goal
 
 pub loop-tri-init : goal.loop-tri-init
@@ -13,7 +13,7 @@ loop-tri-init g c =
       can_next = tt;
       is_finite = tt;
       ready = subst AreReady (sym same) (draw_ready c.args.draw.now c.requires.vertices);
-      drew = drew_begin c.args.compiling.now (state_value c.args.state.now) c.args.issues c.in_ok-current.current (triangles_of c.args.draw.now) c.current_entry.new.compiling c.into_iter-tri-iterator.result same c.requires.sound c.in_ok-current.ensures.enters;
+      drew = drew_begin c.args.compiling.now (state_value c.args.state.now) c.args.issues c.in_ok-current.current (triangles_of c.args.draw.now) c.current_entry.new.compiling c.into_iter-tri-iterator.result same c.requires.room.sound c.in_ok-current.ensures.enters;
     }
 
 pub loop-tri-preserved-in-Continue-branch-2 : goal.loop-tri-preserved-in-Continue-branch-2
@@ -36,6 +36,6 @@ loop-tri-preserved g c =
       drew = drew_skip c.args.compiling.now (state_value c.args.state.now) c.args.issues c.in_ok-current.current (triangles_of c.args.draw.now) c.loop-tri.compiling (primitive_of c.in-Some.tri) c.next.new.self c.loop-tri.tri-iterator is c.loop-tri.invariant.drew (c.prepared.ensures.dropped (subst IsNone (sym c.in_default.is) refl));
     }
 
-pub returns-clause-means : goal.returns-clause-means
-returns-clause-means g c =
-    drew_all c.args.compiling.now (state_value c.args.state.now) c.args.issues c.in_ok-current.current (triangles_of c.args.draw.now) c.loop-tri.compiling c.loop-tri.tri-iterator (search rules) c.loop-tri.invariant.drew
+pub returns-clause-drawn : goal.returns-clause-drawn
+returns-clause-drawn g c =
+    drew_whole c.args.compiling.now (state_value c.args.state.now) c.args.issues c.in_ok-current.current (triangles_of c.args.draw.now) c.loop-tri.compiling c.loop-tri.tri-iterator (search rules) c.loop-tri.invariant.drew

@@ -1,5 +1,5 @@
 use Rattle.assemble.specs.Drawing.{triangles_of}
-use Rattle.cmdlist.specs.Seen.{state_value}
+use Rattle.command.specs.Seen.{state_value}
 use Rattle.binner.proofs.Readying.{AreReady}
 use Rattle.binner.proofs.Drawing.{Drew}
 use Rattle.binner.proofs.compiling.add_draw.Given as goal

@@ -1,8 +1,8 @@
 use Rattle.std.proofs.Common.{rules, refl, ap, ◌∙◌, sym, subst, [], ◌∷◌, ◌++◌, ◌≡◌}
 use Rattle.assemble.specs.Drawing.{triangles_of}
-use Rattle.cmdlist.specs.Seen.{state_value}
+use Rattle.command.specs.Seen.{state_value}
 use Rattle.binner.specs.Setups.{AreSetups, all_setups}
-use Rattle.binner.proofs.Drawing.{drew_begin, drew_all}
+use Rattle.binner.proofs.Drawing.{drew_begin, drew_whole}
 use Rattle.binner.proofs.Filling.{Filled, none_left, filled_all, filled_setup}
 use Rattle.binner.proofs.compiling.add_parts.Goals as goal
 
@@ -13,7 +13,7 @@ parts-init g c =
     record {
       left = all;
       made = subst (λ l. AreSetups s c.args.compiling.now.lists.size all (all_setups l)) (sym c.into_iter-part-iterator.ensures.into_iter_gives.0) c.requires.made;
-      drew = drew_begin c.args.compiling.now s c.args.issues c.in_ok-current.current all c.current_entry.new.compiling all refl c.requires.sound c.in_ok-current.ensures.enters;
+      drew = drew_begin c.args.compiling.now s c.args.issues c.in_ok-current.current all c.current_entry.new.compiling all refl c.requires.room.sound c.in_ok-current.ensures.enters;
     }
 
 pub setups-preserved : goal.setups-preserved
@@ -28,10 +28,10 @@ parts-preserved g c =
     let none = none_left c.setups.setup-iterator.rest.items (sym c.setups.setup-iterator.rest.ok.0 ∙ c.in-None-setup.ensures.steps.0) in
     subst (λ l. Filled c.args.compiling.now c.setups.compiling (state_value c.args.state.now) c.args.issues c.in_ok-current.current (triangles_of c.args.draw.now) (l ++ others)) none c.setups.invariant
 
-pub returns-clause-means : goal.returns-clause-means
-returns-clause-means g c =
+pub returns-clause-drawn : goal.returns-clause-drawn
+returns-clause-drawn g c =
     let s = state_value c.args.state.now in
     let all = triangles_of c.args.draw.now in
     let none = none_left c.parts.part-iterator.rest.items (sym c.parts.part-iterator.rest.ok.0 ∙ c.in-None.ensures.steps.0) in
-    drew_all c.args.compiling.now s c.args.issues c.in_ok-current.current all c.parts.compiling [] refl
+    drew_whole c.args.compiling.now s c.args.issues c.in_ok-current.current all c.parts.compiling [] refl
     (filled_all c.args.compiling.now c.parts.compiling s c.args.issues c.in_ok-current.current all (all_setups c.parts.part-iterator.rest.items) (ap all_setups none) c.parts.invariant)

@@ -1,6 +1,6 @@
 use Rattle.std.proofs.Common.{◌++◌}
 use Rattle.assemble.specs.Drawing.{triangles_of}
-use Rattle.cmdlist.specs.Seen.{state_value}
+use Rattle.command.specs.Seen.{state_value}
 use Rattle.binner.specs.Setups.{all_setups}
 use Rattle.binner.proofs.Filling.{Filled}
 use Rattle.binner.proofs.compiling.add_parts.Given as goal

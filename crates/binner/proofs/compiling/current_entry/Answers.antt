@@ -1,5 +1,5 @@
 use Rattle.std.proofs.Common.{rules, refl, inl, inr}
-use Rattle.cmdlist.specs.Seen.{state_value}
+use Rattle.command.specs.Seen.{state_value}
 use Rattle.binner.specs.Meaning.{entry_of}
 use Rattle.binner.proofs.Growing.{new_entry}
 use Rattle.binner.proofs.compiling.current_entry.Goals as goal

@@ -11,7 +11,7 @@ use Rattle.gfxspec.specs.Raster.{Triangle, centre, covers}
 use Rattle.snap.specs.Corners.{triangle_of}
 use Rattle.depthplane.specs.Height.{AreDepths, DeepTriangle}
 use Rattle.assemble.specs.Triangle.{primitive_of}
-use Rattle.cmdlist.specs.Seen.{state_value}
+use Rattle.command.specs.Seen.{state_value}
 use Rattle.binner.proofs.Preparing.{solid, same_primitive, all_ready, culled_is, culled_out, empty_out, facing_is, out_of_sight}
 use Rattle.binner.proofs.prepare.prepared.Goals as goal
 

@@ -1,7 +1,7 @@
 use Rattle.std.proofs.Common.{sym, subst, List, []}
 use Rattle.gfxspec.specs.Commands.{Command}
 use Rattle.gfxspec.specs.Recorded.{settings_after}
-use Rattle.cmdlist.specs.Seen.{command_value}
+use Rattle.command.specs.Seen.{command_value}
 use Rattle.binner.specs.Segments.{CanFollow, IsMore}
 use Rattle.binner.proofs.Changing.{on_ok}
 use Rattle.binner.proofs.Cutting.{Cut, none_cut, can_follow, one_cut, all_cut}

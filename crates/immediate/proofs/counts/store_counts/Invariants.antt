@@ -1,5 +1,5 @@
 use Rattle.std.proofs.Common.{get_or}
-use Rattle.cmdlist.specs.Seen.{command_value}
+use Rattle.command.specs.Seen.{command_value}
 use Rattle.immediate.proofs.Storing.{StoredSoFar}
 use Rattle.immediate.proofs.counts.store_counts.Given as goal
 

@@ -1,7 +1,6 @@
-use Rattle.std.proofs.Common.{sym, subst, ap, ◌≡◌, ◌∙◌, [], ◌++◌, map, List}
+use Rattle.std.proofs.Common.{sym, subst, ap, ◌≡◌, ◌∙◌, [], ◌++◌, List}
 use Rattle.gfxspec.specs.Commands.{Command}
 use Rattle.gfxspec.specs.Recorded.{items, issues}
-use Rattle.cmdlist.specs.Seen.{command_value}
 use Rattle.immediate.specs.Outputs.{Outputs, performed_over, cut_over}
 use Rattle.immediate.proofs.Drawn.{some_weaker}
 use Rattle.immediate.proofs.Waiting.{kept_items}
@@ -16,9 +15,9 @@ returns-then-is_kept_state_alone-clause-means g c = λ o.
 
 pub returns-clause-unissued : goal.returns-clause-unissued
 returns-clause-unissued g c =
-    some_weaker (λ e. _) (λ e. issues c.args.pending.now ≡ []) c.with.result (λ e h. subst (λ (l : List Command). issues l ≡ []) c.commands.ensures.commands h) c.with.ensures.unissued
+    some_weaker (λ e. _) (λ e. issues c.args.pending.now ≡ []) c.with.result (λ e h. subst (λ (l : List Command). issues l ≡ []) c.recorded.ensures h) c.with.ensures.unissued
 
 pub returns-clause-means : goal.returns-clause-means
 returns-clause-means g c =
     some_weaker (λ e. _) (λ e. (o : Outputs) → cut_over o e ≡ items (performed_over o c.args.pending.now)) c.with.result
-    (λ e h o. h o ∙ ap (λ (ss : List (List Command)). cut_over o ss ++ items (performed_over o (map command_value c.commands.result.now))) c.none-none.ensures ∙ ap (λ (l : List Command). items (performed_over o l)) c.commands.ensures.commands) c.with.ensures.means
+    (λ e h o. h o ∙ ap (λ (ss : List (List Command)). cut_over o ss ++ items (performed_over o c.recorded.result)) c.none-none.ensures ∙ ap (λ (l : List Command). items (performed_over o l)) c.recorded.ensures) c.with.ensures.means

@@ -1,5 +1,6 @@
-use Rattle.std.proofs.Common.{true, refl, []}
+use Rattle.std.proofs.Common.{true, refl, subst, [], List}
 use Rattle.std.specs.Prelude.{Ok, Err, OnErr}
+use Rattle.gfxspec.specs.Commands.{Command}
 use Rattle.immediate.specs.Batched.{PartDrawn}
 use Rattle.immediate.specs.Held.{Held, Executed, held_behind}
 use Rattle.immediate.proofs.Waiting.{on_ok, on_err, has_settled, settled_behind, part_left, part_waits, all_ran}
@@ -12,7 +13,7 @@ returns-then-wait-clause-ok g c =
     let next = c.wait.new in
     let a : Held = held_behind o c.args.waiting.now c.args.pending.now in
     let b : Held = held_behind o next.waiting next.pending in
-    let waits : Executed [] true a b = c.wait.ensures.waits c.if-wait.true o in
+    let waits = subst (λ (l : List Command). Executed l true a b) c.none.ensures (c.wait.ensures.waits c.if-wait.true o) in
     on_ok ran.result
     (λ h. settled_behind [] true a b (held_behind ran.new.output ran.new.waiting next.pending) waits (has_settled o ran.new.output next.waiting ran.new.waiting next.pending h.0 h.1) h.1)
     ran.ensures.ok
@@ -22,8 +23,10 @@ returns-then-wait-clause-left g c =
     let o = c.args.output.now in
     let ran = c.run_waiting in
     let next = c.wait.new in
+    let a : Held = held_behind o c.args.waiting.now c.args.pending.now in
+    let b : Held = held_behind o next.waiting next.pending in
     on_err ran.result
-    (part_waits (held_behind o c.args.waiting.now c.args.pending.now) o ran.new.output next.waiting ran.new.waiting next.pending (c.wait.ensures.waits c.if-wait.true o))
+    (part_waits a o ran.new.output next.waiting ran.new.waiting next.pending (subst (λ (l : List Command). Executed l true a b) c.none.ensures (c.wait.ensures.waits c.if-wait.true o)))
     ran.ensures.part
 
 pub returns-in_err-run_waiting-clause-left : goal.returns-in_err-run_waiting-clause-left

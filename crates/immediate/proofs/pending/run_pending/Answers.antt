@@ -7,4 +7,4 @@ use Rattle.immediate.proofs.pending.run_pending.Goals as goal
 pub returns-clause-ok : goal.returns-clause-ok
 returns-clause-ok g c =
     pending_ran c.args.output.now c.run.new.self c.args.pending.now c.in_ok-next.next
-    (subst (λ (list : List Command). HasRun list c.args.output.now c.run.new.self) c.commands.ensures.commands c.in_ok-run.ensures.ok) c.in_ok-next.ensures.next
+    (subst (λ (list : List Command). HasRun list c.args.output.now c.run.new.self) c.recorded.ensures c.in_ok-run.ensures.ok) c.in_ok-next.ensures.next

@@ -1,8 +1,8 @@
 use Rattle.std.proofs.Common.{sym, subst}
 use Rattle.std.specs.Prelude.{OnOk}
 use Rattle.gfxspec.specs.Recorded.{drawn_items, items_at}
-use Rattle.cmdlist.specs.Seen.{state_value, command_value}
-use Rattle.binner.specs.Setups.{drawn_by}
+use Rattle.command.specs.Seen.{state_value, command_value}
+use Rattle.cmdlist.specs.Drawable.{drawn_by}
 use Rattle.pixelhistory.specs.Tracing.{GoesPast}
 use Rattle.pixelhistory.proofs.list.trace_command.Goals as goal
 

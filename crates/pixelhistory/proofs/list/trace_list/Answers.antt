@@ -1,8 +1,7 @@
 use Rattle.std.proofs.Common.{rules, sym, subst, ◌≡◌, ◌+◌, ◌<◌}
 use Rattle.meaning.specs.OneMore.{settings_with, triangles_of, performed_items}
-use Rattle.cmdlist.specs.Seen.{state_value, command_value}
-use Rattle.binner.specs.Ready.{IsDrawable}
-use Rattle.binner.specs.Compiling.{told}
+use Rattle.command.specs.Seen.{state_value, command_value}
+use Rattle.cmdlist.specs.Drawable.{IsDrawable, told}
 use Rattle.binner.proofs.Accepted.{drawable}
 use Rattle.pixelhistory.specs.Tracing.{GoesPast}
 use Rattle.pixelhistory.proofs.Listing.{so_far, room, one_more, all_taken}

@@ -1,8 +1,7 @@
 use Rattle.std.proofs.Common.{rules, sym, subst, refl, ℕ, ◌≡◌, ◌<◌, ◌+◌, length, w32, Fits}
 use Rattle.meaning.specs.OneMore.{settings_with, performed_items}
-use Rattle.cmdlist.specs.Seen.{state_value, command_value}
-use Rattle.binner.specs.Ready.{IsDrawable}
-use Rattle.binner.specs.Compiling.{told}
+use Rattle.command.specs.Seen.{state_value, command_value}
+use Rattle.cmdlist.specs.Drawable.{IsDrawable, told}
 use Rattle.binner.proofs.Accepted.{drawable}
 use Rattle.pixelhistory.proofs.Placing.{counted_none, counted_more, few, stands, all_counted}
 use Rattle.pixelhistory.proofs.places.place_of.Goals as goal

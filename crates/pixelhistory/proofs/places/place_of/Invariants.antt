@@ -1,5 +1,5 @@
-use Rattle.cmdlist.specs.Seen.{state_value}
-use Rattle.binner.specs.Compiling.{told}
+use Rattle.command.specs.Seen.{state_value}
+use Rattle.cmdlist.specs.Drawable.{told}
 use Rattle.pixelhistory.proofs.Placing.{Counted}
 use Rattle.pixelhistory.proofs.places.place_of.Given as goal
 

@@ -1,7 +1,7 @@
 use Rattle.std.proofs.Common.{rules, sym, subst, ◌≡◌, ◌∷◌}
 use Rattle.assemble.specs.Triangle.{primitive_of}
 use Rattle.assemble.specs.Drawing.{triangles_of}
-use Rattle.cmdlist.specs.Seen.{state_value}
+use Rattle.command.specs.Seen.{state_value}
 use Rattle.binner.proofs.Readying.{AreReady, draw_ready}
 use Rattle.pixelhistory.proofs.Taking.{took_begin, took_one, took_all, took_few}
 use Rattle.pixelhistory.proofs.trace.trace_draw.Goals as goal

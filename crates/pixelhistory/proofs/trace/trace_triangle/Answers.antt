@@ -1,6 +1,6 @@
 use Rattle.gfxspec.specs.Items.{Drawn}
 use Rattle.assemble.specs.Triangle.{primitive_of}
-use Rattle.cmdlist.specs.Seen.{state_value}
+use Rattle.command.specs.Seen.{state_value}
 use Rattle.pixelhistory.proofs.Taking.{as_events, on_ok, past_one}
 use Rattle.pixelhistory.proofs.trace.trace_triangle.Goals as goal
 

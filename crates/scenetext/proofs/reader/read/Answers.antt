@@ -1,10 +1,10 @@
-use Rattle.std.proofs.Common.{◌≡◌, ℕ, ◌<◌, List, [], ◌∷◌, ◌++◌, length, map, replicate, sym, ap, subst, ◌∙◌, arith, rules}
+use Rattle.std.proofs.Common.{◌≡◌, ℕ, ◌<◌, ◌^◌, List, [], ◌∷◌, ◌++◌, length, map, replicate, sym, ap, subst, ◌∙◌, arith, rules}
 use Rattle.std.proofs.lemmas.Bool.Decides.{nat_tests}
 use Rattle.std.proofs.lemmas.List.{length-map}
 use Rattle.scenetext.specs.declared.fault.ReadError.TheVariants as errors
 use Rattle.scenetext.specs.Scene.{Line}
 use Rattle.scenetext.specs.Seen.{line_value}
-use Rattle.scenetext.proofs.LoopLemmas.{SoFar, starts, goes_on, seen_more, fails, first_fails, first_known, is_read}
+use Rattle.scenetext.proofs.LoopLemmas.{SoFar, has_room, starts, goes_on, seen_more, fails, first_fails, first_known, is_read}
 use Rattle.scenetext.proofs.reader.read.Goals as goal
 use Rattle.std.proofs.lemmas.Grind.{common_steps}
 
@@ -94,7 +94,9 @@ pub count_finish-requires-clause-actor : goal.count_finish-requires-clause-actor
 count_finish-requires-clause-actor g c = search rules
 
 pub count_finish-requires-clause-room : goal.count_finish-requires-clause-room
-count_finish-requires-clause-room g c = grind (arith, common_steps)
+count_finish-requires-clause-room g c =
+    let few : length c.args.text.now < 2 ^ 63 = search rules in
+    has_room c.args.text.now c.in-Ok.first.0 (map line_value c.loop-rest.lines.items) c.loop-rest.finished c.loop-rest.rest.now c.loop-rest.invariant few
 
 pub drop-push-requires : goal.drop-push-requires
 drop-push-requires g c κs = search rules

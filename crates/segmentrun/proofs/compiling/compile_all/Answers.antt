@@ -3,7 +3,8 @@ use Rattle.gfxspec.specs.Commands.{Command}
 use Rattle.gfxspec.specs.Recorded.{items}
 use Rattle.gfxspec.specs.Predication.{performed}
 use Rattle.binner.specs.Batched.{MeansItems}
-use Rattle.binner.specs.Compiling.{HasCompiled, told}
+use Rattle.binner.specs.Compiling.{HasCompiled}
+use Rattle.cmdlist.specs.Drawable.{told}
 use Rattle.binner.specs.Segments.{cut_items}
 use Rattle.segmentrun.proofs.Joining.{one_more}
 use Rattle.segmentrun.proofs.compiling.compile_all.Goals as goal

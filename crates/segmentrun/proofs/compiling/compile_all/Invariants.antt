@@ -1,5 +1,6 @@
 use Rattle.std.proofs.Common.{◌≡◌, take}
-use Rattle.binner.specs.Compiling.{HasCompiled, told}
+use Rattle.binner.specs.Compiling.{HasCompiled}
+use Rattle.cmdlist.specs.Drawable.{told}
 use Rattle.binner.specs.Segments.{cut_items}
 use Rattle.segmentrun.proofs.compiling.compile_all.Given as goal
 

@@ -1,7 +1,7 @@
 use Rattle.std.proofs.Common.{[], ◌∷◌, List, sym, subst}
 use Rattle.gfxspec.specs.Commands.{Command}
 use Rattle.binner.specs.Compiled.{Compilation}
-use Rattle.binner.specs.Compiling.{told}
+use Rattle.cmdlist.specs.Drawable.{told}
 use Rattle.binner.specs.Segments.{cut_items, AreCompiled}
 use Rattle.segmentrun.specs.Running.{running}
 use Rattle.segmentrun.proofs.Joining.{one_list}

@@ -1,8 +1,9 @@
 use Rattle.std.proofs.Common.{sym, subst, ap, ◌∙◌, ◌++◌, map}
 use Rattle.gfxspec.specs.Recorded.{items}
 use Rattle.gfxspec.specs.Predication.{performed}
-use Rattle.cmdlist.specs.Seen.{command_value}
-use Rattle.binner.specs.Compiling.{HasCompiled, told}
+use Rattle.command.specs.Seen.{command_value}
+use Rattle.binner.specs.Compiling.{HasCompiled}
+use Rattle.cmdlist.specs.Drawable.{told}
 use Rattle.binner.proofs.batch.Batch.add.Goals as goal
 
 pub invariant_of-result : goal.invariant_of-result

@@ -1,6 +1,6 @@
 use Rattle.std.proofs.Common.{sym, subst, List}
 use Rattle.gfxspec.specs.Commands.{Command}
-use Rattle.cmdlist.specs.Seen.{command_value}
+use Rattle.command.specs.Seen.{command_value}
 use Rattle.binner.specs.Segments.{IsMore, draw_of}
 use Rattle.binner.proofs.Cutting.{if_ok, more_behind_same}
 use Rattle.binner.proofs.segment.OpenSegment.add.Goals as goal

@@ -1,7 +1,7 @@
 use Rattle.std.proofs.Common.{rules, arith, ◌≡◌, ◌*◌, List, sym, subst}
 use Rattle.gfxspec.specs.Commands.{Command}
 use Rattle.gfxspec.specs.Recorded.{settings_after}
-use Rattle.cmdlist.specs.Seen.{command_value}
+use Rattle.command.specs.Seen.{command_value}
 use Rattle.binner.specs.Segments.{CanFollow, IsMore, draw_of}
 use Rattle.binner.proofs.Cutting.{if_ok}
 use Rattle.binner.proofs.Dividing.{all_left, less_left, can_draw_part, fits}

@@ -1,6 +1,6 @@
 use Rattle.std.proofs.Common.{rules, ◌≡◌, ◌∷◌, [], map}
 use Rattle.gfxspec.specs.Commands.{Kept}
-use Rattle.cmdlist.specs.Seen.{command_value, settings_value}
+use Rattle.command.specs.Seen.{command_value, settings_value}
 use Rattle.binner.proofs.Cutting.{same_behind}
 use Rattle.binner.proofs.segment.OpenSegment.finish.Goals as goal
 

@@ -1,7 +1,7 @@
 use Rattle.std.proofs.Common.{sym, subst, ◌≡◌, [], List}
 use Rattle.gfxspec.specs.Commands.{Command}
 use Rattle.gfxspec.specs.Recorded.{issues}
-use Rattle.cmdlist.specs.Seen.{command_value, settings_value}
+use Rattle.command.specs.Seen.{command_value, settings_value}
 use Rattle.binner.specs.Segments.{IsOpenSegment, IsMore}
 use Rattle.binner.proofs.Cutting.{pushed, still_open, more_by_push}
 use Rattle.binner.proofs.segment.OpenSegment.push.Goals as goal

@@ -1,12 +1,12 @@
 use Rattle.std.proofs.Common.{arith, ◌∙◌, ap, sym, subst, rules, refl, ◌++◌, ◌∷◌, []}
-use Rattle.cmdlist.specs.Seen.{command_value}
+use Rattle.command.specs.Seen.{command_value}
 use Rattle.cmdlist.specs.Recorder.{OnlyLength}
 use Rattle.cmdlist.proofs.Recording.{recorded, open_room, pushed}
 use Rattle.cmdlist.proofs.context.DeferredContext.append.Goals as goal
 use Rattle.std.proofs.lemmas.Grind.{common_steps}
 
-pub note_query-requires : goal.note_query-requires
-note_query-requires g c =
+pub note-requires-clause-room : goal.note-requires-clause-room
+note-requires-clause-room g c =
     let only = subst (λ l. OnlyLength l (command_value c.args.command) c.args.triangles) (sym c.self.view_is) c.requires.only in
     λ begins. open_room c.self.inside (command_value c.args.command) c.args.triangles c.self.invariant only (search rules) begins
 
@@ -41,12 +41,6 @@ returns-in_err-change-clause-err g c = search rules
 
 pub overflow_add-self : goal.overflow_add-self
 overflow_add-self g c = search rules
-
-pub from-requires : goal.from-requires
-from-requires g c = search rules
-
-pub overflow_add-self-2 : goal.overflow_add-self-2
-overflow_add-self-2 g c = search rules
 
 pub unwrap-requires : goal.unwrap-requires
 unwrap-requires g c = search rules

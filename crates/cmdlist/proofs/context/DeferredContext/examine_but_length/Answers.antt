@@ -2,8 +2,8 @@ use Rattle.std.proofs.Common.{rules, w32, subst, sym}
 use Rattle.std.specs.Prelude.{FitsSigned, IfErr, Some, ◌≡◌}
 use Rattle.std.proofs.lemmas.Int.{to_z-of_z}
 use Rattle.gfxspec.specs.Refusals.{first_row, list_rows}
-use Rattle.cmdlist.specs.Calls.{call_value}
-use Rattle.cmdlist.proofs.Recording.{sound_settings, refused_draws}
+use Rattle.command.specs.Seen.{command_value}
+use Rattle.cmdlist.proofs.Recording.{answered, sound_settings, refused_draws}
 use Rattle.cmdlist.proofs.context.DeferredContext.examine_but_length.Goals as goal
 
 pub drawn_triangles-requires : goal.drawn_triangles-requires
@@ -17,11 +17,14 @@ returns-in-DrawIndexed-clause-err g c =
     let d = c.in-DrawIndexed in
     let fits : FitsSigned w32 d.base = search rules in
     let refused = simp to_z-of_z at c.drawn_indexed_triangles.ensures.refused in
-    subst (λ k. IfErr c.drawn_indexed_triangles.result (λ e. first_row (list_rows c.args.self.now (call_value k)) ≡ Some e)) (sym d.is)
-    (refused_draws c.self.inside c.args.self.now _ d.count d.start d.base c.drawn_indexed_triangles.result c.self.invariant c.self.view_is c.state-in-DrawIndexed.ensures refused)
+    answered (list_rows c.args.self.now (command_value c.args.command.now)) c.drawn_indexed_triangles.result
+    (subst (λ k. IfErr c.drawn_indexed_triangles.result (λ e. first_row (list_rows c.args.self.now (command_value k)) ≡ Some e)) (sym d.is)
+    (refused_draws c.self.inside c.args.self.now _ d.count d.start d.base c.drawn_indexed_triangles.result c.self.invariant c.self.view_is c.state-in-DrawIndexed.ensures refused))
 
-pub are_in_range-requires : goal.are_in_range-requires
-are_in_range-requires g c = search rules
+pub returns-in-Draw-clause-err : goal.returns-in-Draw-clause-err
+returns-in-Draw-clause-err g c =
+    let refused : IfErr c.drawn_triangles.result (λ e. first_row (list_rows c.args.self.now (command_value c.args.command.now)) ≡ Some e) = search rules in
+    answered (list_rows c.args.self.now (command_value c.args.command.now)) c.drawn_triangles.result refused
 
 pub is_scissor_bad-requires : goal.is_scissor_bad-requires
 is_scissor_bad-requires g c = search rules
@@ -41,24 +44,6 @@ has_all_issues-requires g c κs = search rules
 pub is_open-requires-in-End-1 : goal.is_open-requires-in-End-1
 is_open-requires-in-End-1 g c κs = search rules
 
-pub returns-in-SetVertices-clause-ok : goal.returns-in-SetVertices-clause-ok
-returns-in-SetVertices-clause-ok g c = search rules
-
-pub returns-in-SetVertices-clause-err : goal.returns-in-SetVertices-clause-err
-returns-in-SetVertices-clause-err g c = search rules
-
-pub returns-in-SetVertices-2-clause-ok : goal.returns-in-SetVertices-2-clause-ok
-returns-in-SetVertices-2-clause-ok g c = search rules
-
-pub returns-in-SetVertices-2-clause-err : goal.returns-in-SetVertices-2-clause-err
-returns-in-SetVertices-2-clause-err g c = search rules
-
-pub returns-in-SetIndices-clause-ok : goal.returns-in-SetIndices-clause-ok
-returns-in-SetIndices-clause-ok g c = search rules
-
-pub returns-in-SetIndices-clause-err : goal.returns-in-SetIndices-clause-err
-returns-in-SetIndices-clause-err g c = search rules
-
 pub returns-in-SetScissor-clause-ok : goal.returns-in-SetScissor-clause-ok
 returns-in-SetScissor-clause-ok g c = search rules
 
@@ -67,9 +52,6 @@ returns-in-SetScissor-clause-err g c = search rules
 
 pub returns-in-Draw-clause-ok : goal.returns-in-Draw-clause-ok
 returns-in-Draw-clause-ok g c = search rules
-
-pub returns-in-Draw-clause-err : goal.returns-in-Draw-clause-err
-returns-in-Draw-clause-err g c = search rules
 
 pub returns-in-DrawIndexed-clause-ok : goal.returns-in-DrawIndexed-clause-ok
 returns-in-DrawIndexed-clause-ok g c = search rules
@@ -145,9 +127,3 @@ returns-in_default-6-clause-ok g c = search rules
 
 pub returns-in_default-6-clause-err : goal.returns-in_default-6-clause-err
 returns-in_default-6-clause-err g c = search rules
-
-pub returns-in_default-7-clause-ok : goal.returns-in_default-7-clause-ok
-returns-in_default-7-clause-ok g c = search rules
-
-pub returns-in_default-7-clause-err : goal.returns-in_default-7-clause-err
-returns-in_default-7-clause-err g c = search rules

@@ -2,7 +2,7 @@ use Rattle.std.proofs.Common.{rules, ap, ◌∙◌}
 use Rattle.std.specs.List.{list_any}
 use Rattle.gfxspec.specs.Predication.{result_of}
 use Rattle.meaning.specs.Contexts.{result_at}
-use Rattle.cmdlist.specs.Seen.{command_value}
+use Rattle.command.specs.Seen.{command_value}
 use Rattle.immediate.specs.Held.{Held, stored}
 use Rattle.immediate.specs.Issues.{begins}
 use Rattle.immediate.proofs.Issued.{any_map, issued_else}

@@ -1,10 +1,8 @@
 use Rattle.std.proofs.Common.{subst}
-use Rattle.std.specs.Prelude.{map}
-use Rattle.cmdlist.specs.Seen.{command_value}
 use Rattle.immediate.specs.Held.{Held, Executed, held_behind}
 use Rattle.immediate.proofs.context.ImmediateContext.wait.Goals as goal
 
 pub returns-clause-waits : goal.returns-clause-waits
 returns-clause-waits g c waits =
     let output = c.self.inside.output in
-    subst (λ (h : Held). Executed (map command_value c.args.list.now) c.args.restore h (held_behind output c.wait.new.waiting c.wait.new.pending)) c.self.view_is (c.wait.ensures.waits waits output)
+    subst (λ (h : Held). Executed c.args.list.now c.args.restore h (held_behind output c.wait.new.waiting c.wait.new.pending)) c.self.view_is (c.wait.ensures.waits waits output)

@@ -1,5 +1,5 @@
 use Rattle.std.proofs.Common.{rules, sym, ◌∙◌}
-use Rattle.cmdlist.specs.Seen.{command_value}
+use Rattle.command.specs.Seen.{command_value}
 use Rattle.immediate.proofs.Idle.{idle_commands}
 use Rattle.immediate.proofs.output.Output.bins_for.Goals as goal
 

@@ -4,7 +4,7 @@ use Rattle.gfxspec.specs.declared.error.GfxError.TheVariants.{OutOfMemory}
 use Rattle.gfxspec.specs.declared.geometry.Size.{Size}
 use Rattle.gfxspec.specs.Tiles.{tile_count}
 use Rattle.binmem.specs.Lists.{no_words}
-use Rattle.cmdlist.specs.Seen.{command_value}
+use Rattle.command.specs.Seen.{command_value}
 use Rattle.immediate.specs.Outputs.{Outputs, performed_over}
 use Rattle.immediate.proofs.Telling.{performed_told}
 use Rattle.immediate.proofs.Runs.{compiled_by}

@@ -3,7 +3,7 @@ use Rattle.std.specs.Prelude.{Bool}
 use Rattle.gfxspec.specs.declared.geometry.Size.{Size}
 use Rattle.gfxspec.specs.Commands.{Command}
 use Rattle.binner.specs.Compiled.{Compilation}
-use Rattle.binner.specs.Compiling.{told}
+use Rattle.cmdlist.specs.Drawable.{told}
 use Rattle.binner.specs.Segments.{cut_items, AreCompiled}
 use Rattle.segmentrun.specs.Running.{running}
 use Rattle.tileprog.proofs.Several.{can_run_behind}

@@ -1,5 +1,5 @@
 use Rattle.std.proofs.Common.{subst, ◌∙◌, map}
-use Rattle.cmdlist.specs.Seen.{command_value}
+use Rattle.command.specs.Seen.{command_value}
 use Rattle.binner.specs.Compiled.{IsCompilation}
 use Rattle.immediate.specs.Outputs.{IsRunBy, IsCompiled}
 use Rattle.immediate.proofs.Runs.{kept_output, kept_same, kept_memory, kept_run, bins_behind}

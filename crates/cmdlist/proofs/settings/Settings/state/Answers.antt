@@ -1,5 +1,0 @@
-use Rattle.std.proofs.Common.{rules}
-use Rattle.cmdlist.proofs.settings.Settings.state.Goals as goal
-
-pub returns : goal.returns
-returns g c = search rules

@@ -1,0 +1,5 @@
+use Rattle.std.proofs.Common.{rules}
+use Rattle.command.proofs.settings.Settings.share.Goals as goal
+
+pub returns : goal.returns
+returns g c = search rules
