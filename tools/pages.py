@@ -16,7 +16,10 @@ from collections.abc import Iterator
 from fnmatch import fnmatch
 from pathlib import Path
 
-TOP = Path(__file__).resolve().parent.parent
+import package_path
+from yuzuratchet.ending import ended
+
+TOP = package_path.TOP
 PATTERNS = (
     "*.md",
     "docs/**/*.md",
@@ -138,4 +141,4 @@ def main() -> int:
 
 
 if __name__ == "__main__":
-    sys.exit(main())
+    sys.exit(ended(main))

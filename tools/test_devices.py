@@ -37,6 +37,7 @@ from first_picture import python_with_pillow
 from results import Results, check
 from yuzuratchet import YuzuratchetError
 from yuzuratchet.arguments import whole_number
+from yuzuratchet.ending import ended
 from yuzuratchet.program import find_program
 
 DEVICES = package_path.TOP / "devices"
@@ -276,4 +277,4 @@ def main() -> int:
 
 
 if __name__ == "__main__":
-    sys.exit(main())
+    sys.exit(ended(main))

@@ -21,9 +21,11 @@ from collections.abc import Iterator, Sequence
 from functools import cache
 from pathlib import Path
 
+import package_path
 from try_edits import Edit, sources
+from yuzuratchet.ending import ended
 
-TOP = Path(__file__).resolve().parent.parent
+TOP = package_path.TOP
 CRATES = TOP / "crates"
 PAGE = TOP / "docs" / "WRONG_BODIES.md"
 BEGIN, END = "<!-- tools/wrong_bodies.py writes from here -->", "<!-- to here -->"
@@ -142,4 +144,4 @@ def main() -> int:
 
 
 if __name__ == "__main__":
-    sys.exit(main())
+    sys.exit(ended(main))

@@ -7,6 +7,7 @@ import subprocess
 import sys
 from operator import attrgetter
 from pathlib import Path
+from typing import Any
 
 import make_examples
 import plain_device
@@ -48,6 +49,46 @@ def run_tool(name: str, *words: str, **environment: str) -> subprocess.Completed
 def test_help(tool: Path) -> None:
     ran = run_tool(str(tool), "--help")
     assert (ran.returncode, ran.stderr) == (0, "") and ran.stdout.startswith("usage: ")
+
+
+def run_unread(*words: str, **environment: str) -> tuple[int, str]:
+    """Runs a tool whose output nobody reads; gives its status, and what it said besides."""
+    reader, writer = os.pipe()
+    os.close(reader)
+    kept = {key: it for key, it in os.environ.items() if key != "PYTHONUNBUFFERED"}
+    kept["PYTHONPATH"] = str(TOP / "python" / "src")
+    how: dict[str, Any] = {"env": {**kept, **environment}, "cwd": TOP, "timeout": 100}
+    with open(writer, "wb") as pipe:
+        command = [sys.executable, "-B", *words]
+        ran = subprocess.run(command, stdout=pipe, stderr=subprocess.PIPE, check=False, **how)
+    return ran.returncode, ran.stderr.decode()
+
+
+@pytest.mark.parametrize("tool", TOOLS, ids=attrgetter("stem"))
+def test_a_closed_pipe_is_no_fault(tool: Path) -> None:
+    assert run_unread(str(tool), "--help") == (141, "")
+
+
+@pytest.mark.parametrize(
+    "words",
+    [
+        ("tools/trusted.py",),
+        ("tools/trusted.py", "--definitions"),
+        ("tools/wrong_bodies.py",),
+        ("tools/gallery_answers.py", "fan.txt"),
+        ("-m", "yuzuratchet", "--help"),
+        ("-m", "yuzuratchet", "check", "crates/gallery/data/fan.txt"),
+    ],
+    ids=" ".join,
+)
+def test_a_pipe_that_is_closed_before_the_end(words: tuple[str, ...]) -> None:
+    assert run_unread(*words) == (141, "")
+
+
+def test_a_closed_pipe_is_no_fault_of_a_file(tmp_path: Path) -> None:
+    words = "tools/install_library.py", str(tmp_path), "--uninstall"
+    assert run_tool(*words).stdout == "0 files taken away\n"
+    assert run_unread(*words, PYTHONUNBUFFERED="1") == (141, "")
 
 
 def test_each_file_is_a_tool_or_a_module() -> None:
