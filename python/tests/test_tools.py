@@ -3,6 +3,7 @@
 from __future__ import annotations
 
 import os
+import re
 import subprocess
 import sys
 from operator import attrgetter
@@ -129,6 +130,8 @@ def test_each_file_is_a_tool_or_a_module() -> None:
         ("tools/wrong_bodies.py", "--write", "--check"),
         ("bench/scenes.py", "nothing"),
         ("bench/scenes.py", "clear", "0"),
+        ("bench/suites.py", "--scripts", "3"),
+        ("bench/suites.py", "--program", "/no/such/program"),
         ("bench/run.py", "nothing"),
         ("bench/run.py", "clear", "--runs", "0"),
         ("bench/run.py", "clear", "--workers", "16"),
@@ -212,6 +215,13 @@ def test_whole_runs_are_compared() -> None:
     rows = [line.split(" | ") for line in ran.stdout.splitlines() if "smallest" in line]
     assert [row[3:5] for row in rows] == [["-", "-"]] * 2, ran.stderr
     assert rows[0][9].startswith("1.00 (1.00 to 1.00)")
+
+
+def test_suites_are_timed() -> None:
+    words = "--scripts", "4", "--runs", "1", "--program", "tools/plain_device.py"
+    ran = run_tool("bench/suites.py", *words)
+    rows = {line.split(" | ")[0]: line for line in ran.stdout.splitlines()[2:]}
+    assert len(rows) == 5 and re.search(r"\| \d+ \(", rows["| `yuzuratchet suite`"]), ran.stderr
 
 
 def test_scenes_are_scripts() -> None:
