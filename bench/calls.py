@@ -23,6 +23,7 @@ from collections.abc import Callable
 import scenes  # noqa: F401 (it puts the package on the path)
 from yuzuratchet import YuzuratchetError
 from yuzuratchet.arguments import whole_number
+from yuzuratchet.ending import ended
 from yuzuratchet.library import find_library, run_library
 from yuzuratchet.program import find_program, run_program
 
@@ -124,7 +125,4 @@ def main() -> None:
 
 
 if __name__ == "__main__":
-    try:
-        main()
-    except KeyboardInterrupt:
-        sys.exit(130)
+    sys.exit(ended(main))

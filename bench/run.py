@@ -37,6 +37,7 @@ from collections.abc import Iterator, Sequence
 import scenes
 from yuzuratchet import ProgramMissing
 from yuzuratchet.arguments import whole_number
+from yuzuratchet.ending import ended
 from yuzuratchet.limits import WORKERS
 from yuzuratchet.program import find_program
 
@@ -258,4 +259,4 @@ def main() -> None:
 
 
 if __name__ == "__main__":
-    main()
+    sys.exit(ended(main))

@@ -34,6 +34,7 @@ from yuzuratchet import (
     StencilFace,
 )
 from yuzuratchet.arguments import whole_number
+from yuzuratchet.ending import ended
 from yuzuratchet.limits import DEEPEST, FARTHEST_PIXEL, STRIP_CUT, TARGET_SIDE
 from yuzuratchet.recipes import mark_shadow_volumes
 from yuzuratchet.scene import Context
@@ -427,4 +428,4 @@ def main() -> None:
 
 
 if __name__ == "__main__":
-    main()
+    sys.exit(ended(main))

@@ -39,6 +39,11 @@ public:
         clear_tests(1, 0);
     }
 
+    OpenGLRenderer(const OpenGLRenderer&) = delete;
+    OpenGLRenderer& operator=(const OpenGLRenderer&) = delete;
+    // (llvmpipe frees an open query with its context, while its threads may still count for it)
+    ~OpenGLRenderer() override { glFinish(); }
+
     void draw(const State& state, const Command& command) override {
         const Condition condition(*this, state);
         set(state);

@@ -23,6 +23,7 @@ import package_path  # noqa: F401
 import toolchain
 from install_library import ALONE, CHOSEN, CRATES, DEVICE_CRATE, LIBRARY, SCRIPT_CRATE, calls, device_calls, texts
 from toolchain import NotBuilt, run
+from yuzuratchet.ending import ended
 
 # what the module exports beside the calls of the C library; its memory functions are its own
 OTHERS, WITHOUT = ("malloc", "free", "__heap_base"), "yuzuratchet_use_memory"
@@ -107,4 +108,4 @@ def main() -> None:
 
 
 if __name__ == "__main__":
-    main()
+    sys.exit(ended(main))

@@ -21,6 +21,7 @@ import plain_device
 import random_scenes
 from yuzuratchet import Scene, YuzuratchetError, run
 from yuzuratchet.arguments import whole_number
+from yuzuratchet.ending import ended
 from yuzuratchet.limits import WORKERS
 from yuzuratchet.words import WORDS
 
@@ -88,4 +89,4 @@ def main() -> None:
 
 
 if __name__ == "__main__":
-    main()
+    sys.exit(ended(main))

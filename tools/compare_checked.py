@@ -24,6 +24,7 @@ from mutated_scripts import Fault
 from yuzuratchet import YuzuratchetError
 from yuzuratchet.arguments import whole_number
 from yuzuratchet.check import Finding, check_script, report
+from yuzuratchet.ending import ended
 from yuzuratchet.program import find_program
 
 HEAD = re.compile(r"name:\d+:\d+: (fault|refusal) \d+: .+")
@@ -105,4 +106,4 @@ def main() -> None:
 
 
 if __name__ == "__main__":
-    main()
+    sys.exit(ended(main))

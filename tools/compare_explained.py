@@ -24,6 +24,7 @@ import random_scenes
 from plain_device import Triangle
 from yuzuratchet import Scene, YuzuratchetError
 from yuzuratchet.arguments import whole_number
+from yuzuratchet.ending import ended
 from yuzuratchet.errors import CallRefused
 from yuzuratchet.explain import explain
 from yuzuratchet.explanation import Explanation, Outcome
@@ -153,4 +154,4 @@ def main() -> None:
 
 
 if __name__ == "__main__":
-    main()
+    sys.exit(ended(main))

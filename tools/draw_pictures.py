@@ -17,6 +17,7 @@ from typing import TYPE_CHECKING
 import make_examples
 import package_path
 from yuzuratchet import YuzuratchetError, load_script, run
+from yuzuratchet.ending import ended
 
 if TYPE_CHECKING:
     from yuzuratchet.images import Pixels
@@ -101,4 +102,4 @@ def main() -> None:
 
 
 if __name__ == "__main__":
-    main()
+    sys.exit(ended(main))

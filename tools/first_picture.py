@@ -28,6 +28,7 @@ import checked_build
 import package_path
 import toolchain
 from yuzuratchet.check import located, report
+from yuzuratchet.ending import ended
 from yuzuratchet.errors import ProgramMissing
 from yuzuratchet.program import Ran, find_program
 
@@ -150,7 +151,4 @@ def main() -> int:
 
 
 if __name__ == "__main__":
-    try:
-        sys.exit(main())
-    except KeyboardInterrupt:
-        sys.exit(130)
+    sys.exit(ended(main))

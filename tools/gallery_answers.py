@@ -12,8 +12,10 @@ from __future__ import annotations
 import argparse
 import hashlib
 import pathlib
+import sys
 
 import plain_device
+from yuzuratchet.ending import ended
 
 DATA = pathlib.Path(__file__).resolve().parent.parent / "crates" / "gallery" / "data"
 
@@ -34,4 +36,4 @@ def main() -> None:
 
 
 if __name__ == "__main__":
-    main()
+    sys.exit(ended(main))

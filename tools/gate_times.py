@@ -19,6 +19,9 @@ import sys
 import time
 from typing import Any
 
+import package_path  # noqa: F401
+from yuzuratchet.ending import ended
+
 TICKS = os.sysconf("SC_CLK_TCK")
 # by a process and when it started: the crate that it checks, the kind of the check, the edit's number, and the
 # seconds
@@ -125,4 +128,4 @@ def main() -> int:
 
 
 if __name__ == "__main__":
-    sys.exit(main())
+    sys.exit(ended(main))

@@ -29,6 +29,7 @@ from typing import IO, Any, Union
 
 import package_path
 import plain_device
+from yuzuratchet.ending import ended
 from yuzuratchet.errors import ProgramMissing
 from yuzuratchet.program import find_program
 
@@ -445,4 +446,4 @@ def main() -> int:
 
 
 if __name__ == "__main__":
-    sys.exit(main())
+    sys.exit(ended(main))

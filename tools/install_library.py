@@ -39,6 +39,7 @@ from collections.abc import Mapping, Sequence
 import package_path
 from toolchain import NotBuilt, kit, run
 from yuzuratchet import __version__
+from yuzuratchet.ending import ended
 from yuzuratchet.library import STATUSES
 from yuzuratchet.messages import FAULTS, REFUSALS
 
@@ -269,4 +270,4 @@ def main() -> None:
 
 
 if __name__ == "__main__":
-    main()
+    sys.exit(ended(main))

@@ -32,6 +32,7 @@ from conformance_scripts import Case, Cases, Rule
 from plain_device import PlainSession
 from yuzuratchet import YuzuratchetError
 from yuzuratchet.arguments import whole_number
+from yuzuratchet.ending import ended
 from yuzuratchet.features import features_of
 from yuzuratchet.planes import Planes
 from yuzuratchet.program import find_program, run_program
@@ -184,4 +185,4 @@ def main() -> None:
 
 
 if __name__ == "__main__":
-    main()
+    sys.exit(ended(main))

@@ -12,6 +12,7 @@ import colorsys
 import math
 import pathlib
 import random
+import sys
 from collections.abc import Callable, Iterator, Sequence
 from functools import partial
 
@@ -30,6 +31,7 @@ from yuzuratchet import (
     StencilFace,
     StencilOp,
 )
+from yuzuratchet.ending import ended
 from yuzuratchet.limits import DEEPEST, TARGET_SIDE
 from yuzuratchet.recipes import light_outside_shadows, mark_shadow_volumes
 from yuzuratchet.scene import Context
@@ -826,4 +828,4 @@ def main() -> None:
 
 
 if __name__ == "__main__":
-    main()
+    sys.exit(ended(main))

@@ -18,6 +18,7 @@ import sys
 
 import package_path
 from yuzuratchet import page
+from yuzuratchet.ending import ended
 
 TOP = package_path.TOP
 MODULE = TOP / "web" / "out" / "yuzuratchet.wasm"
@@ -99,4 +100,4 @@ def main() -> None:
 
 
 if __name__ == "__main__":
-    main()
+    sys.exit(ended(main))

@@ -34,6 +34,7 @@ import package_path
 from release import contents, proof
 from release.proof import State
 from toolchain import NotBuilt, run
+from yuzuratchet.ending import ended
 
 DIST = package_path.TOP / "dist"
 Builder = tuple[str, int, dict[str, str]]
@@ -129,7 +130,4 @@ def main() -> int:
 
 
 if __name__ == "__main__":
-    try:
-        sys.exit(main())
-    except KeyboardInterrupt:
-        sys.exit(130)
+    sys.exit(ended(main))

@@ -20,6 +20,7 @@ from dataclasses import dataclass
 
 import package_path  # noqa: F401
 from yuzuratchet.assembly import triangles
+from yuzuratchet.ending import ended
 from yuzuratchet.errors import CallRefused, ScriptFault
 from yuzuratchet.limits import DEEPEST
 from yuzuratchet.line import Line
@@ -370,4 +371,4 @@ def main() -> int:
 
 
 if __name__ == "__main__":
-    sys.exit(main())
+    sys.exit(ended(main))

@@ -40,19 +40,21 @@ package_again() {
     fi
 }
 
-# what a release is built by, from Debian's packages where it is missing
-get_release_tools() (
+# get_for_release PACKAGE ..: what a release is built and tested by, from Debian's packages
+get_for_release() (
     name=release
     # shellcheck source=python/environment.sh
     . python/environment.sh
-    from_debian musl-tools python3-shtab python3-argparse-manpage python3-setuptools python3-wheel
+    from_debian "$@"
 )
 
 # the files of a release, of a build that says it isn't proved and takes minutes; that the gate passed is kept for the
 # release itself
 release() {
+    command -v qemu-x86_64 >/dev/null || get_for_release qemu-user || true
     for tool in musl-gcc shtab argparse-manpage dpkg-deb; do
-        command -v "$tool" >/dev/null || get_release_tools || true
+        command -v "$tool" >/dev/null ||
+            get_for_release musl-tools python3-shtab python3-argparse-manpage python3-setuptools python3-wheel || true
         command -v "$tool" >/dev/null || { echo "skipped release: the command $tool is missing" && return; }
     done
     tools/make_release.py --gate "$room/said" || true

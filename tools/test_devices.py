@@ -6,7 +6,8 @@
 It builds the adapters without a warning into a folder of its own (or FOLDER), and then
 
 - judges lavapipe (Vulkan) and llvmpipe (OpenGL) by the whole suite: what fails is what devices/known/ has for their
-  version, no more and no less;
+  version, no more and no less, but for what it has as failing sometimes;
+- judges llvmpipe without threads by the scripts of queries, of which none fails there;
 - plays a script of each rule under Vulkan's validation layers, which say nothing;
 - plays them under the address sanitizer, but for what drivers leak (devices/leaks.supp);
 - plants three bugs into copies of the Vulkan adapter, each of which is named by its rule, and by random scripts of at
@@ -36,6 +37,7 @@ from first_picture import python_with_pillow
 from results import Results, check
 from yuzuratchet import YuzuratchetError
 from yuzuratchet.arguments import whole_number
+from yuzuratchet.ending import ended
 from yuzuratchet.program import find_program
 
 DEVICES = package_path.TOP / "devices"
@@ -130,12 +132,13 @@ class DeviceTests:
             raise Missing(f"{name} plays on no llvmpipe (mesa-vulkan-drivers, libgl1-mesa-dri)")
         return f"{found[2]}-{found[1]}-bits"
 
-    def judge(self, adapter: object, *words: object) -> subprocess.CompletedProcess[str]:
+    def judge(self, adapter: object, *words: object, **environment: str) -> subprocess.CompletedProcess[str]:
         """Judges by the command."""
         assert self.python is not None
         command = [self.python, "-B", "-m", "yuzuratchet", "judge", adapter]
         options = ["--program", self.program, "--jobs", self.given.jobs, "--list", 0]
-        return run([*command, *words, *options], PYTHONPATH=str(package_path.TOP / "python" / "src"))
+        sources = str(package_path.TOP / "python" / "src")
+        return run([*command, *words, *options], PYTHONPATH=sources, **environment)
 
     def judged(self, name: str) -> str:
         """The whole suite, held against the failures that are known."""
@@ -144,6 +147,13 @@ class DeviceTests:
         if not known.is_file():
             raise Missing(f"no failures of Mesa {version} are listed (devices/known/)")
         ran = self.judge(self.adapter(name), "--known", known)
+        check(ran.returncode == 0, (ran.stdout + ran.stderr)[-2000:])
+        return ran.stdout.splitlines()[-1]
+
+    def without_threads(self) -> str:
+        """Counts are right where llvmpipe has no threads: what fails sometimes is theirs."""
+        self.version("opengl")
+        ran = self.judge(self.adapter("opengl"), "--only", "queries/*", LP_NUM_THREADS="0")
         check(ran.returncode == 0, (ran.stdout + ran.stderr)[-2000:])
         return ran.stdout.splitlines()[-1]
 
@@ -240,6 +250,7 @@ def run_all(tests: DeviceTests) -> Results:
     every: dict[str, Callable[[], str]] = {
         "lavapipe": partial(tests.judged, "vulkan"),
         "llvmpipe's OpenGL": partial(tests.judged, "opengl"),
+        "llvmpipe without threads": tests.without_threads,
         "validation layers": tests.validated,
         "address sanitizer": tests.sanitized,
         **{f"planted: {bug.name}": partial(tests.planted, bug) for bug in BUGS},
@@ -266,4 +277,4 @@ def main() -> int:
 
 
 if __name__ == "__main__":
-    sys.exit(main())
+    sys.exit(ended(main))

@@ -49,6 +49,7 @@ import toolchain
 from results import Results, check, told
 from yuzuratchet import __version__
 from yuzuratchet.arguments import whole_number
+from yuzuratchet.ending import ended
 from yuzuratchet.errors import ProgramMissing
 from yuzuratchet.library import STATUSES, VARIABLE
 from yuzuratchet.messages import FAULTS, REFUSALS
@@ -609,4 +610,4 @@ def main() -> int:
 
 
 if __name__ == "__main__":
-    sys.exit(main())
+    sys.exit(ended(main))

@@ -43,6 +43,7 @@ from results import Results, check
 from yuzuratchet import Scene, YuzuratchetError, load_script, page
 from yuzuratchet.backends import draw
 from yuzuratchet.check import located
+from yuzuratchet.ending import ended
 from yuzuratchet.explain import explain
 from yuzuratchet.labels import Labels
 
@@ -391,7 +392,4 @@ def main() -> int:
 
 
 if __name__ == "__main__":
-    try:
-        sys.exit(main())
-    except KeyboardInterrupt:
-        sys.exit(130)
+    sys.exit(ended(main))

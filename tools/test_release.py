@@ -43,6 +43,7 @@ from results import Results, check
 from test_page import QuietHandler, node_words
 from toolchain import NotBuilt, run
 from yuzuratchet import __version__
+from yuzuratchet.ending import ended
 
 GALLERY = package_path.TOP / "crates" / "gallery"
 EXAMPLE = package_path.TOP / "library" / "example.c"
@@ -455,7 +456,4 @@ def main() -> int:
 
 
 if __name__ == "__main__":
-    try:
-        sys.exit(main())
-    except KeyboardInterrupt:
-        sys.exit(130)
+    sys.exit(ended(main))

@@ -26,7 +26,10 @@ from dataclasses import dataclass, field
 from functools import cache
 from pathlib import Path
 
-TOP = Path(__file__).resolve().parent.parent
+import package_path
+from yuzuratchet.ending import ended
+
+TOP = package_path.TOP
 CRATES = TOP / "crates"
 PAGE = TOP / "docs" / "TRUSTED.md"
 
@@ -385,4 +388,4 @@ def main() -> int:
 
 
 if __name__ == "__main__":
-    sys.exit(main())
+    sys.exit(ended(main))

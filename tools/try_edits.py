@@ -39,6 +39,9 @@ from collections import Counter
 from collections.abc import Callable
 from typing import Optional
 
+import package_path  # noqa: F401
+from yuzuratchet.ending import ended
+
 Texts = dict[str, str]
 # a pattern of a function's name, and where its body begins and ends
 Body = tuple[str, int, int]
@@ -428,4 +431,4 @@ def main() -> int:
 
 
 if __name__ == "__main__":
-    sys.exit(main())
+    sys.exit(ended(main))

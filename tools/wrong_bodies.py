@@ -1,14 +1,15 @@
 #!/usr/bin/env python3
-"""Writes the tables of docs/WRONG_BODIES.md from the edits, and looks whether each edit can be applied.
+"""Writes the table of docs/WRONG_BODIES.md from the edits, and looks whether each edit can be applied.
 
-    tools/wrong_bodies.py [--write | --check]
+    tools/wrong_bodies.py [--write | --check | --crates]
 
 An edit is a file of crates/NAME/must-fail, which the gate tries, or of crates/NAME/edits, which tools/try_edits.py
 tries. It has lines `file:`, `old:` and `new:`, and may have one `what:`, which says what the wrong body is: those are
-the rows of the second table.
+the rows of the table.
 
-Without words the tables are printed. --write puts them into the page; --check fails where the page has others. In each
-case the status is 1 where an edit has another form, or its old text doesn't stand in its file just once.
+Without words the table is printed, and how many edits there are. --write puts that into the page; --check fails where
+the page has another; --crates prints how many edits each crate has. In each case the status is 1 where an edit has
+another form, or its old text doesn't stand in its file just once.
 """
 
 from __future__ import annotations
@@ -16,14 +17,15 @@ from __future__ import annotations
 import argparse
 import re
 import sys
-import textwrap
 from collections.abc import Iterator, Sequence
 from functools import cache
 from pathlib import Path
 
+import package_path
 from try_edits import Edit, sources
+from yuzuratchet.ending import ended
 
-TOP = Path(__file__).resolve().parent.parent
+TOP = package_path.TOP
 CRATES = TOP / "crates"
 PAGE = TOP / "docs" / "WRONG_BODIES.md"
 BEGIN, END = "<!-- tools/wrong_bodies.py writes from here -->", "<!-- to here -->"
@@ -84,13 +86,15 @@ def table(head: Sequence[str], rows: Sequence[Sequence[str]]) -> str:
     return "\n".join([lines[0], "|---" * len(head) + "|", *lines[1:]])
 
 
+def count(crate: str) -> tuple[int, int]:
+    """How many edits of a crate the gate tries, and how many stand beside it."""
+    return len(edits(crate, "must-fail")), len(edits(crate, "edits"))
+
+
 def counts() -> str:
-    """How many edits each crate has: those that the gate tries, and those beside it."""
-    rows = [(name, len(edits(name, "must-fail")), len(edits(name, "edits"))) for name in crates()]
-    gate, beside = sum(row[1] for row in rows), sum(row[2] for row in rows)
-    each = ", ".join(f"{row[0]} {row[1]} + {row[2]}" for row in rows if row[1] or row[2])
-    text = f"The gate tries {gate} edits, and {beside} stand beside it; of each crate so many and so many: {each}."
-    return textwrap.fill(text, 120, break_on_hyphens=False)
+    """How many edits there are in all."""
+    gate, beside = map(sum, zip(*map(count, crates())))
+    return f"The gate tries {gate} edits, and {beside} stand beside it."
 
 
 def named() -> str:
@@ -122,6 +126,7 @@ def main() -> int:
     do = parser.add_mutually_exclusive_group()
     do.add_argument("--write", action="store_true", help="put the tables into the page")
     do.add_argument("--check", action="store_true", help="fail where the page has other tables")
+    do.add_argument("--crates", action="store_true", help="print how many edits each crate has")
     given = parser.parse_args()
     found = 0
     for crate, _, path in all_edits():
@@ -131,6 +136,9 @@ def main() -> int:
     before, inner, behind = parts(PAGE.read_text(encoding="utf-8"))
     if given.write:
         PAGE.write_text(before + tables() + behind, encoding="utf-8")
+    elif given.crates:
+        rows = [(name, *map(str, count(name))) for name in crates()]
+        print(table(("Crate", "Tried by the gate", "Beside it"), rows))
     elif not given.check:
         print(tables())
     elif inner != tables():
@@ -142,4 +150,4 @@ def main() -> int:
 
 
 if __name__ == "__main__":
-    sys.exit(main())
+    sys.exit(ended(main))

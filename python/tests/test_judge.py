@@ -142,6 +142,20 @@ def test_known(tmp_path: Path, capsys: pytest.CaptureFixture[str]) -> None:
     assert "greater-equal.txt: doesn't fail, and is to leave" in told
 
 
+def test_known_to_fail_sometimes(tmp_path: Path, capsys: pytest.CaptureFixture[str]) -> None:
+    known = tmp_path / "known"
+    name = "depth-functions/greater-equal.txt"
+    known.write_text(f"sometimes {name}  # where it is busy\n", encoding="ascii")
+    words = "depth-functions/greater-[ef]*", "--known", str(known)
+    assert judge(tmp_path, "comparison", *words) == 0
+    assert f"{name}: fails, as it is known to do sometimes" in capsys.readouterr().out
+    assert judge(tmp_path, "none", *words) == 0
+    assert "sometimes" not in capsys.readouterr().out
+    known.write_text("sometimes depth-functions/greater-far.txt\n", encoding="ascii")
+    assert judge(tmp_path, "comparison", *words) == 1
+    assert f"{name}: fails, and isn't known to" in capsys.readouterr().out
+
+
 def test_words(tmp_path: Path, capsys: pytest.CaptureFixture[str]) -> None:
     assert main(["judge", "no-such-adapter"]) == 2
     assert main(["judge", adapter(tmp_path, "none"), str(tmp_path / "none-there")]) == 2

@@ -3,10 +3,12 @@
 from __future__ import annotations
 
 import os
+import re
 import subprocess
 import sys
 from operator import attrgetter
 from pathlib import Path
+from typing import Any
 
 import make_examples
 import plain_device
@@ -50,6 +52,46 @@ def test_help(tool: Path) -> None:
     assert (ran.returncode, ran.stderr) == (0, "") and ran.stdout.startswith("usage: ")
 
 
+def run_unread(*words: str, **environment: str) -> tuple[int, str]:
+    """Runs a tool whose output nobody reads; gives its status, and what it said besides."""
+    reader, writer = os.pipe()
+    os.close(reader)
+    kept = {key: it for key, it in os.environ.items() if key != "PYTHONUNBUFFERED"}
+    kept["PYTHONPATH"] = str(TOP / "python" / "src")
+    how: dict[str, Any] = {"env": {**kept, **environment}, "cwd": TOP, "timeout": 100}
+    with open(writer, "wb") as pipe:
+        command = [sys.executable, "-B", *words]
+        ran = subprocess.run(command, stdout=pipe, stderr=subprocess.PIPE, check=False, **how)
+    return ran.returncode, ran.stderr.decode()
+
+
+@pytest.mark.parametrize("tool", TOOLS, ids=attrgetter("stem"))
+def test_a_closed_pipe_is_no_fault(tool: Path) -> None:
+    assert run_unread(str(tool), "--help") == (141, "")
+
+
+@pytest.mark.parametrize(
+    "words",
+    [
+        ("tools/trusted.py",),
+        ("tools/trusted.py", "--definitions"),
+        ("tools/wrong_bodies.py",),
+        ("tools/gallery_answers.py", "fan.txt"),
+        ("-m", "yuzuratchet", "--help"),
+        ("-m", "yuzuratchet", "check", "crates/gallery/data/fan.txt"),
+    ],
+    ids=" ".join,
+)
+def test_a_pipe_that_is_closed_before_the_end(words: tuple[str, ...]) -> None:
+    assert run_unread(*words) == (141, "")
+
+
+def test_a_closed_pipe_is_no_fault_of_a_file(tmp_path: Path) -> None:
+    words = "tools/install_library.py", str(tmp_path), "--uninstall"
+    assert run_tool(*words).stdout == "0 files taken away\n"
+    assert run_unread(*words, PYTHONUNBUFFERED="1") == (141, "")
+
+
 def test_each_file_is_a_tool_or_a_module() -> None:
     others = {path.stem for path in (TOP / "tools").glob("*.py")} - {path.stem for path in TOOLS}
     assert others == MODULES
@@ -88,6 +130,8 @@ def test_each_file_is_a_tool_or_a_module() -> None:
         ("tools/wrong_bodies.py", "--write", "--check"),
         ("bench/scenes.py", "nothing"),
         ("bench/scenes.py", "clear", "0"),
+        ("bench/suites.py", "--scripts", "3"),
+        ("bench/suites.py", "--program", "/no/such/program"),
         ("bench/run.py", "nothing"),
         ("bench/run.py", "clear", "--runs", "0"),
         ("bench/run.py", "clear", "--workers", "16"),
@@ -171,6 +215,13 @@ def test_whole_runs_are_compared() -> None:
     rows = [line.split(" | ") for line in ran.stdout.splitlines() if "smallest" in line]
     assert [row[3:5] for row in rows] == [["-", "-"]] * 2, ran.stderr
     assert rows[0][9].startswith("1.00 (1.00 to 1.00)")
+
+
+def test_suites_are_timed() -> None:
+    words = "--scripts", "4", "--runs", "1", "--program", "tools/plain_device.py"
+    ran = run_tool("bench/suites.py", *words)
+    rows = {line.split(" | ")[0]: line for line in ran.stdout.splitlines()[2:]}
+    assert len(rows) == 5 and re.search(r"\| \d+ \(", rows["| `yuzuratchet suite`"]), ran.stderr
 
 
 def test_scenes_are_scripts() -> None:

@@ -48,10 +48,17 @@ def test_the_tables_are_written(edit: Path, monkeypatch: pytest.MonkeyPatch) -> 
     assert run(monkeypatch, "--check") == 0
     page = wrong_bodies.PAGE.read_text(encoding="utf-8")
     assert page.startswith("# Before\n") and page.endswith("\n\nBehind.\n")
-    assert "The gate tries 1 edits, and 0 stand beside it;" in page and "answer 1 + 0." in page
+    assert "The gate tries 1 edits, and 0 stand beside it." in page
     assert "| a number that is one more | answer `one-more` |" in page
     edit.unlink()
     assert run(monkeypatch, "--check") == 1
+
+
+def test_the_edits_of_each_crate_are_counted(
+    edit: Path, monkeypatch: pytest.MonkeyPatch, capsys: pytest.CaptureFixture[str]
+) -> None:
+    assert run(monkeypatch, "--crates") == 0
+    assert "| answer | 1 | 0 |" in capsys.readouterr().out
 
 
 @pytest.mark.parametrize(

@@ -3,15 +3,16 @@
 from __future__ import annotations
 
 import argparse
-import os
 import sys
 import warnings
+from functools import partial
 from typing import Sequence
 
 from . import __version__, interrupts
 from .backends import NoLibraryWarning
 from .commands import check, diff, explain, images, judge, proof, suite, view
 from .commands.common import DIFFERENT, TROUBLE, Refused
+from .ending import ended
 from .errors import YuzuratchetError
 
 
@@ -21,7 +22,8 @@ def parser() -> argparse.ArgumentParser:
         prog="yuzuratchet",
         description="Looks at scripts of the graphics device Yuzuratchet, and at what it draws.",
         epilog="Exit status: 0 where all is well, 1 where a script is refused, images differ or a "
-        "suite doesn't agree, 2 where something is missing, 130 or 143 where a signal cut it short.",
+        "suite doesn't agree, 2 where something is missing, 130 or 143 where a signal cut it short, "
+        "141 where nobody reads on.",
     )
     top.add_argument("--version", action="version", version=f"yuzuratchet {__version__}")
     commands = top.add_subparsers(dest="command", required=True, metavar="COMMAND")
@@ -32,18 +34,18 @@ def parser() -> argparse.ArgumentParser:
 
 def main(words: Sequence[str] | None = None) -> int:
     """The command; gives its exit status."""
+    return ended(partial(_run, words))
+
+
+def _run(words: Sequence[str] | None) -> int:
     given = parser().parse_args(words)
     try:
         with interrupts.raised(), warnings.catch_warnings():
             warnings.simplefilter("ignore", NoLibraryWarning)
             status: int = given.run(given)
-            sys.stdout.flush()
             return status
-    except KeyboardInterrupt as interrupt:
-        return interrupts.status_of(interrupt)
     except BrokenPipeError:
-        # the reader of the output has had enough: nothing more is written, not even at the end
-        os.dup2(os.open(os.devnull, os.O_WRONLY), sys.stdout.fileno())
+        raise
     except OSError as error:
         where = f"{error.filename}: " if error.filename else ""
         print(f"yuzuratchet: {where}{error.strerror or error}", file=sys.stderr)

@@ -17,6 +17,8 @@ from .images import Pixels
 from .judging import Judgement, Kind, Verdict
 from .report import Pictures, case_element, page, section_of
 
+SOMETIMES = "sometimes "
+
 HEADS = ("rule", "passed", "failed", "not supported", "what differs")
 
 
@@ -45,17 +47,23 @@ class Judged:
 
 @dataclass(frozen=True)
 class Known:
-    """Names of scripts that are known to fail: one that fails beside them, or passes, is news."""
+    """Names of scripts that are known to fail: one that fails beside them, or passes, is news.
+
+    Those of ``sometimes`` may do either.
+    """
 
     names: frozenset[str]
     path: Path
+    sometimes: frozenset[str] = frozenset()
 
     @classmethod
     def read(cls, path: Path) -> Known:
-        """The list of a file: a name in each line, and `#` before remarks."""
+        """The list of a file: a name in each line, or `sometimes` and a name, and `#` before remarks."""
         lines = path.read_text(encoding="utf-8").splitlines()
-        names = (line.partition("#")[0].strip() for line in lines)
-        return cls(frozenset(name for name in names if name), path)
+        names = {name for name in (line.partition("#")[0].strip() for line in lines) if name}
+        marked = {name for name in names if name.startswith(SOMETIMES)}
+        sometimes = frozenset(name[len(SOMETIMES) :].strip() for name in marked)
+        return cls(frozenset(names - marked), path, sometimes)
 
 
 @dataclass(frozen=True)
@@ -138,9 +146,16 @@ class Verdicts:
         if self.known is None:
             return sorted(failed)
         passed = {it.script.name for it in self.judged} - failed
-        new = [f"{name}: fails, and isn't known to" for name in sorted(failed - self.known.names)]
+        listed = self.known.names | self.known.sometimes
+        new = [f"{name}: fails, and isn't known to" for name in sorted(failed - listed)]
         gone = sorted(passed & self.known.names)
         return new + [f"{name}: doesn't fail, and is to leave {self.known.path}" for name in gone]
+
+    @property
+    def failed_sometimes(self) -> list[str]:
+        """What failed of the scripts that are known to fail sometimes."""
+        sometimes = self.known.sometimes if self.known else frozenset()
+        return sorted(sometimes.intersection(it.script.name for it in self.of(Verdict.FAILED)))
 
     @property
     def summary(self) -> str:

@@ -69,7 +69,8 @@ def add_files(found: argparse.ArgumentParser) -> None:
     ):
         found.add_argument(f"--{name}", metavar="FILE", type=Path, help=what)
     known = (
-        "a list of scripts that fail: the status is 1 where another fails, or one of them doesn't"
+        "a list of scripts that fail: the status is 1 where another fails, or one of them doesn't; "
+        "'sometimes NAME' is one that may do either"
     )
     found.add_argument("--known", metavar="FILE", type=Path, help=known)
 
@@ -158,6 +159,8 @@ def tell(given: argparse.Namespace, verdicts: Verdicts, depth_units: int) -> int
     if first:
         print(f"rules lean on those above them: look at {first.folder} first ({first.chapter})")
     if given.known:
+        for name in verdicts.failed_sometimes:
+            print(f"{name}: fails, as it is known to do sometimes")
         print("\n".join(verdicts.news) or "each failure is known")
     text = json.dumps(as_json(verdicts, depth_units), indent=1)
     wanted = (
