@@ -152,7 +152,8 @@ class _Object:
             if not self.close.alive:
                 raise ProgramFailed(f"the {self.kind} is closed")
             result = getattr(self.calls, f"yz_{self.kind}_{name}")(self.at, *arguments)
-        _look_at(result, name)
+        if result:
+            _look_at(result, name)
 
 
 def _look_at(result: int, name: str) -> None:
@@ -198,11 +199,11 @@ class LiveContext(Context):
     def _set_vertices(self, rows: npt.NDArray[np.int64]) -> None:
         packed = np.empty(len(rows), dtype=VERTEX)
         packed["place"], packed["depth"], packed["colour"] = rows[:, :2], rows[:, 2], rows[:, 3:]
-        self._held.call("set_vertices", packed.ctypes.data, len(packed))
+        self._held.call("set_vertices", _address(packed), len(packed))
 
     def _set_indices(self, numbers: Row) -> None:
         packed = np.array(numbers, dtype=np.uint16)
-        self._held.call("set_indices", packed.ctypes.data, len(packed))
+        self._held.call("set_indices", _address(packed), len(packed))
 
     def _add(self, word: str, *arguments: int) -> None:
         if not _is_plain(word, arguments):
@@ -227,11 +228,28 @@ class LiveContext(Context):
 
 def _is_plain(word: str, values: tuple[int, ...]) -> bool:
     """Whether a script has these values behind the word, as is seen at once of most."""
-    ranges = WORDS[word].arguments
-    return len(values) == len(ranges) and all(
-        isinstance(value, int) and value is not False and value is not True and of.takes(value)
-        for value, of in zip(values, ranges)
-    )
+    ranges = _RANGES[word]
+    if len(values) != len(ranges):
+        return False
+    for value, (least, most) in zip(values, ranges):
+        if not isinstance(value, int) or value is False or value is True:
+            return False
+        if not least <= value <= most:
+            return False
+    return True
+
+
+# the ranges of each word's numbers; where 0 is left out, those above it
+_RANGES: Final = {
+    name: tuple((1 if it.but_zero else it.least, it.most) for it in word.arguments)
+    for name, word in WORDS.items()
+}
+
+
+def _address(array: npt.NDArray[Any]) -> int:
+    """Where an array's numbers stand (``array.ctypes.data`` makes an object for it)."""
+    address: int = array.__array_interface__["data"][0]
+    return address
 
 
 def _rows(numbers: Row) -> npt.NDArray[np.int64]:
@@ -331,6 +349,7 @@ class Device:
             return answer
 
         self._held = _Object(calls, "device", create)
+        self._whole = _Rect(0, 0, self.width, self.height)
         self.immediate = LiveImmediateContext(self._held, IMMEDIATE)
         self.deferred = tuple(
             LiveDeferredContext(_Object(calls, "context", calls.yz_context_create), actor)
@@ -357,9 +376,8 @@ class Device:
             self._held.close()
 
     def _read(self, plane: int, into: npt.NDArray[Any]) -> None:
-        rect = _Rect(0, 0, self.width, self.height)
-        stride = into.strides[0]
-        self._held.call("read", plane, byref(rect), into.ctypes.data, into.nbytes, stride)
+        area = byref(self._whole), _address(into), into.nbytes, into.strides[0]
+        self._held.call("read", plane, *area)
 
     @property
     def image(self) -> Pixels:

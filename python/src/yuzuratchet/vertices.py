@@ -5,6 +5,7 @@ Both ways give the same numbers; :mod:`yuzuratchet.units` has the rules.
 
 from __future__ import annotations
 
+from functools import lru_cache
 from operator import itemgetter
 from typing import TYPE_CHECKING, Any, Iterable, Sequence, Union, overload
 
@@ -118,9 +119,21 @@ def where_outside(place: int, numbers: Sequence[int]) -> str:
 
 def can_be_spelled(rows: Numbers) -> bool:
     """Whether a script can have these numbers."""
+    import numpy as np
+
+    # (each range has a power of two of numbers: counted from its least they have no bit above the others)
+    least, spans = _ranges()
+    bits = np.bitwise_or.reduce(rows - least, axis=0, initial=0).tolist()
+    return all(0 <= it <= span for it, span in zip(bits, spans))
+
+
+@lru_cache(maxsize=None)
+def _ranges() -> tuple[Numbers, list[int]]:
+    """The least of each number of a vertex, and by how much the greatest is above it."""
+    import numpy as np
+
     ranges = WORDS["vb"].arguments
-    least, most = rows.min(axis=0, initial=0), rows.max(axis=0, initial=0)
-    return all(it.least <= low and high <= it.most for it, low, high in zip(ranges, least, most))
+    return np.array([it.least for it in ranges]), [it.most - it.least for it in ranges]
 
 
 def _numbers_of(vertex: Vertex) -> tuple[int, ...]:
