@@ -16,8 +16,11 @@ cell_by rgba a b c d =
     record { first = slice_index rgba a; second = slice_index rgba b; third = slice_index rgba c; fourth = slice_index rgba d }
 
 -- red, green, blue, alpha, or blue, green, red, alpha
+abbrev pub cell_of : Bool → List ℕ → Cell
+cell_of bgra rgba = if bgra then cell_by rgba 2 1 0 3 else cell_by rgba 0 1 2 3
+
 abbrev pub color_cell : Bool → Pixel → Cell
-color_cell bgra p = if bgra then cell_by p.rgba 2 1 0 3 else cell_by p.rgba 0 1 2 3
+color_cell bgra p = cell_of bgra p.rgba
 
 abbrev pub no_cell : Cell
 no_cell = record { first = 0; second = 0; third = 0; fourth = 0 }

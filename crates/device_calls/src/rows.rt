@@ -1,14 +1,15 @@
 //! Rows of pixels, into the caller's memory.
 
 ghost use Rattle.std.specs.Prelude.{ℕ, ◌≡◌, ◌≢◌, ◌+◌, ◌<◌, ◌≤◌, [], true, false, is_none, length, slice_index, slice_index_or, OnOk, OnErr, IfSome};
+ghost use Rattle.std.specs.Int.{w32, to_le_bytes};
 ghost use Rattle.gfxspec.specs.Recorded.{queries_open};
 ghost use Rattle.tileblock.specs.Surface.{IsWhole, pixel_of};
 ghost use Rattle.immediate.specs.Held.{Runs, shown};
 ghost use Rattle.device_calls.specs.Answers.{answer_of, ByHandle};
-ghost use Rattle.device_calls.specs.Rows.{row_rows, color_cell, no_cell};
+ghost use Rattle.device_calls.specs.Rows.{row_rows, cell_of, color_cell, no_cell};
 
 use crate::answers::told;
-use gfxspec::{GfxError, Pixel};
+use gfxspec::GfxError;
 use handles::DeviceHandle;
 use immediate::ImmediateContext;
 use std::alloc::Global;
@@ -24,27 +25,21 @@ pub struct Cell {
     pub fourth: u8,
 }
 
-/// A pixel's colour as it lies in memory: red, green, blue, alpha, or blue, green, red, alpha.
-fn color_cell(pixel: &Pixel, bgra: bool) -> Cell
-    ensures { result ≡ color_cell bgra pixel.now }
+/// A colour as it lies in memory: red, green, blue, alpha, or blue, green, red, alpha.
+fn cell_of(color: u32, bgra: bool) -> Cell
+    ensures { result ≡ cell_of bgra (to_le_bytes w32 color) }
 {
-    if bgra {
-        return Cell {
-            first: pixel.rgba[2],
-            second: pixel.rgba[1],
-            third: pixel.rgba[0],
-            fourth: pixel.rgba[3],
-        };
-    }
+    let [red, green, blue, alpha] = color.to_le_bytes();
+    let (first, third) = if bgra { (blue, red) } else { (red, blue) };
     Cell {
-        first: pixel.rgba[0],
-        second: pixel.rgba[1],
-        third: pixel.rgba[2],
-        fourth: pixel.rgba[3],
+        first,
+        second: green,
+        third,
+        fourth: alpha,
     }
 }
 
-/// The colours of a part of a row.
+/// The colours of a part of a row, eight of which are read at once.
 fn store_colors(target: &Target<Global>, y: u32, left: u32, bgra: bool, row: &mut [Cell])
     requires whole { IsWhole target.now }
     requires y { y < target.now.size.height }
@@ -53,8 +48,13 @@ fn store_colors(target: &Target<Global>, y: u32, left: u32, bgra: bool, row: &mu
 {
     let width = target.size().width;
     prove!(left as usize + row.len() <= width as usize);
+    let mut colors = [0; 8];
     for k in 0..row.len() {
-        row[k] = color_cell(&target.pixel(left + k as u32, y), bgra);
+        let x = left + k as u32;
+        if k == 0 || x % 8 == 0 {
+            colors = target.colors(x, y);
+        }
+        row[k] = cell_of(colors[(x % 8) as usize], bgra);
     }
 }
 
@@ -123,8 +123,13 @@ fn store_depths(target: &Target<Global>, y: u32, left: u32, row: &mut [u32])
 {
     let width = target.size().width;
     prove!(left as usize + row.len() <= width as usize);
+    let mut depths = [0; 8];
     for k in 0..row.len() {
-        row[k] = target.pixel(left + k as u32, y).ds.depth;
+        let x = left + k as u32;
+        if k == 0 || x % 8 == 0 {
+            depths = target.depths(x, y);
+        }
+        row[k] = depths[(x % 8) as usize];
     }
 }
 
@@ -173,8 +178,13 @@ fn store_stencils(target: &Target<Global>, y: u32, left: u32, row: &mut [u8])
 {
     let width = target.size().width;
     prove!(left as usize + row.len() <= width as usize);
+    let mut stencils = [0; 8];
     for k in 0..row.len() {
-        row[k] = target.pixel(left + k as u32, y).ds.stencil;
+        let x = left + k as u32;
+        if k == 0 || x % 8 == 0 {
+            stencils = target.stencils(x, y);
+        }
+        row[k] = stencils[(x % 8) as usize];
     }
 }
 

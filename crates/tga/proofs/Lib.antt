@@ -1,3 +1,2 @@
 pub mod ImageLemmas
-mod SpanLemmas
 mod Vectors

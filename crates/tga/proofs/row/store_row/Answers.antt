@@ -4,7 +4,7 @@ use Rattle.gfxspec.specs.declared.geometry.Size.{Size}
 use Rattle.gfxspec.specs.declared.pixel.Pixel.{Pixel}
 use Rattle.gfxspec.specs.Tiles.{tiles_along}
 use Rattle.tga.specs.Image.{kept_color}
-use Rattle.tga.proofs.SpanLemmas.{span_pixel, along_is, cut_at}
+use Rattle.tileblock.proofs.Rows.{span_pixel, along_is, cut_at}
 use Rattle.tga.proofs.row.store_row.Goals as goal
 
 pub loop-at-preserved : goal.loop-at-preserved

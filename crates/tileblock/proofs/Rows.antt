@@ -1,5 +1,5 @@
 -- Where a span of a row stands among the tiles.
-use Rattle.std.proofs.Common.{◌≡◌, ◌∙◌, sym, ap, arith, ℕ, ◌+◌, ◌-◌, ◌*◌, ◌/◌, ◌%◌, ◌<◌, ◌≤◌, Some, min}
+use Rattle.std.proofs.Common.{◌≡◌, ◌∙◌, sym, ap, refl, arith, ℕ, ◌+◌, ◌-◌, ◌*◌, ◌/◌, ◌%◌, ◌<◌, ◌≤◌, Some, min}
 use Rattle.std.proofs.lemmas.Nat.{div-mul-add, mod-mul-add}
 use Rattle.gfxspec.specs.declared.geometry.PixelRect.{PixelRect}
 use Rattle.gfxspec.specs.Tiles.{tiles_along, tile_of}
@@ -34,3 +34,14 @@ along_is side = omega arith
 -- a pixel of a span, counted from its first
 pub cut_at : (at x : ℕ) → 8 * at ≤ x → x < 8 * (at + 1) → (x - 8 * at < 8) × (x ≡ 8 * at + (x - 8 * at))
 cut_at at x h k = (omega arith, omega arith)
+
+-- the j-th of the eight pixels of which one is at x, y
+pub place_pixel : (s : Surface) (x y j : ℕ) (b : Block) → IsSurface s → x < s.size.width → j < 8 → block_of s (tile_of s.size x y) ≡ Some b → pixel_of s (8 * (x / 8) + j) y ≡ pixel_at b (b.rect.left + 8 * (x % 32 / 8) + j) (b.rect.top + y % 32)
+place_pixel s x y j b is less h found =
+    let along = tiles_along s.size.width in
+    let place : x / 8 / 4 ≡ x / 32 = omega arith in
+    let column : x / 8 % 4 ≡ x % 32 / 8 = omega arith in
+    let inside : x / 8 / 4 < along = omega (arith, less) in
+    let here : block_of s (y / 32 * along + x / 8 / 4) ≡ Some b = ap (λ n. block_of s (y / 32 * along + n)) place ∙ found in
+    span_pixel s along (x / 8) j (8 * (x / 8) + j) y b is refl inside h refl here
+    ∙ ap (λ n. pixel_at b (b.rect.left + 8 * n + j) (b.rect.top + y % 32)) column
