@@ -1,5 +1,5 @@
 -- What the lines of each deferred context give on their own, whatever the others do (Microsoft Learn, "Immediate and Deferred Rendering": a deferred context records by itself).
-use Rattle.std.specs.Prelude.{ℕ, ◌≡◌, ◌<◌, ◌⊎◌, true, List, [], take, Option, Some, None, slice_index_or}
+use Rattle.std.specs.Prelude.{ℕ, ◌≡◌, ◌<◌, ◌⊎◌, true, List, take, Option, Some, None, slice_index_or}
 use Rattle.gfxspec.specs.declared.error.GfxError.{GfxError}
 use Rattle.gfxspec.specs.declared.error.GfxError.TheVariants.{OutOfMemory}
 use Rattle.gfxspec.specs.Commands.{Command}

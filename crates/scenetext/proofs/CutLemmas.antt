@@ -6,7 +6,7 @@ use Rattle.std.proofs.lemmas.Bool.{cases_lt, ltb-false, eqb-true}
 use Rattle.std.proofs.lemmas.Bool.Decides.{nat_tests}
 use Rattle.std.proofs.lemmas.List.{take-append-drop, take_more, append-nil, length-drop, take_all, drop_all}
 use Rattle.std.proofs.lemmas.List.Folds.{list_all-append}
-use Rattle.std.proofs.lemmas.List.Sums.{sum_by_push, count_by-le-length, prefix_len-le-length}
+use Rattle.std.proofs.lemmas.List.Sums.{sum_by_push, prefix_len-le-length}
 use Rattle.std.proofs.Math.Seq.{take-add}
 use Rattle.scenetext.specs.declared.text.FrontForm.{FrontForm}
 use Rattle.scenetext.specs.Text.{lines_of, words_of, is_printable, is_word}

@@ -1,4 +1,4 @@
-use Rattle.std.proofs.Common.{arith, ◌/◌, ◌-◌, ◌+◌, rules}
+use Rattle.std.proofs.Common.{arith, ◌/◌, ◌-◌, ◌+◌}
 use Rattle.scenetext.proofs.ReadLemmas.{handed_on, vertices_refuse}
 use Rattle.scenetext.proofs.verbs.set_vertices.Goals as goal
 use Rattle.std.proofs.lemmas.Grind.{common_steps}
