@@ -130,3 +130,68 @@ def test_contexts_on_threads() -> None:
     for context in device.deferred:
         device.immediate.execute(context.finish_command_list())
     assert not failed and device.immediate.pixel(0, 0).colour == (0, 0, 0, 0)
+
+
+@pytest.mark.parametrize("name", [it for it in gallery_names() if not it.startswith(SLOW)])
+def test_a_recording_is_the_script(name: str) -> None:
+    scene = load_script(DATA / name, strict=False)
+    if Result(run_library(scene.script().encode()), scene.script().encode()).refused:
+        with pytest.raises(CallRefused):
+            device = Device(scene.width, scene.height)
+            recorded = device.record()
+            device.replay(scene)
+            assert recorded.lines == scene.lines
+            device.immediate.flush()
+        return
+    device = Device(scene.width, scene.height)
+    recorded = device.record()
+    device.replay(scene)
+    assert recorded.script() == scene.script()
+    assert np.array_equal(run(recorded).image, device.image)
+
+
+def test_a_recording_leaves_out_what_is_refused() -> None:
+    device = Device(8, 8)
+    scene = device.record()
+    device.immediate.clear_color((1, 2, 3, 4))
+    with pytest.raises(CallRefused):
+        device.immediate.draw(3)
+    with pytest.raises(CallRefused):
+        device.immediate.end(5)
+    assert scene.script().splitlines() == ["target 8 8", "i clearc 1 2 3 4"]
+
+
+def test_a_recording_begins_before_all_calls() -> None:
+    device = Device(8, 8)
+    device.deferred[2].clear_color((1, 2, 3, 4))
+    with pytest.raises(ProgramFailed, match="before the first one"):
+        device.record()
+
+
+def test_a_list_of_another_device_is_not_recorded() -> None:
+    device, other = Device(8, 8), Device(8, 8)
+    scene = device.record()
+    other.deferred[0].clear_color((9, 9, 9, 9))
+    finished = other.deferred[0].finish_command_list()
+    with pytest.raises(ProgramFailed, match="aren't recorded"):
+        device.immediate.execute(finished)
+    assert not scene.lines and device.image[0, 0, 0] == 0
+
+
+def test_threads_record_one_scene() -> None:
+    device = Device(64, 64)
+    scene = device.record()
+
+    def record(at: int) -> None:
+        context = device.deferred[at]
+        for turn in range(20):
+            draw_triangles(context, rectangle(8 * at, turn, 8 * at + 6, turn + 5))
+            device.immediate.execute(context.finish_command_list())
+
+    threads = [threading.Thread(target=record, args=(at,)) for at in range(8)]
+    for thread in threads:
+        thread.start()
+    for thread in threads:
+        thread.join()
+    assert sum(line.word == "exec" for line in scene.lines) == 160
+    assert np.array_equal(run(scene).image, device.image)

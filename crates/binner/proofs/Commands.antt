@@ -3,7 +3,6 @@ use Rattle.std.proofs.Common.{◌≡◌, ◌∙◌, ap, sym, subst, refl, arith,
 use Rattle.gfxspec.specs.declared.pixel.DepthStencil.{DepthStencil}
 use Rattle.gfxspec.specs.State.{Settings}
 use Rattle.gfxspec.specs.Assembly.{Primitive}
-use Rattle.gfxspec.specs.Items.{Item}
 use Rattle.gfxspec.specs.Commands.{Command, ClearColor, ClearDepthStencil}
 use Rattle.gfxspec.specs.Recorded.{drawn_items, items_at}
 use Rattle.meaning.specs.OneMore.{triangles_of}
@@ -11,7 +10,7 @@ use Rattle.command.specs.declared.command.Command.{Command as Code}
 use Rattle.command.specs.declared.command.Command.TheVariants as code
 use Rattle.command.specs.Seen.{command_value}
 use Rattle.binner.specs.declared.compiling.Compiling.{Compiling}
-use Rattle.binner.specs.Meaning.{AreBits, entry_of}
+use Rattle.binner.specs.Meaning.{entry_of}
 use Rattle.binner.specs.Compiling.{HasCompiled, IsSound, IsEntry, IsCurrent, AddsColor, AddsDepth, Grows, DrawsTriangles, Draws}
 use Rattle.binner.proofs.Growing.{color_means, color_sound, depth_means, depth_sound}
 

@@ -20,10 +20,11 @@ import ctypes
 import threading
 import weakref
 from ctypes import POINTER, byref, c_int, c_int32, c_size_t, c_uint8, c_uint32, c_uint64, c_void_p
+from contextlib import contextmanager
 from functools import lru_cache
 from pathlib import Path
 from types import TracebackType
-from typing import Any, Callable, Final, Iterable
+from typing import Any, Callable, Final, Iterable, Iterator
 
 import numpy as np
 import numpy.typing as npt
@@ -35,7 +36,7 @@ from .line import Line, Row, whole_numbers
 from .messages import message_of
 from .planes import Planes
 from .results import PixelAnswer
-from .scene import Context, Scene
+from .scene import CommandList, Context, Scene
 from .vertices import Vertex, Vertices, can_be_spelled, vertex_line
 from .words import DEFERRED, IMMEDIATE, TARGET, WORDS
 
@@ -143,6 +144,7 @@ class _Object:
         made = c_void_p()
         _look_at(create(byref(made)), kind)
         self.calls, self.kind, self.at = calls, kind, made
+        self.is_used = False
         self.lock = threading.Lock()
         self.close = weakref.finalize(self, getattr(calls, f"yz_{kind}_destroy"), made)
 
@@ -151,6 +153,7 @@ class _Object:
         with self.lock:
             if not self.close.alive:
                 raise ProgramFailed(f"the {self.kind} is closed")
+            self.is_used = True
             result = getattr(self.calls, f"yz_{self.kind}_{name}")(self.at, *arguments)
         if result:
             _look_at(result, name)
@@ -172,11 +175,20 @@ _REFUSALS: Final = range(1, 32)
 class LiveList:
     """A list that a deferred context finished. It may be executed again, by any device."""
 
-    def __init__(self, held: _Object) -> None:
+    def __init__(self, held: _Object, recorded: CommandList | None = None) -> None:
         self._held = held
+        self._recorded = recorded
 
     def __repr__(self) -> str:
         return f"<LiveList at {self._held.at.value:#x}>"
+
+
+class _Recording:
+    """The scene of a device's accepted calls. Who makes one has the lock until it stands there."""
+
+    def __init__(self, scene: Scene) -> None:
+        self.scene = scene
+        self.lock = threading.RLock()
 
 
 class LiveContext(Context):
@@ -185,6 +197,17 @@ class LiveContext(Context):
     def __init__(self, held: _Object, actor: str) -> None:
         self.actor = actor
         self._held = held
+        self._recording: _Recording | None = None
+
+    @contextmanager
+    def _recorded(self, word: str, *arguments: int) -> Iterator[None]:
+        """Adds a line to the scene, if there is one, behind a call that was accepted."""
+        if self._recording is None:
+            yield
+            return
+        with self._recording.lock:
+            yield
+            self._recording.scene.add(self.actor, word, *arguments)
 
     def __repr__(self) -> str:
         return f"<{type(self).__name__} {self.actor}>"
@@ -199,11 +222,16 @@ class LiveContext(Context):
     def _set_vertices(self, rows: npt.NDArray[np.int64]) -> None:
         packed = np.empty(len(rows), dtype=VERTEX)
         packed["place"], packed["depth"], packed["colour"] = rows[:, :2], rows[:, 2], rows[:, 3:]
-        self._held.call("set_vertices", _address(packed), len(packed))
+        if self._recording is None:
+            self._held.call("set_vertices", _address(packed), len(packed))
+            return
+        with self._recorded("vb", *rows.ravel().tolist()):
+            self._held.call("set_vertices", _address(packed), len(packed))
 
     def _set_indices(self, numbers: Row) -> None:
         packed = np.array(numbers, dtype=np.uint16)
-        self._held.call("set_indices", _address(packed), len(packed))
+        with self._recorded("ib", *numbers):
+            self._held.call("set_indices", _address(packed), len(packed))
 
     def _add(self, word: str, *arguments: int) -> None:
         if not _is_plain(word, arguments):
@@ -219,7 +247,14 @@ class LiveContext(Context):
             self._set_vertices(_rows(n))
         elif word == "ib":
             self._set_indices(n)
-        elif word == "predicate" and not n:
+        elif self._recording is None:
+            self._make(word, n)
+        else:
+            with self._recorded(word, *n):
+                self._make(word, n)
+
+    def _make(self, word: str, n: Row) -> None:
+        if word == "predicate" and not n:
             self._held.call("clear_predication")
         else:
             name, of = _WORDS[word]
@@ -297,8 +332,14 @@ class LiveDeferredContext(LiveContext):
                 answer: int = calls.yz_context_finish(self._held.at, int(bool(restore)), out)
                 return answer
 
-        calls = self._held.calls
-        return LiveList(_Object(calls, "list", finish))
+        calls, recording = self._held.calls, self._recording
+        self._held.is_used = True
+        if recording is None:
+            return LiveList(_Object(calls, "list", finish))
+        with recording.lock:
+            finished = _Object(calls, "list", finish)
+            context = recording.scene.deferred[DEFERRED.index(self.actor)]
+            return LiveList(finished, context.finish_command_list(restore))
 
 
 class LiveImmediateContext(LiveContext):
@@ -306,27 +347,43 @@ class LiveImmediateContext(LiveContext):
 
     def flush(self) -> None:
         """Runs what is pending; it makes room for more commands, and changes nothing else."""
-        self._held.call("flush")
+        with self._recorded("flush"):
+            self._held.call("flush")
 
     def execute(self, command_list: LiveList, restore: bool = False) -> None:
         """Executes a list; with ``restore`` the context's state stays, else the default is set."""
         if not isinstance(command_list, LiveList):
             raise WrongType("command_list", f"a LiveList is wanted, and not {command_list!r}")
         held = command_list._held
-        with held.lock:
+        with held.lock, self._recorded_execution(command_list, restore):
             self._held.call("execute", held.at, int(bool(restore)))
+
+    @contextmanager
+    def _recorded_execution(self, command_list: LiveList, restore: bool) -> Iterator[None]:
+        if self._recording is None:
+            yield
+            return
+        recorded, scene = command_list._recorded, self._recording.scene
+        if recorded is None or recorded.scene is not scene:
+            raise ProgramFailed("the list was finished by a context whose calls aren't recorded")
+        with self._recording.lock:
+            yield
+            scene.immediate.execute(recorded, restore)
 
     def get_data(self, query: int) -> int:
         """How many pixels the last begin and end of a query counted."""
         count = c_uint64()
-        self._held.call("get_data", *Line(self.actor, "query", (query,)).arguments, byref(count))
+        (query,) = Line(self.actor, "query", (query,)).arguments
+        with self._recorded("query", query):
+            self._held.call("get_data", query, byref(count))
         return count.value
 
     def pixel(self, x: int, y: int) -> PixelAnswer:
         """What a pixel holds."""
         x, y = Line(self.actor, "pixel", (x, y)).arguments
         told = _Pixel()
-        self._held.call("pixel", x, y, byref(told))
+        with self._recorded("pixel", x, y):
+            self._held.call("pixel", x, y, byref(told))
         red, green, blue, alpha = told.colour
         return PixelAnswer(x, y, (red, green, blue, alpha), told.depth, told.stencil)
 
@@ -398,6 +455,20 @@ class Device:
     def save(self, path: str | Path, *, keep_alpha: bool = False, scale: float = 1) -> None:
         """Saves the image, as ``device.save("x.png")``; opaque unless alpha is kept."""
         save(self.image, path, keep_alpha=keep_alpha, scale=scale)
+
+    def record(self) -> Scene:
+        """Gives a scene to which each call that is accepted from now on is added.
+
+        A script of it draws what the device drew, so it is to be asked for before the first call.
+        Planes that are read are no lines. Threads make their calls in turns while a device records.
+        """
+        contexts: tuple[LiveContext, ...] = (self.immediate, *self.deferred)
+        if any(it._held.is_used for it in contexts):
+            raise ProgramFailed("a scene of all calls has to be asked for before the first one")
+        recording = _Recording(Scene(self.width, self.height, strict=False))
+        for context in contexts:
+            context._recording = recording
+        return recording.scene
 
     def replay(self, scene: Scene) -> list[int | PixelAnswer]:
         """Makes all calls of a scene, on this device as it is; gives the answers."""
