@@ -78,7 +78,6 @@ def test_a_closed_pipe_is_no_fault(tool: Path) -> None:
         ("tools/wrong_bodies.py",),
         ("tools/gallery_answers.py", "fan.txt"),
         ("-m", "yuzuratchet", "--help"),
-        ("-m", "yuzuratchet", "check", "crates/gallery/data/fan.txt"),
     ],
     ids=" ".join,
 )

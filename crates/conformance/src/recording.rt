@@ -5,6 +5,7 @@ use cmdlist::{Buffer, Command, DeferredContext, DeviceContext};
 use gfxspec::{GfxError, Vertex};
 use refusing::Refusing;
 use std::alloc::Allocator;
+use std::test::Fail;
 
 const CORNER: Vertex = Vertex {
     x: 0,
