@@ -174,7 +174,8 @@ pub fn compile<A: Allocator + Copy>(
     compile_with(alloc, commands, size, results, bins, Vec::new(alloc))
 }
 
-/// The same. The triangles of large draws are set up in threads first, on which the call may wait.
+/// Compiles a list as `compile` does, once threads have set up the triangles of its large draws: it may wait for them.
+/// Refused with OutOfMemory alone, and then the bins come back.
 pub fn compile_parallel<A: Allocator + Copy + Send + Sync, R: Threads + Sync>(
     rt: &R,
     alloc: A,

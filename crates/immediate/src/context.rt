@@ -562,8 +562,8 @@ impl<A: Allocator + Copy + Send + Sync> ImmediateContext<A> {
         executed(next, ran)
     }
 
-    /// `flush_alone` by a crew beside the caller. It may wait for a thread that has a tile in its hands. Refused with
-    /// QueryOpen, OutOfMemory.
+    /// Runs the pending commands; a crew's threads take tiles beside the caller, and the call may wait for a tile that one of
+    /// them has in its hands. Refused with QueryOpen, OutOfMemory.
     pub fn flush_by_crew<R: Threads + Wait + Sync, G: Gate>(
         &mut self,
         crew: &RunCrew<'_, '_, A, R, G>,
@@ -574,7 +574,7 @@ impl<A: Allocator + Copy + Send + Sync> ImmediateContext<A> {
         self.perform_by_crew(FLUSH, &Commands::none(), crew)
     }
 
-    /// `settle_alone` by a crew beside the caller.
+    /// Runs what waits, with a crew beside the caller. It changes no meaning. Refused with OutOfMemory alone.
     pub fn settle_by_crew<R: Threads + Wait + Sync, G: Gate>(
         &mut self,
         crew: &RunCrew<'_, '_, A, R, G>,
@@ -584,7 +584,8 @@ impl<A: Allocator + Copy + Send + Sync> ImmediateContext<A> {
         self.perform_by_crew(Task::Settle, &Commands::none(), crew)
     }
 
-    /// `enqueue_execution_alone` by a crew beside the caller.
+    /// Executes a list, which may wait with the pending commands; what has to run now runs with a crew beside the caller.
+    /// Refused with QueryOpen, OutOfMemory.
     pub fn enqueue_execution_by_crew<R: Threads + Wait + Sync, G: Gate>(
         &mut self,
         list: &CommandList<A>,

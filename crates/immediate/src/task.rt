@@ -7,6 +7,6 @@ pub enum Task {
     Settle,
     /// The pending commands, and then those of the list; nothing waits then.
     Execute { restore: bool },
-    /// The same, and they may wait.
+    /// The pending commands, and then those of the list: they may wait, and then run with what is executed next.
     Enqueue { restore: bool },
 }
