@@ -38,7 +38,7 @@ LONGEST = {"docs/ARCHITECTURE.md": 140}
 LONGEST_CELL = {"README.md": 100}
 # of these all words together, as `wc -w` counts them
 COUNTED = ("README.md", "docs/**/*.md", "bench/*.md", "python/README.md")
-MOST_WORDS = 28_500
+MOST_WORDS = 28_600
 
 LINK = re.compile(r"!?\[[^\]]*\]\(([^()\s]+)\)|(?:src|href)=\"([^\"]+)\"")
 # what a page names by a path: a file of one of the folders, in backticks or not
