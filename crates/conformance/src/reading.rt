@@ -188,16 +188,16 @@ fn faults_of_one_line(rt: HostRuntime) -> Result<(), Fail> {
     assert_faults(&rt, rt.alloc(), "target 1 1\n", LATER_LINES, 2)
 }
 
-// A growth is of the lines read so far, or of the buffer in a line.
+// A growth is of the lines read so far, or of the buffer in a line: its values, and what its owners share.
 #[test]
 fn each_growth_refused(rt: HostRuntime) {
-    for (n, line) in [(1, 2), (2, 2), (3, 3), (4, 6)] {
+    for (n, line) in [(1, 2), (2, 2), (3, 2), (4, 3), (5, 3), (6, 6)] {
         let alloc = Refusing::new(rt.alloc(), n);
         let refused = read(&alloc, FOUR_TILES.as_bytes()).err();
         assert!(rt; refused == Some((line, 1)), "growth {n}");
         assert!(rt; alloc.refused() && alloc.count() == n);
     }
-    let alloc = Refusing::new(rt.alloc(), 5);
+    let alloc = Refusing::new(rt.alloc(), 7);
     assert!(rt; read(&alloc, FOUR_TILES.as_bytes()).is_ok());
-    assert!(rt; alloc.count() == 4);
+    assert!(rt; alloc.count() == 6);
 }
