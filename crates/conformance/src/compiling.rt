@@ -3,10 +3,10 @@
 ghost use Rattle.std.specs.Prelude.{◌≡◌, ◌<◌, ◌≤◌, length, unsigned_abs, IfOk};
 ghost use Rattle.gfxspec.specs.Tiles.{tile_count};
 
-use crate::calls::{list_of, record_all};
+use crate::calls::{Call, list_of, record_all};
 use binmem::Bins;
 use binner::{Compiled, compile};
-use cmdlist::{Buffer, Command, CommandList, DeferredContext};
+use cmdlist::{CommandList, DeferredContext};
 use gfxspec::{DepthStencil, GfxError, Size, Topology, Vertex, tile_count};
 use refusing::Refusing;
 use std::alloc::{Allocator, Global};
@@ -68,17 +68,17 @@ pub(crate) fn four_tiles<A: Allocator + Copy>(alloc: A) -> Result<CommandList<A>
     list_of(
         alloc,
         &[
-            Command::SetVertices(Buffer::from_slice(alloc, &corners)?),
-            Command::SetIndices(Buffer::from_slice(alloc, &[1, 3, 2])?),
-            Command::SetTopology(Topology::TriangleList),
-            Command::Begin(2),
-            Command::Begin(0),
-            Command::Draw(3, 0),
-            Command::End(0),
-            Command::Begin(1),
-            Command::DrawIndexed(3, 0, 0),
-            Command::End(1),
-            Command::End(2),
+            Call::SetVertices(&corners),
+            Call::SetIndices(&[1, 3, 2]),
+            Call::SetTopology(Topology::TriangleList),
+            Call::Begin(2),
+            Call::Begin(0),
+            Call::Draw(3, 0),
+            Call::End(0),
+            Call::Begin(1),
+            Call::DrawIndexed(3, 0, 0),
+            Call::End(1),
+            Call::End(2),
         ],
     )
 }
@@ -106,7 +106,7 @@ fn pixels_of_rectangles_and_tiles(rt: HostRuntime) -> Result<(), Fail> {
     let halves = compiled_for(rt.alloc(), &four_tiles(rt.alloc())?, 33)?;
     assert!(rt; halves.pixels_reached(10_000) == 2 * 33 * 33);
     assert!(rt; halves.pixels_reached(1_500) == 1_500);
-    let clear = list_of(rt.alloc(), &[Command::ClearColor([1; 4])])?;
+    let clear = list_of(rt.alloc(), &[Call::ClearColor([1; 4])])?;
     let cleared = compiled_for(rt.alloc(), &clear, 33)?;
     assert!(rt; cleared.pixels_reached(10_000) == 4 * 32 * 32);
     Ok(())
@@ -119,8 +119,8 @@ fn half(alloc: Global) -> Result<DeferredContext<Global>, GfxError> {
     record_all(
         &mut context,
         &[
-            Command::SetVertices(Buffer::from_slice(alloc, &corners)?),
-            Command::SetTopology(Topology::TriangleList),
+            Call::SetVertices(&corners),
+            Call::SetTopology(Topology::TriangleList),
         ],
     )?;
     Ok(context)
@@ -131,7 +131,7 @@ fn assert_words(
     rt: &impl Abort,
     alloc: Global,
     context: &mut DeferredContext<Global>,
-    calls: &[Command<Global>],
+    calls: &[Call<'_>],
     numbers: &[u32],
 ) -> Result<(), Fail> {
     record_all(context, calls)?;
@@ -141,38 +141,23 @@ fn assert_words(
     Ok(())
 }
 
-/// A draw of three vertices.
-fn draw<A: Allocator>() -> Command<A> {
-    Command::Draw(3, 0)
-}
+const DRAW: Call<'static> = Call::Draw(3, 0);
 
-/// A clear of the colour.
-fn color<A: Allocator>() -> Command<A> {
-    Command::ClearColor([1, 2, 3, 4])
-}
+const COLOR: Call<'static> = Call::ClearColor([1, 2, 3, 4]);
 
-/// A clear of depth and stencil.
-fn depth<A: Allocator>() -> Command<A> {
-    Command::ClearDepthStencil(5, 6)
-}
+const DEPTH: Call<'static> = Call::ClearDepthStencil(5, 6);
 
 #[test]
 fn both_clears_hide_an_uncounted_draw(rt: HostRuntime) -> Result<(), Fail> {
     let mut context = half(rt.alloc())?;
     let words = [0x8000_0000, 0xC000_0000];
-    assert_words(
-        &rt,
-        rt.alloc(),
-        &mut context,
-        &[draw(), color(), depth()],
-        &words,
-    )
+    assert_words(&rt, rt.alloc(), &mut context, &[DRAW, COLOR, DEPTH], &words)
 }
 
 #[test]
 fn both_clears_keep_a_counted_draw(rt: HostRuntime) -> Result<(), Fail> {
     let mut context = half(rt.alloc())?;
-    let calls = [Command::Begin(0), draw(), Command::End(0), depth(), color()];
+    let calls = [Call::Begin(0), DRAW, Call::End(0), DEPTH, COLOR];
     let words = [0, 0x4001_0000, 0xC000_0000, 0x8000_0000];
     assert_words(&rt, rt.alloc(), &mut context, &calls, &words)
 }
@@ -184,15 +169,9 @@ fn a_state_stands_again_behind_both_clears(rt: HostRuntime) -> Result<(), Fail> 
     let mut context = half(rt.alloc())?;
     for _ in 0..2u32 {
         let words = [0, 0x4001_0000, 0x8000_0000, 0x4001_0001];
-        assert_words(
-            &rt,
-            rt.alloc(),
-            &mut context,
-            &[draw(), color(), draw()],
-            &words,
-        )?;
+        assert_words(&rt, rt.alloc(), &mut context, &[DRAW, COLOR, DRAW], &words)?;
     }
-    let calls = [draw(), depth(), color(), draw()];
+    let calls = [DRAW, DEPTH, COLOR, DRAW];
     let words = [0xC000_0000, 0x8000_0000, 0, 0x4001_0001];
     assert_words(&rt, rt.alloc(), &mut context, &calls, &words)
 }

@@ -7,12 +7,12 @@ mod next;
 mod threads;
 mod waiting;
 
-use crate::calls::list_of;
-use cmdlist::{Command, CommandList};
+use crate::calls::{Call, list_of};
+use cmdlist::CommandList;
 use gfxspec::GfxError;
 use std::alloc::Global;
 
 /// A list that clears the colours.
 fn clearing(alloc: Global) -> Result<CommandList<Global>, GfxError> {
-    list_of(alloc, &[Command::ClearColor([1, 2, 3, 4])])
+    list_of(alloc, &[Call::ClearColor([1, 2, 3, 4])])
 }

@@ -1,9 +1,9 @@
 //! A crew of threads: its threads meet at a run, over many runs it answers as the caller alone, and the caller draws what no
 //! thread and no memory is there for.
 
-use crate::calls::{list_of, record_all};
+use crate::calls::{Call, list_of, record_all};
 use crate::meeting::{AllAtOnce, Meeting};
-use cmdlist::{Buffer, Command, CommandList};
+use cmdlist::CommandList;
 use gfxspec::{GfxError, Topology, Vertex};
 use immediate::{ImmediateContext, RunCrew};
 use refusing::Refusing;
@@ -42,12 +42,12 @@ fn clearing<A: Allocator + Copy>(alloc: A, shade: u8) -> Result<CommandList<A>, 
     list_of(
         alloc,
         &[
-            Command::ClearColor([shade; 4]),
-            Command::SetVertices(Buffer::from_slice(alloc, &corners)?),
-            Command::SetTopology(Topology::TriangleList),
-            Command::Begin(0),
-            Command::Draw(48, 0),
-            Command::End(0),
+            Call::ClearColor([shade; 4]),
+            Call::SetVertices(&corners),
+            Call::SetTopology(Topology::TriangleList),
+            Call::Begin(0),
+            Call::Draw(48, 0),
+            Call::End(0),
         ],
     )
 }
@@ -174,7 +174,7 @@ fn clear_often<R: Threads + Wait + Sync, G: Gate + Sync>(
 ) -> Result<(), GfxError> {
     let mut answer = Ok(());
     for shade in first..100u8 {
-        answer = answer.and(record_all(context, &[Command::ClearColor([shade; 4])]));
+        answer = answer.and(record_all(context, &[Call::ClearColor([shade; 4])]));
         answer = answer.and(context.flush_by_crew(crew));
     }
     answer
@@ -251,8 +251,8 @@ fn clear_few_and_many<R: Threads + Wait + Sync>(
 ) -> Result<(), GfxError> {
     let mut few = ImmediateContext::new(alloc, 64, 32)?;
     let mut many = ImmediateContext::new(alloc, 288, 288)?;
-    record_all(&mut few, &[Command::ClearColor([1; 4])])?;
-    record_all(&mut many, &[Command::ClearColor([2; 4])])?;
+    record_all(&mut few, &[Call::ClearColor([1; 4])])?;
+    record_all(&mut many, &[Call::ClearColor([2; 4])])?;
     thread::scope(thread::scope_env(), crew.rt, |scope| {
         start_crews(crew.rt, scope, &crew.compiling, &crew.drawing, crew.gate);
         let cleared = few.flush_by_crew(crew);

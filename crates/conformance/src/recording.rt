@@ -1,7 +1,7 @@
 //! Refused growths of a deferred context. What its calls do is proved; worked lists and limits run from bytes to bytes.
 
-use crate::calls::record_all;
-use cmdlist::{Buffer, Command, DeferredContext, DeviceContext};
+use crate::calls::{Call, record_all};
+use cmdlist::{DeferredContext, DeviceContext};
 use gfxspec::{GfxError, Vertex};
 use refusing::Refusing;
 use std::alloc::Allocator;
@@ -17,7 +17,7 @@ const CORNER: Vertex = Vertex {
 /// How many commands a list has that is made of some calls.
 fn finished<A: Allocator + Copy>(
     context: &mut DeferredContext<A>,
-    calls: &[Command<A>],
+    calls: &[Call],
     restore: bool,
 ) -> Result<usize, GfxError> {
     record_all(context, calls)?;
@@ -27,12 +27,9 @@ fn finished<A: Allocator + Copy>(
 /// How many commands each of two lists has: vertices and a cleared target, and the next one with the kept state.
 fn two_lists<A: Allocator + Copy>(alloc: A) -> Result<(usize, usize), GfxError> {
     let mut context = DeferredContext::new(alloc);
-    let calls = [
-        Command::SetVertices(Buffer::from_slice(alloc, &[CORNER; 3])?),
-        Command::ClearColor([1; 4]),
-    ];
+    let calls = [Call::SetVertices(&[CORNER; 3]), Call::ClearColor([1; 4])];
     let first = finished(&mut context, &calls, true)?;
-    let second = finished(&mut context, &[Command::ClearColor([2; 4])], false)?;
+    let second = finished(&mut context, &[Call::ClearColor([2; 4])], false)?;
     Ok((first, second))
 }
 
@@ -54,8 +51,9 @@ fn a_kept_state_is_refused(rt: HostRuntime) -> Result<(), Fail> {
     context.finish(true)?;
     let list = context.finish(true)?;
     assert!(rt; list.commands().len() == 1);
-    let answer = record_all(&mut context, list.commands());
-    assert!(rt; answer == Err(GfxError::OutOfMemory));
+    for command in list.commands() {
+        assert!(rt; context.record(command) == Err(GfxError::OutOfMemory));
+    }
     assert!(rt; context.commands().len() == 1);
     Ok(())
 }

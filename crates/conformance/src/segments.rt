@@ -1,9 +1,9 @@
 //! Lists that a crew compiles in segments: its threads meet over them, what they draw is what the caller draws alone, and each
 //! growth may be refused.
 
-use crate::calls::list_of;
+use crate::calls::{Call, list_of};
 use crate::meeting::AllAtOnce;
-use cmdlist::{Buffer, Command, CommandList};
+use cmdlist::CommandList;
 use gfxspec::{GfxError, Size, Topology, Vertex};
 use immediate::{ImmediateContext, RunCrew};
 use refusing::Refusing;
@@ -58,16 +58,16 @@ fn large_of<'x, A: Allocator + Copy>(
     list_of(
         alloc,
         &[
-            Command::SetVertices(Buffer::from_slice(alloc, vertices)?),
-            Command::SetIndices(Buffer::from_slice(alloc, indices)?),
-            Command::SetTopology(Topology::TriangleList),
-            Command::Draw(CORNERS, 0),
-            Command::ClearDepthStencil(5_500_000, 3),
-            Command::DrawIndexed(900, 7, BASE),
-            Command::SetTopology(Topology::TriangleStrip),
-            Command::Draw(290, 50),
-            Command::SetTopology(Topology::TriangleList),
-            Command::Draw(7, 3),
+            Call::SetVertices(vertices),
+            Call::SetIndices(indices),
+            Call::SetTopology(Topology::TriangleList),
+            Call::Draw(CORNERS, 0),
+            Call::ClearDepthStencil(5_500_000, 3),
+            Call::DrawIndexed(900, 7, BASE),
+            Call::SetTopology(Topology::TriangleStrip),
+            Call::Draw(290, 50),
+            Call::SetTopology(Topology::TriangleList),
+            Call::Draw(7, 3),
         ],
     )
 }
@@ -87,9 +87,9 @@ fn small_of<A: Allocator + Copy>(
     list_of(
         alloc,
         &[
-            Command::SetVertices(Buffer::from_slice(alloc, vertices)?),
-            Command::SetTopology(Topology::TriangleList),
-            Command::Draw(3, 300),
+            Call::SetVertices(vertices),
+            Call::SetTopology(Topology::TriangleList),
+            Call::Draw(3, 300),
         ],
     )
 }

@@ -3,10 +3,10 @@
 
 ghost use Rattle.std.specs.Prelude.{◌≡◌};
 
-use crate::calls::list_of;
+use crate::calls::{Call, list_of};
 use binmem::Bins;
 use binner::{Compiled, compile, compile_parallel};
-use cmdlist::{Buffer, Command, CommandList};
+use cmdlist::CommandList;
 use gfxspec::{GfxError, Size, Topology, Vertex, tile_count};
 use refusing::Refusing;
 use std::alloc::Allocator;
@@ -40,9 +40,9 @@ fn strip_of<A: Allocator + Copy>(
     list_of(
         alloc,
         &[
-            Command::SetVertices(Buffer::from_slice(alloc, vertices)?),
-            Command::SetTopology(Topology::TriangleStrip),
-            Command::Draw(4_200, 0),
+            Call::SetVertices(vertices),
+            Call::SetTopology(Topology::TriangleStrip),
+            Call::Draw(4_200, 0),
         ],
     )
 }

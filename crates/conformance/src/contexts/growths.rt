@@ -1,7 +1,7 @@
 //! Each growth refused in turn, and how many growths questions and pixels ask for.
 
-use crate::calls::list_of;
-use cmdlist::{Command, CommandList, DeviceContext};
+use crate::calls::{Call, list_of};
+use cmdlist::{CommandList, DeviceContext};
 use gfxspec::{DEPTH_MAX, GfxError, Topology, Vertex};
 use immediate::ImmediateContext;
 use refusing::Refusing;
@@ -100,8 +100,8 @@ fn context_again<A: Allocator + Copy + Send>(alloc: A) -> Result<ImmediateContex
 /// A list that clears colours, depths and stencils.
 fn clearing_both<A: Allocator + Copy>(alloc: A) -> Result<CommandList<A>, GfxError> {
     let calls = [
-        Command::ClearColor([9; 4]),
-        Command::ClearDepthStencil(DEPTH_MAX, 0),
+        Call::ClearColor([9; 4]),
+        Call::ClearDepthStencil(DEPTH_MAX, 0),
     ];
     list_of(alloc, &calls)
 }

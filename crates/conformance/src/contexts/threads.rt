@@ -1,8 +1,7 @@
 //! The calls that take a number of threads: as many meet as are asked for, and the answers are those of the scene.
 
-use crate::calls::{list_of, record_all};
+use crate::calls::{Call, list_of, record_all};
 use crate::meeting::AllAtOnce;
-use cmdlist::{Buffer, Command};
 use gfxspec::{GfxError, Topology, Vertex};
 use immediate::ImmediateContext;
 use refusing::Refusing;
@@ -46,11 +45,11 @@ fn drawn<A: Allocator + Copy + Send>(alloc: A) -> Result<ImmediateContext<A>, Gf
         corner(128, 128),
     ];
     let calls = [
-        Command::SetVertices(Buffer::from_slice(alloc, &corners)?),
-        Command::SetTopology(Topology::TriangleStrip),
-        Command::Begin(0),
-        Command::Draw(4, 0),
-        Command::End(0),
+        Call::SetVertices(&corners),
+        Call::SetTopology(Topology::TriangleStrip),
+        Call::Begin(0),
+        Call::Draw(4, 0),
+        Call::End(0),
     ];
     let mut context = ImmediateContext::new(alloc, 128, 128)?;
     record_all(&mut context, &calls)?;
@@ -65,7 +64,7 @@ fn execute<A: Allocator + Copy + Send + Sync, R: Threads + Sync, G: Gate + Sync>
     workers: u32,
     gate: &G,
 ) -> Result<(), GfxError> {
-    let list = list_of(alloc, &[Command::ClearColor([9; 4])])?;
+    let list = list_of(alloc, &[Call::ClearColor([9; 4])])?;
     context.execute(rt, &list, true, workers, gate)
 }
 

@@ -1,7 +1,7 @@
 //! Executions that wait: calls are refused as where nothing waits, nothing is lost by it, and what doesn't fit runs.
 
-use crate::calls::{list_of, record_all};
-use cmdlist::{Command, CommandList, DeferredContext, DeviceContext};
+use crate::calls::{Call, list_of, record_all};
+use cmdlist::{CommandList, DeferredContext, DeviceContext};
 use gfxspec::GfxError;
 use immediate::ImmediateContext;
 use std::alloc::{Allocator, Global};
@@ -9,13 +9,10 @@ use std::test::Fail;
 
 /// A context of one pixel, with an execution that waits, a clear behind it, and query 0 open.
 fn with_query_open(alloc: Global) -> Result<ImmediateContext<Global>, GfxError> {
-    let list = list_of(alloc, &[Command::ClearColor([1; 4])])?;
+    let list = list_of(alloc, &[Call::ClearColor([1; 4])])?;
     let mut context = ImmediateContext::new(alloc, 1, 1)?;
     context.enqueue_execution_alone(&list, true)?;
-    record_all(
-        &mut context,
-        &[Command::ClearColor([2; 4]), Command::Begin(0)],
-    )?;
+    record_all(&mut context, &[Call::ClearColor([2; 4]), Call::Begin(0)])?;
     Ok(context)
 }
 
@@ -40,7 +37,7 @@ fn refused_calls(context: &mut ImmediateContext<Global>, list: &CommandList<Glob
 fn an_open_query_refuses_while_executions_wait(rt: HostRuntime) -> Result<(), Fail> {
     let alloc: Global = rt.alloc();
     let mut context = with_query_open(alloc)?;
-    let list = list_of(alloc, &[Command::ClearColor([3; 4])])?;
+    let list = list_of(alloc, &[Call::ClearColor([3; 4])])?;
     assert!(rt; refused_calls(&mut context, &list) == 4);
     assert!(rt; context.pixel_alone(0, 0) == Err(GfxError::QueryOpen));
     context.end(0)?;
