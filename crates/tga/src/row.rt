@@ -12,6 +12,15 @@ use tileblock::Target;
 /// The longest row, in pixels.
 pub(crate) const ROW: usize = 4096;
 
+/// A colour with red and blue in each other's place: the image keeps blue first.
+#[inline(always)]
+fn swapped(color: u32) -> u32
+    ensures { to_le_bytes w32 result ≡ kept_color (to_le_bytes w32 color) }
+{
+    let (red, blue) = (color % 256, color / 65_536 % 256);
+    color - red - 65_536 * blue + 65_536 * red + blue
+}
+
 /// Stores eight colours, as the image keeps them.
 fn store_span(row: &mut [[u8; 4]; ROW], at: usize, colors: [u32; 8])
     requires { at + 8 ≤ 4096 }
@@ -22,8 +31,7 @@ fn store_span(row: &mut [[u8; 4]; ROW], at: usize, colors: [u32; 8])
 {
     let mut span = [[0; 4]; 8];
     for j in 0..8usize {
-        let [red, green, blue, alpha] = colors[j].to_le_bytes();
-        span[j] = [blue, green, red, alpha];
+        span[j] = swapped(colors[j]).to_le_bytes();
     }
     row[at..at + 8].copy_from_slice(&span);
 }
