@@ -3,8 +3,10 @@
 from __future__ import annotations
 
 import threading
+from concurrent.futures import ThreadPoolExecutor
 from pathlib import Path
 
+import compare_calls
 import numpy as np
 import pytest
 from conftest import DATA, gallery_names
@@ -13,6 +15,7 @@ from yuzuratchet import (
     ArgumentError,
     CallRefused,
     LibraryMissing,
+    Line,
     PixelAnswer,
     PrimitiveTopology,
     QueryAnswer,
@@ -90,6 +93,39 @@ def test_a_refused_call_is_no_end(tmp_path: Path) -> None:
     with pytest.raises(ProgramFailed, match="closed"):
         context.flush()
     device.close()
+
+
+def by_calls(scenes: int, monkeypatch: pytest.MonkeyPatch, folder: Path) -> dict[int, int]:
+    """How many calls of random scenes were refused with each number, where all agree with the program."""
+    monkeypatch.chdir(folder)
+    monkeypatch.setattr("sys.argv", ["compare_calls.py", str(scenes)])
+    with ThreadPoolExecutor(1) as pool:
+        return compare_calls.compare(compare_calls.parsed(), pool)
+
+
+def test_random_scenes_go_on_behind_refused_calls(
+    monkeypatch: pytest.MonkeyPatch, tmp_path: Path
+) -> None:
+    numbers = by_calls(40, monkeypatch, tmp_path)
+    assert {3, 5, 7, 8, 9, 10, 11, 12, 15, 17, 20} <= set(numbers)
+
+
+def test_what_a_refused_call_leaves_behind_is_found(
+    monkeypatch: pytest.MonkeyPatch, tmp_path: Path
+) -> None:
+    take = LiveContext.take
+
+    def leaving(context: LiveContext, line: Line) -> None:
+        try:
+            take(context, line)
+        except CallRefused:
+            context._held.call("clear_color", 1, 2, 3, 4)
+            raise
+
+    monkeypatch.setattr(LiveContext, "take", leaving)
+    with pytest.raises(SystemExit, match="its lines are in differs.txt"):
+        by_calls(20, monkeypatch, tmp_path)
+    assert (tmp_path / "differs.txt").is_file()
 
 
 def test_lists_are_executed_again() -> None:
