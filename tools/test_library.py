@@ -86,6 +86,8 @@ FREED = (
     ("device_flush", "device"),
     ("context_draw", "context"),
 )
+# what the example of each manual page prints
+MANUALS = dict(zip(install_library.MANUALS, ("pixel 1 1 255 128 0 255 16777215 0\n", "YZ_TOPOLOGY_UNSET\n255 128 0\n")))
 PROJECT = """cmake_minimum_required(VERSION 3.13)
 project(uses LANGUAGES C)
 find_package(Yuzuratchet {wanted} REQUIRED)
@@ -104,6 +106,22 @@ def output(words: Iterable[object], text: bytes = b"", **environment: str) -> by
     last = (ran.stderr or ran.stdout).decode(errors="replace").splitlines()[-3:]
     check(ran.returncode == 0, f"`{Path(command[0]).name}` ended {how}: {' | '.join(last)}")
     return ran.stdout
+
+
+def prototypes_of(header: str) -> dict[str, str]:
+    """The calls that a header declares, by their names."""
+    found = re.findall(r"^(?:YZ_MUST_USE )?([a-z][\w ]* \*?)(\w+)\(([^)]*)\);", header, re.M)
+    return {name: "".join(f"{kind}{name}({taken})".split()) for kind, name, taken in found}
+
+
+def synopsis_of(manual: str) -> dict[str, str]:
+    """The calls in a manual page's synopsis, by their names."""
+    text = re.sub(r"\n\.F[ac]", "", manual.split(".Sh SYNOPSIS\n")[1].split(".Sh ")[0]).replace(".Fo ", ".Fn ")
+    found = {}
+    for kind, name, rest in re.findall(r"^\.Ft (.*)\n\.Fn (\w+)(.*)$", text, re.M):
+        taken = ",".join(re.findall(r'"([^"]*)"', rest)) or rest
+        found[name] = "".join(f"{kind}{name}({taken})".split())
+    return found
 
 
 class LibraryTests:
@@ -131,20 +149,29 @@ class LibraryTests:
         check(sorted(left) == ["lib", "lib/another"], f"{left} is left behind")
         return f"{count} files"
 
-    def names(self) -> None:
+    def names(self) -> str:
         """Headers, manual and map name the same calls, of which each has its version and no other name is seen."""
         calls = sorted(install_library.calls())
-        header, more = (it.read_text(encoding="ascii") for it in self.headers)
-        manual = install_library.MANUAL.read_text(encoding="ascii")
-        declared = sorted(set(re.findall(r"^(?:YZ_MUST_USE )?[a-z][\w ]* \*?(\w+)\(", header + more, re.M)))
-        check(declared == calls, f"the headers declare {declared}, and the map has {calls}")
-        described = sorted(set(re.findall(r"^\.F[no] (yuzuratchet_\w+)", manual, re.M)))
-        check(described == install_library.calls_by_script(), f"the manual describes {described}")
-        statuses = re.findall(r"^    (YUZURATCHET_\w+) = \d+,?$", header, re.M)
-        missing = [it for it in statuses if f".It Dv {it} " not in manual and f", Dv {it} " not in manual]
-        check(len(statuses) == len(STATUSES) and not missing, f"the manual lacks {missing}")
+        declared = [prototypes_of(it.read_text(encoding="ascii")) for it in self.headers]
+        check(sorted([*declared[0], *declared[1]]) == calls, f"the headers declare {declared}, and the map has {calls}")
+        for manual, wanted in zip(install_library.MANUALS, declared):
+            found = synopsis_of(manual.read_text(encoding="ascii"))
+            other = [it for it in {**found, **wanted} if found.get(it) != wanted.get(it)]
+            check(not other, f"{manual.name} has other prototypes than the header: {other}")
+            check(sorted(found) == install_library.calls_of(manual), f"{manual.name} describes {sorted(found)}")
+        numbers = [self.lacking(*both) for both in zip(self.headers, install_library.MANUALS)]
         seen = [line.split() for line in output(["nm", "-g", "--defined-only", self.archive]).decode().splitlines()]
         check(sorted(it[2] for it in seen if len(it) == 3) == calls, f"the archive has the names {seen}")
+        return f"{len(calls)} calls, {numbers[0]} statuses, {numbers[1]} results"
+
+    def lacking(self, header: Path, manual: Path) -> int:
+        """How many answers of a header's calls stand in its manual page, which are all of them."""
+        text, page = header.read_text(encoding="ascii"), manual.read_text(encoding="ascii")
+        inside = re.findall(r"^enum (?:yz_results|yuzuratchet_status) {\n(.*?)^}", text, re.M | re.S)
+        answers = re.findall(r"^    ([A-Z]\w+) = (\d+),?$", inside[0], re.M)
+        missing = [name for name, number in answers if f"Dv {name} Pq {number}" not in page]
+        check(answers and not missing, f"{manual.name} lacks {missing}")
+        return len(answers)
 
     def versions(self) -> None:
         """Symbols of the shared object have versions, and the loader is told of the processor that is wanted."""
@@ -154,20 +181,20 @@ class LibraryTests:
         told_of = output(["readelf", "-d", "-n", self.shared]).decode()
         check(f"[{install_library.SONAME}]" in told_of and "x86-64-v2" in told_of, "soname or processor isn't told")
 
-    def manual(self) -> str:
-        """The pages have no fault that mandoc knows of, and the example of the header's page is a program."""
+    def manual(self, manual: Path, prints: str) -> str:
+        """A page has no fault that mandoc knows of, and its example is a program."""
         if shutil.which("mandoc"):
-            found = subprocess.run(
-                ["mandoc", "-T", "lint", install_library.MANUAL], capture_output=True, text=True, check=False
-            ).stdout
-            faults = [line for line in found.splitlines() if "mandoc.db" not in line]
+            found = subprocess.run(["mandoc", "-T", "lint", manual], capture_output=True, text=True, check=False).stdout
+            # (mandoc knows what is installed, and a page names the other)
+            others = ("mandoc.db", *(f"not found: Xr {it.stem} 3" for it in install_library.MANUALS))
+            faults = [line for line in found.splitlines() if not any(it in line for it in others)]
             check(not faults, " | ".join(faults))
-        page = install_library.MANUAL.read_text(encoding="ascii")
+        page = manual.read_text(encoding="ascii")
         example = re.findall(r"\.Sh EXAMPLES\n\.Bd -literal\n(.*?)\.Ed\n", page, re.S)[0]
         source = self.folder / "manual.c"
         source.write_text(example.replace(r"\e", "\\"), encoding="ascii")
-        printed = output([self.built("cc", "manual", source)])
-        check(printed == b"pixel 1 1 255 128 0 255 16777215 0\n", f"it prints {printed!r}")
+        printed = output([self.built("cc", "manual", source)]).decode()
+        check(printed == prints, f"the example prints {printed!r}")
         return "" if shutil.which("mandoc") else "the command mandoc is missing, so its faults weren't looked for"
 
     def package_config(self, compiler: str) -> None:
@@ -486,7 +513,8 @@ def test_installed(results: Results, tests: LibraryTests, compiler: str) -> None
     results.test("layout", tests.layout)
     results.test("names", tests.names)
     results.test("symbol versions", tests.versions)
-    results.test("manual", tests.manual)
+    for manual, prints in MANUALS.items():
+        results.test(f"manual {manual.stem}", tests.manual, manual, prints)
     test_if(results, "pkg-config", "pkg-config", tests.package_config, compiler)
     test_if(results, "cmake", "CMake", tests.cmake)
     for name in ("g++", "clang++"):

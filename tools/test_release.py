@@ -323,7 +323,8 @@ class ReleaseTests:
     def manuals(self) -> None:
         """Each page is found by its name, and completions are shell's."""
         pages = {"MANPATH": str(self.tarball_folder / "share" / "man"), "MANPAGER": "cat", "LC_ALL": "C.UTF-8"}
-        for name, says in (("tiledraw", "--workers"), ("yuzuratchet", "suite"), ("yuzuratchet_draw", "report")):
+        said = {"tiledraw": "--workers", "yuzuratchet": "suite", "yuzuratchet_draw": "report"}
+        for name, says in {**said, "yz_device_draw": "YZ_DRAW_RANGE", "yuzuratchet_device.h": "yz_list"}.items():
             check(says in self.of_tarball.run(["man", name], 0, pages), f"the page {name} is another")
         for path in sorted((self.tarball_folder / "share" / "bash-completion" / "completions").iterdir()):
             self.of_tarball.run(["bash", "-n", path])
