@@ -1,7 +1,7 @@
 #!/usr/bin/env python3
 """Tests the C library, and over it the Python package and the page.
 
-    tools/test_library.py [--scenes N] [--prefix FOLDER]
+    tools/test_library.py [--scenes N] [--frames N] [--prefix FOLDER]
 
 It installs the library into a folder of its own (or takes the one in FOLDER), and then
 
@@ -15,7 +15,7 @@ It installs the library into a folder of its own (or takes the one in FOLDER), a
   against plain_device.py (400);
 - plays the same scripts, and random ones, by calls of yuzuratchet_device.h, and holds all against yuzuratchet_draw;
 - tries these calls at their edges, under the thread sanitizer too, with objects that were destroyed where the library
-  looks for that, and over many frames on one device;
+  looks for that, and over many frames on one device, which must not hold more memory from one to the next;
 - refuses each request for memory in turn in drawings of the gallery's shorter scripts;
 - prints what a call costs, beside a process;
 - runs test_library.py and test_calls.py of python/tests over the installed library, and tools/test_page.py.
@@ -77,8 +77,9 @@ ON_A_SMALL_STACK = ("clear.txt", "lists.txt", "eight-contexts.txt", "shadow-volu
 # what fails today. A name leaves this list with the change that mends it
 KNOWN: dict[str, str] = {}
 SCENES_BY_PROGRAM, SCENES_BY_PLAIN_DEVICE = 10000, 400
-# frames on one device, and by how many kilobytes the process may grow behind the first tenth of them
-FRAMES, GROWTH = 100000, 256
+# frames on one device, so many where each takes long, and by how many kilobytes the process may grow behind the first
+# tenth of them
+FRAMES, SLOW_FRAMES, GROWTH = 100000, 100, 256
 # what library/tests/freed.c does with objects that are none: the call and the kind that are told
 FREED = (
     ("device_execute", "list"),
@@ -416,9 +417,11 @@ class LibraryTests:
         check(len(pixels) == 4 * 256 * 256 and f"{drawn} pixels" == lines[-1], f"{drawn} pixels of the image are drawn")
         return f"{min(sizes)} to {max(sizes)} pixels"
 
-    def frames(self, compiler: str, count: int) -> str:
+    def frames(self, compiler: str, count: int, kind: str = "", before: Sequence[str] = ()) -> str:
         """A device that stays draws frame after frame, and takes no more memory for it."""
-        each, grown = output([self.folder / f"{compiler}-frames", str(count)]).decode().split()
+        each, grown = output([*before, self.folder / f"{compiler}-frames{kind}", str(count)]).decode().split()
+        if before or kind:
+            return f"{count} frames"
         check(int(grown) < GROWTH, f"the process grew by {grown} KB over {count} frames")
         return f"{each} microseconds of processor time a frame, {grown} KB more after {count} frames"
 
@@ -565,17 +568,19 @@ def test_drawing(results: Results, tests: LibraryTests, compiler: str, scenes: i
         results.skip("the program's bytes and its cost", "crates/tiledraw isn't built, so plain_device.py stood in")
 
 
-def test_calls(results: Results, tests: LibraryTests, compiler: str, scenes: int | None) -> None:
+def test_calls(results: Results, tests: LibraryTests, compiler: str, scenes: int | None, frames: int) -> None:
     """The calls by objects, as far as it is the same with each compiler."""
     results.test("scripts by calls", tests.by_calls, compiler)
     results.test("random scenes by calls", tests.random_scenes_by_calls, compiler, scenes or SCENES_BY_PROGRAM)
     results.test("calls on threads", tests.calls_on_threads, compiler)
-    results.test("frames", tests.frames, compiler, FRAMES)
+    results.test("frames", tests.frames, compiler, frames)
+    results.test("frames, sanitized", tests.frames, compiler, SLOW_FRAMES, "-sanitized")
     if toolchain.is_there():
         results.test("destroyed objects", tests.freed, compiler)
     else:
         results.skip("destroyed objects", "the command rt is missing, which builds the library that looks for them")
     edges = tests.folder / f"{compiler}-device_edges"
+    test_if(results, "valgrind", "frames under valgrind", tests.frames, compiler, SLOW_FRAMES, "", VALGRIND)
     test_if(results, "valgrind", "edges of calls under valgrind", output, [*VALGRIND, edges])
     test_if(results, "valgrind", "scripts by calls under valgrind", tests.by_calls, compiler, "", VALGRIND)
 
@@ -603,7 +608,7 @@ def above(words: Iterable[object], more: dict[str, str]) -> str:
     return last
 
 
-def test_all(results: Results, prefix: Path, folder: Path, scenes: int | None) -> None:
+def test_all(results: Results, prefix: Path, folder: Path, words: argparse.Namespace) -> None:
     if not (prefix / "lib" / "libyuzuratchet.a").exists() and not results.test(
         "install", install_library.install, prefix
     ):
@@ -617,8 +622,8 @@ def test_all(results: Results, prefix: Path, folder: Path, scenes: int | None) -
     test_installed(results, tests, compilers[0])
     working = [name for name in compilers if test_compiler(results, tests, name)]
     if working:
-        test_drawing(results, tests, working[0], scenes)
-        test_calls(results, tests, working[0], scenes)
+        test_drawing(results, tests, working[0], words.scenes)
+        test_calls(results, tests, working[0], words.scenes, words.frames)
     test_above(results, tests.shared)
 
 
@@ -626,13 +631,15 @@ def main() -> int:
     parser = argparse.ArgumentParser(description=__doc__, formatter_class=argparse.RawDescriptionHelpFormatter)
     many = f"how many random scenes ({SCENES_BY_PROGRAM}, or {SCENES_BY_PLAIN_DEVICE} where no program is built)"
     parser.add_argument("--scenes", metavar="N", type=whole_number(0), help=many)
+    several = f"how many frames on one device ({FRAMES})"
+    parser.add_argument("--frames", metavar="N", type=whole_number(1), default=FRAMES, help=several)
     parser.add_argument("--prefix", metavar="FOLDER", type=Path, help="where the library is installed, or is to be")
     words = parser.parse_args()
     results = Results(KNOWN, [toolchain.NotBuilt])
     with tempfile.TemporaryDirectory() as room:
         folder = Path(room)
         prefix = words.prefix.absolute() if words.prefix else folder / "prefix"
-        test_all(results, prefix, folder, words.scenes)
+        test_all(results, prefix, folder, words)
     print(results.last_line)
     return results.status
 
