@@ -69,7 +69,7 @@ ASKED_BY_LINES = [
 ]
 # scenes in which it is asked in two ways what touched a pixel, and changed scripts whose faulty letters are asked for
 RANDOM_SCENES, CHANGED_SCRIPTS = 40, 300
-SCENES_BY_CALLS = 500
+SCENES_BY_CALLS, SCENES_ON_SLIDER = 500, 200
 IN_CHROMIUM = (
     "answers",
     "menu",
@@ -184,6 +184,14 @@ class NodeTests:
         check(self.printed("calls", names, self.room).split() == names, "something else was printed")
         return f"{len(names)} scenes"
 
+    def slider(self) -> str:
+        """A device that goes forth and back to lines, against what is drawn of the lines as a text."""
+        scripts = [it for it in expected() if "largest" not in it]
+        scenes = write_random_scenes(self.room, SCENES_ON_SLIDER)
+        printed = self.printed("slider", scripts) + self.printed("slider", scenes, self.room)
+        check(printed.split() == scripts + scenes, "something else was printed")
+        return f"{len(scripts) + len(scenes)} scripts"
+
     def history(self) -> str:
         """The lines that changed a pixel, against a play of the script up to each line."""
         scenes = write_random_scenes(self.room)
@@ -274,7 +282,7 @@ def test_in_node(results: Results, node: str | None, module: pathlib.Path) -> No
     words, why = node_words(node)
     with tempfile.TemporaryDirectory(prefix="page-") as room:
         tests = NodeTests(words, module, room) if words else None
-        for name in ("units", "gallery", "calls", "memory", "history", "explained", "blamed"):
+        for name in ("units", "gallery", "calls", "slider", "memory", "history", "explained", "blamed"):
             reason = why_no_device() if words and name == "explained" else why
             if reason:
                 results.skip(f"node {name}", reason)

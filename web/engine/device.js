@@ -8,7 +8,7 @@ import { ColorWriteEnable, ComparisonFunc, CullMode, LogicOp, Plane, StencilOp }
 import { channels, signed, storedDepth, vertexBytes, whole } from "./units.js";
 
 /** @typedef {import("./module.js").Module} Module */
-/** @typedef {import("./playing.js").PixelValue} PixelValue */
+/** @typedef {import("./answers.js").PixelValue} PixelValue */
 /** @typedef {import("./targa.js").Picture} Picture */
 /** @typedef {import("./units.js").Colour} Colour */
 /** @typedef {import("./units.js").Vertices} Vertices */

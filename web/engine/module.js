@@ -6,7 +6,10 @@
 import { bytesOf, textOf } from "./script.js";
 
 // what the device answers to a script without a byte, since the module takes no such area
-const NO_SCRIPT = "refused 1 102\n";
+const NO_TARGET = { line: 1, number: 102 };
+const NO_SCRIPT = `refused ${NO_TARGET.line} ${NO_TARGET.number}\n`;
+// a line that is never without a fault
+const FAULTY = bytesOf("?\n");
 // an area of so many bytes is kept, and lent where that is enough
 const KEPT = 1 << 12;
 
@@ -25,12 +28,15 @@ const KEPT = 1 << 12;
  * @property {(size: bigint) => bigint} malloc
  * @property {(area: bigint) => void} free
  * @property {(...areas: bigint[]) => number} yuzuratchet_draw
+ * @property {(...areas: bigint[]) => number} yuzuratchet_sizes
  * @property {(script: bigint, size: bigint) => bigint} yuzuratchet_lines_bound
  * @property {(script: bigint, size: bigint) => bigint} yuzuratchet_image_bound
  * @property {() => number} yuzuratchet_version
  * @property {(result: number) => bigint} yz_result_name
  * @property {(result: number) => bigint} yz_result_text
  */
+/** @typedef {import("./answers.js").Refused} Refused */
+/** @typedef {import("./script.js").Script} Script */
 /** @typedef {Record<string, (...given: (bigint | number)[]) => number>} ObjectCalls those of yuzuratchet_device.h */
 
 export class Module {
@@ -105,6 +111,30 @@ export class Module {
         const [written, drawn] =
             [this.report.lines_size, this.report.image_size].map((at) => Number(told.getBigUint64(at, true)));
         return { status, lines: this.bytes(lines, written).slice(), image: this.bytes(image, drawn).slice() };
+    }
+
+    /**
+     * The first line of a script that has a fault, or null. The script is read, and nothing of it is played, since one
+     * line more has a fault in any case.
+     *
+     * @param {Script} script
+     * @returns {Refused | null}
+     */
+    faultOf({ bytes, count }) {
+        if (!count) return NO_TARGET;
+        const { size: reported, refused_line: line, refusal } = this.report;
+        const size = bytes.length + FAULTY.length;
+        return this.lent(reported + size, (report) => {
+            const text = report + BigInt(reported);
+            const area = this.bytes(text, size);
+            area.set(bytes);
+            area.set(FAULTY, bytes.length);
+            const status = this.calls.yuzuratchet_sizes(text, BigInt(size), report);
+            if (status !== this.statuses.refused.number) throw new Error(`${this.textOf(status)} (${status})`);
+            const told = new DataView(this.calls.memory.buffer, Number(report), reported);
+            const found = { line: Number(told.getBigUint64(line, true)), number: told.getUint32(refusal, true) };
+            return found.line > count ? null : found;
+        });
     }
 
     /**

@@ -2,7 +2,7 @@
 
 import { Device } from "./engine/device.js";
 import { Module } from "./engine/module.js";
-import { answersOf, refusalOf } from "./engine/playing.js";
+import { answersOf, refusalOf } from "./engine/answers.js";
 import { bytesOf } from "./engine/script.js";
 import { decodeTarga } from "./engine/targa.js";
 import { LAYOUT } from "./layout.js";
