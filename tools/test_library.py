@@ -245,7 +245,7 @@ class LibraryTests:
         return out
 
     def build_all(self, compiler: str) -> None:
-        examples = [install_library.LIBRARY / name for name in ("example.c", "cube.c")]
+        examples = [install_library.LIBRARY / name for name in ("example.c", "cube.c", "recorders.c")]
         for source in [*examples, *sorted(TESTS.glob("*.c"))]:
             self.built(compiler, f"{compiler}-{source.stem}", source)
             self.built(compiler, f"{compiler}-{source.stem}-shared", source, static=False)
@@ -404,6 +404,9 @@ class LibraryTests:
         """Eight contexts record side by side."""
         program = self.built(compiler, "edges-thread", TESTS / "device_edges.c", "-fsanitize=thread")
         output([program], TSAN_OPTIONS="halt_on_error=1")
+        source = install_library.LIBRARY / "recorders.c"
+        self.built(compiler, f"{compiler}-recorders-thread", source, "-fsanitize=thread")
+        self.recorders(compiler, "-thread")
 
     def cube(self, compiler: str, before: Sequence[str] = ()) -> str:
         """The cube turns, each frame as it is when it is drawn alone."""
@@ -416,6 +419,14 @@ class LibraryTests:
         drawn = sum(colour != (40, 28, 24, 255) for colour in colours)
         check(len(pixels) == 4 * 256 * 256 and f"{drawn} pixels" == lines[-1], f"{drawn} pixels of the image are drawn")
         return f"{min(sizes)} to {max(sizes)} pixels"
+
+    def recorders(self, compiler: str, kind: str = "", before: Sequence[str] = ()) -> None:
+        """Eight threads record squares, of which each is seen beside the one before it."""
+        printed = output(
+            [*before, self.folder / f"{compiler}-recorders{kind}"], TSAN_OPTIONS="halt_on_error=1"
+        ).decode()
+        wanted = ["refused with 7", "4096 pixels", *7 * ["1792 pixels"]]
+        check(printed.splitlines() == wanted, f"it prints {printed!r}")
 
     def frames(self, compiler: str, count: int, kind: str = "", before: Sequence[str] = ()) -> str:
         """A device that stays draws frame after frame, and takes no more memory for it."""
@@ -536,6 +547,7 @@ def test_compiler(results: Results, tests: LibraryTests, compiler: str) -> bool:
         results.test(f"{compiler} edges of calls{kind}", tests.ends_well, f"{compiler}-device_edges{kind}")
     results.test(f"{compiler} example", tests.example, compiler)
     results.test(f"{compiler} cube", tests.cube, compiler)
+    results.test(f"{compiler} recorders", tests.recorders, compiler)
     results.test(f"{compiler} scripts by calls, sanitized", tests.by_calls, compiler, "-sanitized")
     results.test(f"{compiler} numbers of 128 bits", tests.ends_well, f"{compiler}-wide-sanitized")
     return True
@@ -579,6 +591,7 @@ def test_calls(results: Results, tests: LibraryTests, compiler: str, scenes: int
         results.test("destroyed objects", tests.freed, compiler)
     else:
         results.skip("destroyed objects", "the command rt is missing, which builds the library that looks for them")
+    test_if(results, "valgrind", "recorders under valgrind", tests.recorders, compiler, "", VALGRIND)
     edges = tests.folder / f"{compiler}-device_edges"
     test_if(results, "valgrind", "frames under valgrind", tests.frames, compiler, SLOW_FRAMES, "", VALGRIND)
     test_if(results, "valgrind", "edges of calls under valgrind", output, [*VALGRIND, edges])

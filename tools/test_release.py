@@ -75,6 +75,8 @@ for name in (folder / "index").read_text().split():
 """
 # what the package's example prints of three frames, as library/cube.c does
 CUBE = ["26122 pixels", "26154 pixels", "26079 pixels", "refused: YZ_TOPOLOGY_UNSET"]
+# and what its eight contexts print, as library/recorders.c does
+RECORDERS = ["refused with 7", "4096 pixels", *7 * ["1792 pixels"]]
 BY_PACKAGE = """
 import { Plane, createDevice, draw } from "yuzuratchet";
 import { DrawingWorker } from "yuzuratchet/worker";
@@ -374,6 +376,8 @@ class ReleaseTests:
         check("7 YZ_TOPOLOGY_UNSET" in said, said)
         cube = place.run([*words, "--no-warnings", "node_modules/yuzuratchet/examples/cube.js", "3"])
         check(cube.splitlines() == CUBE, cube)
+        recorders = place.run([*words, "--no-warnings", "node_modules/yuzuratchet/examples/recorders.js"])
+        check(recorders.splitlines() == RECORDERS, recorders)
         return f"{len(names)} scripts, {(self.dist / f'{NAME}.tgz').stat().st_size} bytes"
 
     def browser(self, program: str) -> str:

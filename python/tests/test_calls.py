@@ -2,6 +2,9 @@
 
 from __future__ import annotations
 
+import os
+import subprocess
+import sys
 import threading
 from concurrent.futures import ThreadPoolExecutor
 from pathlib import Path
@@ -9,7 +12,7 @@ from pathlib import Path
 import compare_calls
 import numpy as np
 import pytest
-from conftest import DATA, gallery_names
+from conftest import DATA, TOP, gallery_names
 
 from yuzuratchet import (
     ArgumentError,
@@ -25,6 +28,7 @@ from yuzuratchet import (
 )
 from yuzuratchet.calls import Device, LiveContext
 from yuzuratchet.errors import ProgramFailed, WrongType
+from yuzuratchet.images import load
 from yuzuratchet.library import run_library
 from yuzuratchet.recipes import count_overlaps
 from yuzuratchet.results import Result
@@ -195,6 +199,27 @@ def test_a_recording_leaves_out_what_is_refused() -> None:
     with pytest.raises(CallRefused):
         device.immediate.end(5)
     assert scene.script().splitlines() == ["target 8 8", "i clearc 1 2 3 4"]
+
+
+def printed_by(name: str, folder: Path, *words: str) -> list[str]:
+    """What an example prints."""
+    command = [sys.executable, "-B", str(TOP / "python" / "examples" / "calls" / name), *words]
+    environment = {**os.environ, "PYTHONPATH": str(TOP / "python" / "src")}
+    ran = subprocess.run(command, cwd=folder, env=environment, capture_output=True, text=True)
+    assert (ran.returncode, ran.stderr) == (0, "")
+    return ran.stdout.splitlines()
+
+
+def test_the_cube_turns_as_that_in_c_does(tmp_path: Path) -> None:
+    frames = printed_by("turning_cube.py", tmp_path, "cube.png", "60")
+    assert frames[:3] == ["26122 pixels", "26154 pixels", "26079 pixels"] and len(frames) == 60
+    seen = (load(tmp_path / "cube.png")[..., :3] != (24, 28, 40)).any(axis=2).sum()
+    assert frames[-1] == f"{seen} pixels"
+
+
+def test_eight_threads_record(tmp_path: Path) -> None:
+    squares = ["4096 pixels", *7 * ["1792 pixels"]]
+    assert printed_by("recorders.py", tmp_path) == ["refused with 7", *squares]
 
 
 def test_a_recording_begins_before_all_calls() -> None:
