@@ -17,11 +17,10 @@ import path from "path";
 import { createHash } from "crypto";
 
 import { blame } from "../web/engine/blame.js";
-import { answersOf, refusalOf } from "../web/engine/answers.js";
 import { PixelHistory, same } from "../web/engine/history.js";
 import { Kept } from "../web/engine/kept.js";
 import { Language } from "../web/engine/language.js";
-import { Module } from "../web/engine/module.js";
+import { Module, answersOf, refusalOf } from "../web/engine/module.js";
 import { Script, textOf } from "../web/engine/script.js";
 import { pixelBehind, playedByText } from "../web/tests/by_text.js";
 import { fileOf, imageLine, played } from "../web/tests/played.js";

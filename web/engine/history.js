@@ -9,7 +9,7 @@ import { ANY_DEPTH, Asking, NO_COLOUR, NO_TESTS } from "./asking.js";
 import { triangles } from "./assembly.js";
 import { PrimitiveTopology } from "./states.js";
 
-/** @typedef {import("./answers.js").PixelValue} PixelValue */
+/** @typedef {import("./device.js").PixelValue} PixelValue */
 /** @typedef {import("./language.js").Tables} Tables */
 /** @typedef {import("./player.js").Player} Player */
 /** @typedef {import("./session.js").Item} Item */

@@ -6,8 +6,8 @@
 import { CallRefused } from "./device.js";
 import { Player } from "./player.js";
 
-/** @typedef {import("./answers.js").Refused} Refused */
 /** @typedef {import("./module.js").Module} Module */
+/** @typedef {import("./module.js").Refused} Refused */
 /** @typedef {import("./script.js").Script} Script */
 /**
  * @typedef {object} Played

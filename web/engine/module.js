@@ -35,8 +35,8 @@ const KEPT = 1 << 12;
  * @property {(result: number) => bigint} yz_result_name
  * @property {(result: number) => bigint} yz_result_text
  */
-/** @typedef {import("./answers.js").Refused} Refused */
 /** @typedef {import("./script.js").Script} Script */
+/** @typedef {{line: number, number: number}} Refused */
 /** @typedef {Record<string, (...given: (bigint | number)[]) => number>} ObjectCalls those of yuzuratchet_device.h */
 
 export class Module {
@@ -212,4 +212,24 @@ export class Module {
         const bytes = new Uint8Array(this.calls.memory.buffer, Number(at));
         return textOf(bytes.subarray(0, bytes.indexOf(0)));
     }
+}
+
+/**
+ * The answer lines of what was drawn, without their line feeds.
+ *
+ * @param {Uint8Array} lines
+ */
+export function answersOf(lines) {
+    return textOf(lines).split("\n").slice(0, -1);
+}
+
+/**
+ * The line and the number of the last answer line, where it says that a line was refused, else null.
+ *
+ * @param {string[]} answers
+ * @returns {Refused | null}
+ */
+export function refusalOf(answers) {
+    const [word, line, number] = (answers[answers.length - 1] || "").split(" ");
+    return word === "refused" ? { line: Number(line), number: Number(number) } : null;
 }

@@ -5,14 +5,14 @@ import { record } from "./recording.js";
 import { Session } from "./session.js";
 import { Plane } from "./states.js";
 
-/** @typedef {import("./answers.js").Area} Area */
-/** @typedef {import("./answers.js").PixelValue} PixelValue */
 /** @typedef {import("./device.js").CommandList} CommandList */
+/** @typedef {import("./device.js").PixelValue} PixelValue */
 /** @typedef {import("./module.js").Module} Module */
 /** @typedef {import("./script.js").Script} Script */
 /** @typedef {import("./session.js").Item} Item */
 /** @typedef {import("./session.js").List} List */
 /** @typedef {import("./session.js").Performed} Performed */
+/** @typedef {{left: number, top: number, width: number, height: number}} Area */
 
 /** A script without a fault, and the device that its lines draw on. */
 export class Player {

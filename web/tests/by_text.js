@@ -1,6 +1,6 @@
 // Scripts that are drawn as texts, against which tests hold what their calls leave on a device that stays.
 
-import { answersOf, refusalOf } from "../engine/answers.js";
+import { answersOf, refusalOf } from "../engine/module.js";
 import { bytesOf } from "../engine/script.js";
 
 const TRIES = 8;

@@ -7,8 +7,8 @@ import path from "path";
 import { fileURLToPath } from "url";
 
 import { CallRefused, Device } from "../engine/device.js";
-import { answersOf, refusalOf } from "../engine/answers.js";
 import { Kept, Shelf } from "../engine/kept.js";
+import { answersOf, refusalOf } from "../engine/module.js";
 import { Player, pixelsOf } from "../engine/player.js";
 import { Script, bytesOf } from "../engine/script.js";
 import { ComparisonFunc, CullMode, Plane, PrimitiveTopology, StencilOp } from "../engine/states.js";

@@ -2,11 +2,11 @@
 // which a query counts, executes the lists in their order, and prints how many pixels of each are seen. A refused call
 // is told, and the device goes on. (Objects of one module stay on one thread of JavaScript.)
 
-import { CallRefused, PrimitiveTopology, createDevice } from "../index.js";
+import { CallRefused, PrimitiveTopology, createDevice, depthOf } from "../index.js";
 
 /** @typedef {import("../index.js").Vertex} Vertex */
 
-const SIDE = 176, SQUARE = 64, STEP = 16, DEEPEST = 16777215;
+const SIDE = 176, SQUARE = 64, STEP = 16;
 
 /**
  * The corners of a square, each of which lies behind the one before it.
@@ -17,7 +17,7 @@ const SIDE = 176, SQUARE = 64, STEP = 16, DEEPEST = 16777215;
 function corners(number) {
     const at = STEP * number;
     return [[0, 0], [1, 0], [0, 1], [1, 1]].map(([right, down]) =>
-        [at + SQUARE * right, at + SQUARE * down, 1000 * number / DEEPEST, [31 * number, 128, 90]]);
+        [at + SQUARE * right, at + SQUARE * down, depthOf(1000 * number), [31 * number, 128, 90]]);
 }
 
 const device = await createDevice(SIDE, SIDE);
