@@ -40,7 +40,7 @@ import package_path
 from browser import Browser, BrowserError, find_browser
 from release import debian
 from results import Results, check
-from test_page import QuietHandler, node_words
+from test_page import CUBE, CUBE_REFUSED, RECORDERS, QuietHandler, node_words
 from toolchain import NotBuilt, run
 from yuzuratchet import __version__
 from yuzuratchet.ending import ended
@@ -73,10 +73,6 @@ for name in (folder / "index").read_text().split():
     ran = draw((folder / name).read_bytes(), backend="library")
     print(f"{name}\\n{ran.answers}image {hashlib.sha256(ran.image).hexdigest()}")
 """
-# what the package's example prints of three frames, as library/cube.c does
-CUBE = ["26122 pixels", "26154 pixels", "26079 pixels", "refused: YZ_TOPOLOGY_UNSET"]
-# and what its eight contexts print, as library/recorders.c does
-RECORDERS = ["refused with 7", "4096 pixels", *7 * ["1792 pixels"]]
 BY_PACKAGE = """
 import { Plane, createDevice, draw } from "yuzuratchet";
 import { DrawingWorker } from "yuzuratchet/worker";
@@ -375,7 +371,7 @@ class ReleaseTests:
         said = place.run([*words, "--no-warnings", "calls.js"])
         check("7 YZ_TOPOLOGY_UNSET" in said, said)
         cube = place.run([*words, "--no-warnings", "node_modules/yuzuratchet/examples/cube.js", "3"])
-        check(cube.splitlines() == CUBE, cube)
+        check(cube.splitlines() == [*CUBE, CUBE_REFUSED], cube)
         recorders = place.run([*words, "--no-warnings", "node_modules/yuzuratchet/examples/recorders.js"])
         check(recorders.splitlines() == RECORDERS, recorders)
         return f"{len(names)} scripts, {(self.dist / f'{NAME}.tgz').stat().st_size} bytes"
