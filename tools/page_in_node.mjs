@@ -9,7 +9,7 @@
 //     slider      its name, where a device that stays has behind each line what is drawn of the lines up to there
 //     history     how many lines changed some pixels, which it asks in two ways
 //     steps       the history of four pixels, as JSON
-//     memory      its name, where 200 drawings more take no more memory
+//     memory      its name, where 200 drawings more, and a device that goes forth and back, take no more memory
 //     blamed      the line and the number that are told, and which letters of the line are to blame, as JSON
 
 import fs from "fs";
@@ -122,11 +122,25 @@ function steps(device, name, bytes) {
     console.log(JSON.stringify(found));
 }
 
+/** Lets a device that stays go to each line, and asks behind it what touched a pixel. */
+function forthAndBack(device, bytes) {
+    const kept = new Kept(device, new Script(bytes));
+    for (const step of [1, 7, 3]) {
+        for (let at = 0; at < kept.script.count; at++) {
+            const { player } = kept.play(at * step % kept.script.count + 1);
+            if (at % 5 === 0) stepsOf(player, { x: 1, y: 1 });
+        }
+    }
+    kept.leave();
+}
+
 /** Draws so often that what isn't given back would be seen. */
 function memory(device, name, bytes) {
+    forthAndBack(device, bytes);
     const drawn = JSON.stringify(device.draw(bytes));
     const size = device.calls.memory.buffer.byteLength;
     for (let times = 0; times < 200; times++) device.draw(bytes);
+    for (let times = 0; times < 5; times++) forthAndBack(device, bytes);
     if (device.calls.memory.buffer.byteLength !== size) throw new Error(`${name}: the memory has grown`);
     if (JSON.stringify(device.draw(bytes)) !== drawn) throw new Error(`${name}: another answer`);
     console.log(name);
