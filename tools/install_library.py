@@ -63,7 +63,9 @@ ALONE = ("yuzuratchet_examine", "yuzuratchet_version")
 Builds = Mapping[str, pathlib.Path]
 FLAGS = ("-std=c11", "-O2", "-fPIC", "-Wall", "-Wextra", "-Werror")
 MAP = LIBRARY / "yuzuratchet.map"
-MANUAL = LIBRARY / "yuzuratchet.h.3"
+# the manual page of each header, and what the names of its calls begin with
+MANUALS = {LIBRARY / f"{header}.3": before for header, before in zip(HEADERS, ("yuzuratchet_", "yz_"))}
+MAN = "share/man/man3"
 # the number is that of what stays compatible, and not that of the version
 SONAME = "libyuzuratchet.so.0"
 SHARED = f"libyuzuratchet.so.{__version__}"
@@ -102,9 +104,9 @@ def calls() -> list[str]:
     return re.findall(r"^ +((?:yuzuratchet|yz)_\w+);$", MAP.read_text(encoding="ascii"), re.M)
 
 
-def calls_by_script() -> list[str]:
-    """Those of them that take a script, or tell of what these say."""
-    return sorted(name for name in calls() if name.startswith("yuzuratchet_"))
+def calls_of(manual: pathlib.Path) -> list[str]:
+    """Those of them that a manual page is of."""
+    return sorted(name for name in calls() if name.startswith(MANUALS[manual]))
 
 
 def device_calls() -> list[str]:
@@ -184,7 +186,8 @@ def written(prefix: pathlib.Path, libdir: str) -> dict[str, str]:
     }
     found = {where: filled((LIBRARY / name).read_text(encoding="ascii"), values) for where, name in templates.items()}
     # (`man yuzuratchet_draw` shows the page of the header)
-    return {**found, **{f"share/man/man3/{name}.3": f".so man3/{MANUAL.name}\n" for name in calls_by_script()}}
+    leading = {f"{MAN}/{name}.3": f".so man3/{manual.name}\n" for manual in MANUALS for name in calls_of(manual)}
+    return {**found, **leading}
 
 
 def filled(template: str, values: dict[str, object]) -> str:
@@ -196,7 +199,8 @@ def installed_files(prefix: pathlib.Path, libdir: str) -> list[str]:
     """All that an installation puts below the prefix."""
     built = [f"{libdir}/{name}" for name in ("libyuzuratchet.a", SHARED, *LINKS)]
     headers = [f"include/{name}" for name in HEADERS]
-    return [*headers, f"share/man/man3/{MANUAL.name}", *built, *written(prefix, libdir)]
+    manuals = [f"{MAN}/{manual.name}" for manual in MANUALS]
+    return [*headers, *manuals, *built, *written(prefix, libdir)]
 
 
 def root_of(prefix: str | pathlib.Path, stage: str | None) -> tuple[pathlib.Path, pathlib.Path]:
@@ -219,7 +223,8 @@ def install(
     build(to / libdir, builds, flags)
     for name in HEADERS:
         shutil.copy(LIBRARY / name, to / "include")
-    shutil.copy(MANUAL, to / "share" / "man" / "man3")
+    for manual in MANUALS:
+        shutil.copy(manual, to / MAN)
     for name, target in LINKS.items():
         (to / libdir / name).unlink(missing_ok=True)
         (to / libdir / name).symlink_to(target)

@@ -21,8 +21,8 @@ from results import check
 STYLE = package_path.TOP / "web" / "style.css"
 WIDTHS = [(320, 640), (375, 700), (800, 600), (1240, 780), (1920, 1000), (3440, 1300)]
 RATIOS = [1, 1.1, 1.25, 1.5, 2]
-# how long depth and stencil of large may take, in seconds
-LARGE_PLANE = 5
+# how long depth and stencil of large may take, in seconds, and depth again, in milliseconds, on a busy machine
+LARGE_PLANE, PLANE_MOST = 5, 250
 # the milliseconds of a depth whose device has run everything
 PLANE_AGAIN = """page.jobs.ask("planes", { last: page.shown, what: "depth", range: { near: null, far: null } })
     .then(({ milliseconds }) => milliseconds)"""
@@ -378,7 +378,8 @@ class FeatureTests(PlayingTests):
             seconds.append(time.monotonic() - begun)
         size = [int(it) for it in self.browser.value("[page.view.size.width, page.view.size.height]")]
         check(size == [2048, 2048] and max(seconds) < LARGE_PLANE, f"{seconds} s")
-        again = min(float(self.browser.value(PLANE_AGAIN)) for _ in range(5))
+        again = min(float(self.browser.value(PLANE_AGAIN)) for _ in range(10))
+        check(again < PLANE_MOST, f"read and coloured again in {again:.0f} ms, and {PLANE_MOST} is the most")
         return f"{seconds[0]:.1f} s, stencil {seconds[1]:.1f} s; read and coloured again in {again:.0f} ms"
 
     def depth_range(self) -> None:

@@ -6,9 +6,10 @@
 //
 //     gallery     answers and digest, as crates/gallery/stdout has them
 //     calls       its name, where its calls leave what it leaves
+//     slider      its name, where a device that stays has behind each line what is drawn of the lines up to there
 //     history     how many lines changed some pixels, which it asks in two ways
 //     steps       the history of four pixels, as JSON
-//     memory      its name, where 200 drawings more take no more memory
+//     memory      its name, where 200 drawings more, and a device that goes forth and back, take no more memory
 //     blamed      the line and the number that are told, and which letters of the line are to blame, as JSON
 
 import fs from "fs";
@@ -17,13 +18,12 @@ import { createHash } from "crypto";
 
 import { blame } from "../web/engine/blame.js";
 import { PixelHistory, same } from "../web/engine/history.js";
+import { Kept } from "../web/engine/kept.js";
 import { Language } from "../web/engine/language.js";
-import { Module } from "../web/engine/module.js";
-import { Player } from "../web/engine/player.js";
-import { answersOf, pixelOf, play, refusalOf } from "../web/engine/playing.js";
-import { Script, bytesOf, joined, textOf } from "../web/engine/script.js";
-import { decodeTarga } from "../web/engine/targa.js";
-import { imageLine, played } from "../web/tests/played.js";
+import { Module, answersOf, refusalOf } from "../web/engine/module.js";
+import { Script, textOf } from "../web/engine/script.js";
+import { pixelBehind, playedByText } from "../web/tests/by_text.js";
+import { fileOf, imageLine, played } from "../web/tests/played.js";
 
 const [module, tablesFile, task, folder, ...names] = process.argv.slice(2);
 const tables = JSON.parse(fs.readFileSync(tablesFile, "utf8"));
@@ -44,15 +44,29 @@ function calls(device, name, bytes) {
     console.log(name);
 }
 
-/** The steps of a pixel. */
-function stepsOf(draw, script, pixel) {
-    return new PixelHistory(draw, script, tables, pixel).steps(script.count);
+/** Compares what is told and seen behind some lines, forth and back, with what is drawn of the script as a text. */
+function slider(device, name, bytes) {
+    const script = new Script(bytes), kept = new Kept(device, script);
+    const { refused } = playedByText(device, script, script.count);
+    const last = Math.max(1, script.count);
+    for (const at of [0.3, 1, 0.31, 0.5, 0.9, 0.4, 0.99, 0.1]) {
+        const line = Math.max(1, Math.round(at * last)), wanted = playedByText(device, script, line);
+        const { player, ...told } = kept.play(line);
+        const image = imageLine(player ? fileOf(player.device) : []);
+        const [one, other] = [{ ...told, image }, { ...wanted, image: imageLine([wanted.image]) }].map(
+            ({ answers, questions, shown, refused: by, image: drawn }) =>
+                JSON.stringify([line, answers, questions, shown, by, drawn]));
+        if (one !== other) throw new Error(`${name}: ${one}, and not ${other}`);
+        if (at === 0.3 && JSON.stringify(kept.check()) !== JSON.stringify(refused))
+            throw new Error(`${name}: ${JSON.stringify(kept.check())}, and not ${JSON.stringify(refused)}`);
+    }
+    kept.leave();
+    console.log(name);
 }
 
-/** What a pixel holds behind a line, asked by a line of the script. */
-function pixelBehind(draw, script, last, { x, y }) {
-    const { lines } = draw(joined([script.closedAt(last), bytesOf(`i pixel ${x} ${y}\n`)]));
-    return pixelOf(answersOf(lines).pop());
+/** The steps of a pixel. */
+function stepsOf(player, pixel) {
+    return new PixelHistory(player, tables, pixel).steps();
 }
 
 /**
@@ -60,19 +74,16 @@ function pixelBehind(draw, script, last, { x, y }) {
  * and what it holds at the end with the planes of a device that its calls draw on.
  */
 function history(device, name, bytes) {
-    const draw = (text) => device.draw(text);
-    const script = new Script(bytes);
-    const played = play(draw, script, script.count);
-    if (played.refused) return;
-    const { width, height } = decodeTarga(played.image);
-    const player = new Player(device, script).playTo(script.count);
+    const script = new Script(bytes), kept = new Kept(device, script);
+    const { refused, player } = kept.play(script.count);
+    if (refused) return;
+    const { width, height } = player.device;
     const planes = player.device.planes();
-    player.dispose();
     let changes = 0;
     for (let at = 0; at < 12; at++) {
         const pixel = { x: (at * 7919 + 3) % width, y: (at * 104729 + 5) % height };
-        const held = Array.from({ length: script.count }, (_, line) => pixelBehind(draw, script, line + 1, pixel));
-        const steps = stepsOf(draw, script, pixel);
+        const held = Array.from({ length: script.count }, (_, line) => pixelBehind(device, script, line + 1, pixel));
+        const steps = stepsOf(player, pixel);
         const plain =
             held.map((_, line) => line + 1).filter((line) => line > 1 && !same(held[line - 1], held[line - 2]));
         const told = steps.filter(({ before, after }) => !same(before, after));
@@ -88,6 +99,7 @@ function history(device, name, bytes) {
             throw new Error(`${name}: planes differ`);
         changes += told.length;
     }
+    kept.leave();
     console.log(`${name} ${changes}`);
 }
 
@@ -96,25 +108,39 @@ function history(device, name, bytes) {
  * and what is held behind.
  */
 function steps(device, name, bytes) {
-    const draw = (text) => device.draw(text);
-    const script = new Script(bytes);
-    const { refused, image } = play(draw, script, script.count);
-    const { width, height } = refused ? { width: 1, height: 1 } : decodeTarga(image);
+    const kept = new Kept(device, new Script(bytes));
+    const { refused, player } = kept.play(kept.script.count);
+    const { width, height } = refused ? { width: 1, height: 1 } : player.device;
     const found = Array.from({ length: refused ? 0 : 4 }, (_, at) => {
         const [x, y] = [(at * 7919 + 11) % width, (at * 104729 + 2) % height];
-        const told = stepsOf(draw, script, { x, y })
+        const told = stepsOf(player, { x, y })
                          .map(({ line, by, triangle, outcome, after }) => [line, by, triangle && triangle.number,
                                   triangle && triangle.depth, outcome, [...after.colour, after.depth, after.stencil]]);
         return [x, y, told];
     });
+    kept.leave();
     console.log(JSON.stringify(found));
+}
+
+/** Lets a device that stays go to each line, and asks behind it what touched a pixel. */
+function forthAndBack(device, bytes) {
+    const kept = new Kept(device, new Script(bytes));
+    for (const step of [1, 7, 3]) {
+        for (let at = 0; at < kept.script.count; at++) {
+            const { player } = kept.play(at * step % kept.script.count + 1);
+            if (at % 5 === 0) stepsOf(player, { x: 1, y: 1 });
+        }
+    }
+    kept.leave();
 }
 
 /** Draws so often that what isn't given back would be seen. */
 function memory(device, name, bytes) {
+    forthAndBack(device, bytes);
     const drawn = JSON.stringify(device.draw(bytes));
     const size = device.calls.memory.buffer.byteLength;
     for (let times = 0; times < 200; times++) device.draw(bytes);
+    for (let times = 0; times < 5; times++) forthAndBack(device, bytes);
     if (device.calls.memory.buffer.byteLength !== size) throw new Error(`${name}: the memory has grown`);
     if (JSON.stringify(device.draw(bytes)) !== drawn) throw new Error(`${name}: another answer`);
     console.log(name);
@@ -133,5 +159,5 @@ function blamed(device, name, bytes) {
 
 const device = await Module.of(fs.readFileSync(module), tables.library);
 for (const name of names)
-    ({ gallery, calls, history, steps, memory, blamed })[task](
+    ({ gallery, calls, slider, history, steps, memory, blamed })[task](
         device, name, new Uint8Array(fs.readFileSync(path.join(folder, name))));

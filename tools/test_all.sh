@@ -1,8 +1,8 @@
 #!/bin/sh
 # All tests: what looks over sources and pages, the package's tests, then the gate, which takes every proof, wrong body,
 # test and stored run from nothing, and then what stands above it, over what it built: the C library, Python over it,
-# the page, the package once more, the files of a release, short comparisons of `check` and `explain` with the
-# device, and other devices beside it.
+# the page, the package once more, the files of a release, short comparisons of `check`, of `explain` and of calls with
+# the device, and other devices beside it.
 #
 # The last line is the gate's. The line before it names what failed, and what was skipped for want of a program. The
 # status is the gate's where that isn't 0, and else 1 where another part failed.
@@ -40,6 +40,16 @@ package_again() {
     fi
 }
 
+# calls, by the environment of the package's tests, where there are numpy and the library
+calls() (
+    name=calls
+    # shellcheck source=python/environment.sh
+    . python/environment.sh
+    python=$cache/environment/bin/python
+    [ -x "$python" ] || { echo "skipped calls: the environment of the package's tests isn't kept" && return; }
+    YUZURATCHET_LIBRARY=$room/prefix/lib/libyuzuratchet.so "$python" -B tools/compare_calls.py 1000
+)
+
 # get_for_release PACKAGE ..: what a release is built and tested by, from Debian's packages
 get_for_release() (
     name=release
@@ -64,7 +74,7 @@ release() {
 # what was skipped, a line each
 skipped() {
     sed -n 's/^lint: .*; skipped: //p' "$room/lint"
-    for run in library release devices; do
+    for run in library release calls devices; do
         [ ! -e "$room/$run" ] || sed -n 's/^skipped //p' "$room/$run"
     done
     for run in package-again package; do
@@ -95,9 +105,10 @@ if [ -x crates/tiledraw/out/tiledraw ]; then
     [ "$gate" -ne 0 ] || part release release
     part checked tools/compare_checked.py 1000
     part explained tools/compare_explained.py 100
+    [ ! -e "$room/prefix/lib/libyuzuratchet.so" ] || part calls calls
     part devices tools/test_devices.py
 else
-    failed="$failed${failed:+, }program (so the package's tests, compare_checked, compare_explained and test_devices weren't run over it)"
+    failed="$failed${failed:+, }program (so the package's tests, compare_checked, compare_explained, compare_calls and test_devices weren't run over it)"
 fi
 
 printf '\nfailed: %s; skipped: %s\n' "${failed:-nothing}" "$(skipped | joined)"

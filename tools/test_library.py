@@ -1,7 +1,7 @@
 #!/usr/bin/env python3
 """Tests the C library, and over it the Python package and the page.
 
-    tools/test_library.py [--scenes N] [--prefix FOLDER]
+    tools/test_library.py [--scenes N] [--frames N] [--prefix FOLDER]
 
 It installs the library into a folder of its own (or takes the one in FOLDER), and then
 
@@ -15,7 +15,7 @@ It installs the library into a folder of its own (or takes the one in FOLDER), a
   against plain_device.py (400);
 - plays the same scripts, and random ones, by calls of yuzuratchet_device.h, and holds all against yuzuratchet_draw;
 - tries these calls at their edges, under the thread sanitizer too, with objects that were destroyed where the library
-  looks for that, and over many frames on one device;
+  looks for that, and over many frames on one device, which must not hold more memory from one to the next;
 - refuses each request for memory in turn in drawings of the gallery's shorter scripts;
 - prints what a call costs, beside a process;
 - runs test_library.py and test_calls.py of python/tests over the installed library, and tools/test_page.py.
@@ -77,8 +77,9 @@ ON_A_SMALL_STACK = ("clear.txt", "lists.txt", "eight-contexts.txt", "shadow-volu
 # what fails today. A name leaves this list with the change that mends it
 KNOWN: dict[str, str] = {}
 SCENES_BY_PROGRAM, SCENES_BY_PLAIN_DEVICE = 10000, 400
-# frames on one device, and by how many kilobytes the process may grow behind the first tenth of them
-FRAMES, GROWTH = 100000, 256
+# frames on one device, so many where each takes long, and by how many kilobytes the process may grow behind the first
+# tenth of them
+FRAMES, SLOW_FRAMES, GROWTH = 100000, 100, 256
 # what library/tests/freed.c does with objects that are none: the call and the kind that are told
 FREED = (
     ("device_execute", "list"),
@@ -86,6 +87,8 @@ FREED = (
     ("device_flush", "device"),
     ("context_draw", "context"),
 )
+# what the example of each manual page prints
+MANUALS = dict(zip(install_library.MANUALS, ("pixel 1 1 255 128 0 255 16777215 0\n", "YZ_TOPOLOGY_UNSET\n255 128 0\n")))
 PROJECT = """cmake_minimum_required(VERSION 3.13)
 project(uses LANGUAGES C)
 find_package(Yuzuratchet {wanted} REQUIRED)
@@ -104,6 +107,22 @@ def output(words: Iterable[object], text: bytes = b"", **environment: str) -> by
     last = (ran.stderr or ran.stdout).decode(errors="replace").splitlines()[-3:]
     check(ran.returncode == 0, f"`{Path(command[0]).name}` ended {how}: {' | '.join(last)}")
     return ran.stdout
+
+
+def prototypes_of(header: str) -> dict[str, str]:
+    """The calls that a header declares, by their names."""
+    found = re.findall(r"^(?:YZ_MUST_USE )?([a-z][\w ]* \*?)(\w+)\(([^)]*)\);", header, re.M)
+    return {name: "".join(f"{kind}{name}({taken})".split()) for kind, name, taken in found}
+
+
+def synopsis_of(manual: str) -> dict[str, str]:
+    """The calls in a manual page's synopsis, by their names."""
+    text = re.sub(r"\n\.F[ac]", "", manual.split(".Sh SYNOPSIS\n")[1].split(".Sh ")[0]).replace(".Fo ", ".Fn ")
+    found = {}
+    for kind, name, rest in re.findall(r"^\.Ft (.*)\n\.Fn (\w+)(.*)$", text, re.M):
+        taken = ",".join(re.findall(r'"([^"]*)"', rest)) or rest
+        found[name] = "".join(f"{kind}{name}({taken})".split())
+    return found
 
 
 class LibraryTests:
@@ -131,20 +150,29 @@ class LibraryTests:
         check(sorted(left) == ["lib", "lib/another"], f"{left} is left behind")
         return f"{count} files"
 
-    def names(self) -> None:
+    def names(self) -> str:
         """Headers, manual and map name the same calls, of which each has its version and no other name is seen."""
         calls = sorted(install_library.calls())
-        header, more = (it.read_text(encoding="ascii") for it in self.headers)
-        manual = install_library.MANUAL.read_text(encoding="ascii")
-        declared = sorted(set(re.findall(r"^(?:YZ_MUST_USE )?[a-z][\w ]* \*?(\w+)\(", header + more, re.M)))
-        check(declared == calls, f"the headers declare {declared}, and the map has {calls}")
-        described = sorted(set(re.findall(r"^\.F[no] (yuzuratchet_\w+)", manual, re.M)))
-        check(described == install_library.calls_by_script(), f"the manual describes {described}")
-        statuses = re.findall(r"^    (YUZURATCHET_\w+) = \d+,?$", header, re.M)
-        missing = [it for it in statuses if f".It Dv {it} " not in manual and f", Dv {it} " not in manual]
-        check(len(statuses) == len(STATUSES) and not missing, f"the manual lacks {missing}")
+        declared = [prototypes_of(it.read_text(encoding="ascii")) for it in self.headers]
+        check(sorted([*declared[0], *declared[1]]) == calls, f"the headers declare {declared}, and the map has {calls}")
+        for manual, wanted in zip(install_library.MANUALS, declared):
+            found = synopsis_of(manual.read_text(encoding="ascii"))
+            other = [it for it in {**found, **wanted} if found.get(it) != wanted.get(it)]
+            check(not other, f"{manual.name} has other prototypes than the header: {other}")
+            check(sorted(found) == install_library.calls_of(manual), f"{manual.name} describes {sorted(found)}")
+        numbers = [self.lacking(*both) for both in zip(self.headers, install_library.MANUALS)]
         seen = [line.split() for line in output(["nm", "-g", "--defined-only", self.archive]).decode().splitlines()]
         check(sorted(it[2] for it in seen if len(it) == 3) == calls, f"the archive has the names {seen}")
+        return f"{len(calls)} calls, {numbers[0]} statuses, {numbers[1]} results"
+
+    def lacking(self, header: Path, manual: Path) -> int:
+        """How many answers of a header's calls stand in its manual page, which are all of them."""
+        text, page = header.read_text(encoding="ascii"), manual.read_text(encoding="ascii")
+        inside = re.findall(r"^enum (?:yz_results|yuzuratchet_status) {\n(.*?)^}", text, re.M | re.S)
+        answers = re.findall(r"^    ([A-Z]\w+) = (\d+),?$", inside[0], re.M)
+        missing = [name for name, number in answers if f"Dv {name} Pq {number}" not in page]
+        check(answers and not missing, f"{manual.name} lacks {missing}")
+        return len(answers)
 
     def versions(self) -> None:
         """Symbols of the shared object have versions, and the loader is told of the processor that is wanted."""
@@ -154,20 +182,20 @@ class LibraryTests:
         told_of = output(["readelf", "-d", "-n", self.shared]).decode()
         check(f"[{install_library.SONAME}]" in told_of and "x86-64-v2" in told_of, "soname or processor isn't told")
 
-    def manual(self) -> str:
-        """The pages have no fault that mandoc knows of, and the example of the header's page is a program."""
+    def manual(self, manual: Path, prints: str) -> str:
+        """A page has no fault that mandoc knows of, and its example is a program."""
         if shutil.which("mandoc"):
-            found = subprocess.run(
-                ["mandoc", "-T", "lint", install_library.MANUAL], capture_output=True, text=True, check=False
-            ).stdout
-            faults = [line for line in found.splitlines() if "mandoc.db" not in line]
+            found = subprocess.run(["mandoc", "-T", "lint", manual], capture_output=True, text=True, check=False).stdout
+            # (mandoc knows what is installed, and a page names the other)
+            others = ("mandoc.db", *(f"not found: Xr {it.stem} 3" for it in install_library.MANUALS))
+            faults = [line for line in found.splitlines() if not any(it in line for it in others)]
             check(not faults, " | ".join(faults))
-        page = install_library.MANUAL.read_text(encoding="ascii")
+        page = manual.read_text(encoding="ascii")
         example = re.findall(r"\.Sh EXAMPLES\n\.Bd -literal\n(.*?)\.Ed\n", page, re.S)[0]
         source = self.folder / "manual.c"
         source.write_text(example.replace(r"\e", "\\"), encoding="ascii")
-        printed = output([self.built("cc", "manual", source)])
-        check(printed == b"pixel 1 1 255 128 0 255 16777215 0\n", f"it prints {printed!r}")
+        printed = output([self.built("cc", "manual", source)]).decode()
+        check(printed == prints, f"the example prints {printed!r}")
         return "" if shutil.which("mandoc") else "the command mandoc is missing, so its faults weren't looked for"
 
     def package_config(self, compiler: str) -> None:
@@ -217,7 +245,7 @@ class LibraryTests:
         return out
 
     def build_all(self, compiler: str) -> None:
-        examples = [install_library.LIBRARY / name for name in ("example.c", "cube.c")]
+        examples = [install_library.LIBRARY / name for name in ("example.c", "cube.c", "recorders.c")]
         for source in [*examples, *sorted(TESTS.glob("*.c"))]:
             self.built(compiler, f"{compiler}-{source.stem}", source)
             self.built(compiler, f"{compiler}-{source.stem}-shared", source, static=False)
@@ -376,6 +404,9 @@ class LibraryTests:
         """Eight contexts record side by side."""
         program = self.built(compiler, "edges-thread", TESTS / "device_edges.c", "-fsanitize=thread")
         output([program], TSAN_OPTIONS="halt_on_error=1")
+        source = install_library.LIBRARY / "recorders.c"
+        self.built(compiler, f"{compiler}-recorders-thread", source, "-fsanitize=thread")
+        self.recorders(compiler, "-thread")
 
     def cube(self, compiler: str, before: Sequence[str] = ()) -> str:
         """The cube turns, each frame as it is when it is drawn alone."""
@@ -389,9 +420,19 @@ class LibraryTests:
         check(len(pixels) == 4 * 256 * 256 and f"{drawn} pixels" == lines[-1], f"{drawn} pixels of the image are drawn")
         return f"{min(sizes)} to {max(sizes)} pixels"
 
-    def frames(self, compiler: str, count: int) -> str:
+    def recorders(self, compiler: str, kind: str = "", before: Sequence[str] = ()) -> None:
+        """Eight threads record squares, of which each is seen beside the one before it."""
+        printed = output(
+            [*before, self.folder / f"{compiler}-recorders{kind}"], TSAN_OPTIONS="halt_on_error=1"
+        ).decode()
+        wanted = ["refused with 7", "4096 pixels", *7 * ["1792 pixels"]]
+        check(printed.splitlines() == wanted, f"it prints {printed!r}")
+
+    def frames(self, compiler: str, count: int, kind: str = "", before: Sequence[str] = ()) -> str:
         """A device that stays draws frame after frame, and takes no more memory for it."""
-        each, grown = output([self.folder / f"{compiler}-frames", str(count)]).decode().split()
+        each, grown = output([*before, self.folder / f"{compiler}-frames{kind}", str(count)]).decode().split()
+        if before or kind:
+            return f"{count} frames"
         check(int(grown) < GROWTH, f"the process grew by {grown} KB over {count} frames")
         return f"{each} microseconds of processor time a frame, {grown} KB more after {count} frames"
 
@@ -486,7 +527,8 @@ def test_installed(results: Results, tests: LibraryTests, compiler: str) -> None
     results.test("layout", tests.layout)
     results.test("names", tests.names)
     results.test("symbol versions", tests.versions)
-    results.test("manual", tests.manual)
+    for manual, prints in MANUALS.items():
+        results.test(f"manual {manual.stem}", tests.manual, manual, prints)
     test_if(results, "pkg-config", "pkg-config", tests.package_config, compiler)
     test_if(results, "cmake", "CMake", tests.cmake)
     for name in ("g++", "clang++"):
@@ -505,6 +547,7 @@ def test_compiler(results: Results, tests: LibraryTests, compiler: str) -> bool:
         results.test(f"{compiler} edges of calls{kind}", tests.ends_well, f"{compiler}-device_edges{kind}")
     results.test(f"{compiler} example", tests.example, compiler)
     results.test(f"{compiler} cube", tests.cube, compiler)
+    results.test(f"{compiler} recorders", tests.recorders, compiler)
     results.test(f"{compiler} scripts by calls, sanitized", tests.by_calls, compiler, "-sanitized")
     results.test(f"{compiler} numbers of 128 bits", tests.ends_well, f"{compiler}-wide-sanitized")
     return True
@@ -537,17 +580,20 @@ def test_drawing(results: Results, tests: LibraryTests, compiler: str, scenes: i
         results.skip("the program's bytes and its cost", "crates/tiledraw isn't built, so plain_device.py stood in")
 
 
-def test_calls(results: Results, tests: LibraryTests, compiler: str, scenes: int | None) -> None:
+def test_calls(results: Results, tests: LibraryTests, compiler: str, scenes: int | None, frames: int) -> None:
     """The calls by objects, as far as it is the same with each compiler."""
     results.test("scripts by calls", tests.by_calls, compiler)
     results.test("random scenes by calls", tests.random_scenes_by_calls, compiler, scenes or SCENES_BY_PROGRAM)
     results.test("calls on threads", tests.calls_on_threads, compiler)
-    results.test("frames", tests.frames, compiler, FRAMES)
+    results.test("frames", tests.frames, compiler, frames)
+    results.test("frames, sanitized", tests.frames, compiler, SLOW_FRAMES, "-sanitized")
     if toolchain.is_there():
         results.test("destroyed objects", tests.freed, compiler)
     else:
         results.skip("destroyed objects", "the command rt is missing, which builds the library that looks for them")
+    test_if(results, "valgrind", "recorders under valgrind", tests.recorders, compiler, "", VALGRIND)
     edges = tests.folder / f"{compiler}-device_edges"
+    test_if(results, "valgrind", "frames under valgrind", tests.frames, compiler, SLOW_FRAMES, "", VALGRIND)
     test_if(results, "valgrind", "edges of calls under valgrind", output, [*VALGRIND, edges])
     test_if(results, "valgrind", "scripts by calls under valgrind", tests.by_calls, compiler, "", VALGRIND)
 
@@ -575,7 +621,7 @@ def above(words: Iterable[object], more: dict[str, str]) -> str:
     return last
 
 
-def test_all(results: Results, prefix: Path, folder: Path, scenes: int | None) -> None:
+def test_all(results: Results, prefix: Path, folder: Path, words: argparse.Namespace) -> None:
     if not (prefix / "lib" / "libyuzuratchet.a").exists() and not results.test(
         "install", install_library.install, prefix
     ):
@@ -589,8 +635,8 @@ def test_all(results: Results, prefix: Path, folder: Path, scenes: int | None) -
     test_installed(results, tests, compilers[0])
     working = [name for name in compilers if test_compiler(results, tests, name)]
     if working:
-        test_drawing(results, tests, working[0], scenes)
-        test_calls(results, tests, working[0], scenes)
+        test_drawing(results, tests, working[0], words.scenes)
+        test_calls(results, tests, working[0], words.scenes, words.frames)
     test_above(results, tests.shared)
 
 
@@ -598,13 +644,15 @@ def main() -> int:
     parser = argparse.ArgumentParser(description=__doc__, formatter_class=argparse.RawDescriptionHelpFormatter)
     many = f"how many random scenes ({SCENES_BY_PROGRAM}, or {SCENES_BY_PLAIN_DEVICE} where no program is built)"
     parser.add_argument("--scenes", metavar="N", type=whole_number(0), help=many)
+    several = f"how many frames on one device ({FRAMES})"
+    parser.add_argument("--frames", metavar="N", type=whole_number(1), default=FRAMES, help=several)
     parser.add_argument("--prefix", metavar="FOLDER", type=Path, help="where the library is installed, or is to be")
     words = parser.parse_args()
     results = Results(KNOWN, [toolchain.NotBuilt])
     with tempfile.TemporaryDirectory() as room:
         folder = Path(room)
         prefix = words.prefix.absolute() if words.prefix else folder / "prefix"
-        test_all(results, prefix, folder, words.scenes)
+        test_all(results, prefix, folder, words)
     print(results.last_line)
     return results.status
 

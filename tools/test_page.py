@@ -4,7 +4,8 @@
     tools/test_page.py [--module FILE.wasm] [--picture FILE.png]
 
 In both each script of the gallery gives the answers and the image that crates/gallery/stdout has, in node by calls too.
-There the modules of web/engine are tried alone (web/tests), pixels' histories are held against the package's `explain`,
+There the package's examples are run, the modules of web/engine are tried alone (web/tests), a device that goes forth
+and back to lines is held against what these lines draw as a text, pixels' histories against the package's `explain`,
 and columns of faults against its `check`. In the browser scripts are chosen, typed, opened, linked and played by lines,
 pixels are pointed at and tapped, and each is compared with what the device gives elsewhere; the page is looked at in
 narrow windows and at fractional ratios of pixels. In Firefox all is tried that needs neither pointer nor keys. Types
@@ -39,8 +40,9 @@ from browser import Browser, BrowserError, find_browser
 from firefox import Firefox, find_firefox
 from page_features import FeatureTests
 from page_in_browser import DATA, PLAYED, PlayingTests, take_picture, without_memory64, without_scripts
+from release import javascript
 from results import Results, check
-from yuzuratchet import Scene, YuzuratchetError, load_script, page
+from yuzuratchet import Scene, YuzuratchetError, __version__, load_script, page
 from yuzuratchet.backends import draw
 from yuzuratchet.check import located
 from yuzuratchet.ending import ended
@@ -69,7 +71,11 @@ ASKED_BY_LINES = [
 ]
 # scenes in which it is asked in two ways what touched a pixel, and changed scripts whose faulty letters are asked for
 RANDOM_SCENES, CHANGED_SCRIPTS = 40, 300
-SCENES_BY_CALLS = 500
+SCENES_BY_CALLS, SCENES_ON_SLIDER = 500, 200
+# what the package's examples print, as those in C and in Python do: of a cube its first three frames
+CUBE = ["26122 pixels", "26154 pixels", "26079 pixels"]
+CUBE_REFUSED = "refused: YZ_TOPOLOGY_UNSET"
+RECORDERS = ["refused with 7", "4096 pixels", *7 * ["1792 pixels"]]
 IN_CHROMIUM = (
     "answers",
     "menu",
@@ -174,6 +180,24 @@ class NodeTests:
         )
         return f"{len(expected())} scripts"
 
+    def examples(self) -> str:
+        """The package's examples, over the module."""
+        for name, it in javascript.package(__version__, self.module.read_bytes(), {}).items():
+            path = self.room / name
+            path.parent.mkdir(parents=True, exist_ok=True)
+            path.write_bytes(it.data)
+        cube, recorders = self.example("cube", "60"), self.example("recorders")
+        check(cube[:3] == CUBE and cube[60:] == [CUBE_REFUSED], f"{cube}")
+        check(recorders == RECORDERS, f"{recorders}")
+        return "60 frames of a cube, 8 recorders"
+
+    def example(self, name: str, *words: str) -> list[str]:
+        """What an example prints."""
+        command: list[Any] = [*self.words, "--no-warnings", self.room / "package" / "examples" / f"{name}.js", *words]
+        ran = subprocess.run(command, capture_output=True, encoding="utf-8", timeout=SECONDS, check=False)
+        check(ran.returncode == 0, ran.stderr.strip()[-600:])
+        return ran.stdout.splitlines()
+
     def memory(self) -> None:
         names = ["lists.txt", "two-faced-count.txt", "rows/four-tiles-cut-behind-14.txt"]
         check(self.printed("memory", names).split() == names, "something else was printed")
@@ -183,6 +207,14 @@ class NodeTests:
         names = write_random_scenes(self.room, SCENES_BY_CALLS)
         check(self.printed("calls", names, self.room).split() == names, "something else was printed")
         return f"{len(names)} scenes"
+
+    def slider(self) -> str:
+        """A device that goes forth and back to lines, against what is drawn of the lines as a text."""
+        scripts = [it for it in expected() if "largest" not in it]
+        scenes = write_random_scenes(self.room, SCENES_ON_SLIDER)
+        printed = self.printed("slider", scripts) + self.printed("slider", scenes, self.room)
+        check(printed.split() == scripts + scenes, "something else was printed")
+        return f"{len(scripts) + len(scenes)} scripts"
 
     def history(self) -> str:
         """The lines that changed a pixel, against a play of the script up to each line."""
@@ -274,7 +306,7 @@ def test_in_node(results: Results, node: str | None, module: pathlib.Path) -> No
     words, why = node_words(node)
     with tempfile.TemporaryDirectory(prefix="page-") as room:
         tests = NodeTests(words, module, room) if words else None
-        for name in ("units", "gallery", "calls", "memory", "history", "explained", "blamed"):
+        for name in ("units", "gallery", "examples", "calls", "slider", "memory", "history", "explained", "blamed"):
             reason = why_no_device() if words and name == "explained" else why
             if reason:
                 results.skip(f"node {name}", reason)

@@ -40,7 +40,7 @@ import package_path
 from browser import Browser, BrowserError, find_browser
 from release import debian
 from results import Results, check
-from test_page import QuietHandler, node_words
+from test_page import CUBE, CUBE_REFUSED, RECORDERS, QuietHandler, node_words
 from toolchain import NotBuilt, run
 from yuzuratchet import __version__
 from yuzuratchet.ending import ended
@@ -73,8 +73,6 @@ for name in (folder / "index").read_text().split():
     ran = draw((folder / name).read_bytes(), backend="library")
     print(f"{name}\\n{ran.answers}image {hashlib.sha256(ran.image).hexdigest()}")
 """
-# what the package's example prints of three frames, as library/cube.c does
-CUBE = ["26122 pixels", "26154 pixels", "26079 pixels", "refused: YZ_TOPOLOGY_UNSET"]
 BY_PACKAGE = """
 import { Plane, createDevice, draw } from "yuzuratchet";
 import { DrawingWorker } from "yuzuratchet/worker";
@@ -323,7 +321,8 @@ class ReleaseTests:
     def manuals(self) -> None:
         """Each page is found by its name, and completions are shell's."""
         pages = {"MANPATH": str(self.tarball_folder / "share" / "man"), "MANPAGER": "cat", "LC_ALL": "C.UTF-8"}
-        for name, says in (("tiledraw", "--workers"), ("yuzuratchet", "suite"), ("yuzuratchet_draw", "report")):
+        said = {"tiledraw": "--workers", "yuzuratchet": "suite", "yuzuratchet_draw": "report"}
+        for name, says in {**said, "yz_device_draw": "YZ_DRAW_RANGE", "yuzuratchet_device.h": "yz_list"}.items():
             check(says in self.of_tarball.run(["man", name], 0, pages), f"the page {name} is another")
         for path in sorted((self.tarball_folder / "share" / "bash-completion" / "completions").iterdir()):
             self.of_tarball.run(["bash", "-n", path])
@@ -372,7 +371,9 @@ class ReleaseTests:
         said = place.run([*words, "--no-warnings", "calls.js"])
         check("7 YZ_TOPOLOGY_UNSET" in said, said)
         cube = place.run([*words, "--no-warnings", "node_modules/yuzuratchet/examples/cube.js", "3"])
-        check(cube.splitlines() == CUBE, cube)
+        check(cube.splitlines() == [*CUBE, CUBE_REFUSED], cube)
+        recorders = place.run([*words, "--no-warnings", "node_modules/yuzuratchet/examples/recorders.js"])
+        check(recorders.splitlines() == RECORDERS, recorders)
         return f"{len(names)} scripts, {(self.dist / f'{NAME}.tgz').stat().st_size} bytes"
 
     def browser(self, program: str) -> str:

@@ -1,6 +1,7 @@
 /*
  * Plays scripts by calls, and holds answers and image against yuzuratchet_draw byte for byte: `by_calls SCRIPT..`. Of a
- * script whose text has a fault nothing is played. It prints how many are the same, differ, or have a fault.
+ * script whose text has a fault nothing is played. Before each line stand calls that no script has, which are refused
+ * and leave all as it was. It prints how many are the same, differ, or have a fault.
  */
 #include "check.h"
 #include "yuzuratchet_device.h"
@@ -57,6 +58,17 @@ static void answer(const char *line) {
 #define NAMED(name) context_##name
 #include "record_line.inc"
 
+/* Questions that no script has, whose answers have nowhere to go. */
+static void disturb(void) {
+    const yz_rect corner = {0, 0, 1, 1};
+    uint8_t byte = 99;
+    device_disturb(play.device);
+    CHECK(yz_device_execute(play.device, NULL, 1) == YZ_NULL_POINTER);
+    CHECK(yz_device_get_data(play.device, 0, NULL) == YZ_NULL_POINTER);
+    CHECK(yz_device_pixel(play.device, 0, 0, NULL) == YZ_NULL_POINTER);
+    CHECK(yz_device_read(play.device, YZ_PLANE_RGBA8, &corner, &byte, 1, 4) == YZ_BAD_AREA && byte == 99);
+}
+
 static yz_result query_line(uint32_t query) {
     uint64_t told = 0;
     char line[80];
@@ -78,6 +90,7 @@ static yz_result pixel_line(uint32_t x, uint32_t y) {
 
 static yz_result immediate_line(const char *word, struct numbers of) {
     const int64_t *const n = of.all;
+    disturb();
     if (is(word, "flush")) return yz_device_flush(play.device);
     if (is(word, "exec")) return yz_device_execute(play.device, play.lists[n[0]][n[1]], (int)n[2]);
     if (is(word, "query")) return query_line((uint32_t)n[0]);
@@ -87,6 +100,8 @@ static yz_result immediate_line(const char *word, struct numbers of) {
 
 static yz_result deferred_line(size_t which, const char *word, struct numbers of) {
     if (play.contexts[which] == NULL) CHECK(yz_context_create(&play.contexts[which]) == YZ_OK);
+    context_disturb(play.contexts[which]);
+    CHECK(yz_context_finish(play.contexts[which], 1, NULL) == YZ_NULL_POINTER);
     if (!is(word, "finish")) return context_line(play.contexts[which], word, of);
     size_t *const count = &play.list_count[which];
     CHECK(*count < LISTS);

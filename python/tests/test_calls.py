@@ -2,17 +2,23 @@
 
 from __future__ import annotations
 
+import os
+import subprocess
+import sys
 import threading
+from concurrent.futures import ThreadPoolExecutor
 from pathlib import Path
 
+import compare_calls
 import numpy as np
 import pytest
-from conftest import DATA, gallery_names
+from conftest import DATA, TOP, gallery_names
 
 from yuzuratchet import (
     ArgumentError,
     CallRefused,
     LibraryMissing,
+    Line,
     PixelAnswer,
     PrimitiveTopology,
     QueryAnswer,
@@ -22,6 +28,7 @@ from yuzuratchet import (
 )
 from yuzuratchet.calls import Device, LiveContext
 from yuzuratchet.errors import ProgramFailed, WrongType
+from yuzuratchet.images import load
 from yuzuratchet.library import run_library
 from yuzuratchet.recipes import count_overlaps
 from yuzuratchet.results import Result
@@ -92,6 +99,39 @@ def test_a_refused_call_is_no_end(tmp_path: Path) -> None:
     device.close()
 
 
+def by_calls(scenes: int, monkeypatch: pytest.MonkeyPatch, folder: Path) -> dict[int, int]:
+    """How many calls of random scenes were refused with each number, where all agree with the program."""
+    monkeypatch.chdir(folder)
+    monkeypatch.setattr("sys.argv", ["compare_calls.py", str(scenes)])
+    with ThreadPoolExecutor(1) as pool:
+        return compare_calls.compare(compare_calls.parsed(), pool)
+
+
+def test_random_scenes_go_on_behind_refused_calls(
+    monkeypatch: pytest.MonkeyPatch, tmp_path: Path
+) -> None:
+    numbers = by_calls(40, monkeypatch, tmp_path)
+    assert {3, 5, 7, 8, 9, 10, 11, 12, 15, 17, 20} <= set(numbers)
+
+
+def test_what_a_refused_call_leaves_behind_is_found(
+    monkeypatch: pytest.MonkeyPatch, tmp_path: Path
+) -> None:
+    take = LiveContext.take
+
+    def leaving(context: LiveContext, line: Line) -> None:
+        try:
+            take(context, line)
+        except CallRefused:
+            context._held.call("clear_color", 1, 2, 3, 4)
+            raise
+
+    monkeypatch.setattr(LiveContext, "take", leaving)
+    with pytest.raises(SystemExit, match="its lines are in differs.txt"):
+        by_calls(20, monkeypatch, tmp_path)
+    assert (tmp_path / "differs.txt").is_file()
+
+
 def test_lists_are_executed_again() -> None:
     device, other = Device(16, 16), Device(16, 16)
     recorder = device.deferred[3]
@@ -159,6 +199,27 @@ def test_a_recording_leaves_out_what_is_refused() -> None:
     with pytest.raises(CallRefused):
         device.immediate.end(5)
     assert scene.script().splitlines() == ["target 8 8", "i clearc 1 2 3 4"]
+
+
+def printed_by(name: str, folder: Path, *words: str) -> list[str]:
+    """What an example prints."""
+    command = [sys.executable, "-B", str(TOP / "python" / "examples" / "calls" / name), *words]
+    environment = {**os.environ, "PYTHONPATH": str(TOP / "python" / "src")}
+    ran = subprocess.run(command, cwd=folder, env=environment, capture_output=True, text=True)
+    assert (ran.returncode, ran.stderr) == (0, "")
+    return ran.stdout.splitlines()
+
+
+def test_the_cube_turns_as_that_in_c_does(tmp_path: Path) -> None:
+    frames = printed_by("turning_cube.py", tmp_path, "cube.png", "60")
+    assert frames[:3] == ["26122 pixels", "26154 pixels", "26079 pixels"] and len(frames) == 60
+    seen = (load(tmp_path / "cube.png")[..., :3] != (24, 28, 40)).any(axis=2).sum()
+    assert frames[-1] == f"{seen} pixels"
+
+
+def test_eight_threads_record(tmp_path: Path) -> None:
+    squares = ["4096 pixels", *7 * ["1792 pixels"]]
+    assert printed_by("recorders.py", tmp_path) == ["refused with 7", *squares]
 
 
 def test_a_recording_begins_before_all_calls() -> None:

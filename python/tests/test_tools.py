@@ -27,8 +27,8 @@ TOOLS = sorted(
 MODULES = {
     *("browser", "checked_build", "conformance_calls", "conformance_merger"),
     *("conformance_raster", "conformance_scripts", "firefox", "mutated_scripts"),
-    *("package_path", "page_features", "page_in_browser", "random_scenes", "results"),
-    *("toolchain",),
+    *("package_path", "page_features", "page_in_browser", "random_scenes", "refused_lines"),
+    *("results", "toolchain"),
 }
 
 
@@ -105,6 +105,10 @@ def test_each_file_is_a_tool_or_a_module() -> None:
         ("tools/compare.py", "x"),
         ("tools/compare.py", "1", "--without", "nothing"),
         ("tools/compare.py", "1", "--program", "/no/such/program"),
+        ("tools/compare_calls.py", "0"),
+        ("tools/compare_calls.py", "1", "--groups", "-1"),
+        ("tools/compare_calls.py", "1", "--program", "/no/such/program"),
+        ("tools/compare_calls.py", "1", "--library", "/no/such/library"),
         ("tools/compare_checked.py", "0"),
         ("tools/compare_checked.py", "1", "--program", "/no/such/program"),
         ("tools/compare_explained.py", "-1"),

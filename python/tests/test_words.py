@@ -14,12 +14,15 @@ from yuzuratchet.messages import FAULTS, REFUSALS, Message, message_of
 from yuzuratchet.words import ACTORS, DEFERRED, TARGET, WORDS
 
 PAGE = (TOP / "docs" / "SCRIPT.md").read_text(encoding="utf-8")
+CALLS = (TOP / "docs" / "API.md").read_text(encoding="utf-8")
+HEADER = (TOP / "library" / "yuzuratchet_device.h").read_text(encoding="ascii")
+DEVICE_JS = (TOP / "web" / "engine" / "device.js").read_text(encoding="utf-8")
 
 
-def rows(section: str) -> list[list[str]]:
+def rows(section: str, page: str = PAGE) -> list[list[str]]:
     """The rows of the first table of a section, without its head."""
-    text = re.split(r"^##+ ", PAGE.split(f"\n## {section}\n", 1)[1], flags=re.M)[0]
-    lines = [line for line in text.splitlines() if line.startswith("|")]
+    text = re.split(r"^##+ ", page.split(f"\n## {section}\n", 1)[1], flags=re.M)[0]
+    lines = text.partition("\n|")[2].partition("\n\n")[0].splitlines()
     return [[cell.strip() for cell in line.strip("|").split("|")] for line in lines[2:]]
 
 
@@ -30,6 +33,31 @@ def test_the_page_has_the_words_and_their_actors() -> None:
             page[name] = (immediate == "✓", deferred == "✓")
     assert page.pop("target") == (False, False)
     assert page == {name: (word.immediate, word.deferred) for name, word in WORDS.items()}
+
+
+def test_the_names_of_calls_are_those_of_the_header() -> None:
+    named = {name for row in rows("Names", CALLS) for name in re.findall(r"`([.\w]+)`", row[1])}
+    kinds = ("yz_device", "yz_context")
+    named = {name.replace("..", kind) for name in named for kind in kinds}
+    declared = set(re.findall(r"\b(yz_\w+)\(", HEADER))
+    assert named == {it for it in declared if not re.search("_destroy|^yz_result_", it)}
+
+
+def test_the_names_of_calls_are_those_of_the_package() -> None:
+    calls = pytest.importorskip("yuzuratchet.calls")
+    kinds = (calls.LiveDeferredContext, calls.LiveImmediateContext)
+    own = {"Device", "deferred", *(name for it in (calls.Device, *kinds) for name in dir(it))}
+    for _, _, names, word in rows("Names", CALLS):
+        for name in re.findall(r"`(\w+)`", names):
+            assert name in own, name
+            spelled = re.sub(r"_(\w)", lambda found: found[1].upper(), name)
+            assert re.search(rf"\b{spelled}\b", DEVICE_JS) or name == "image", spelled
+        assert set(re.findall(r"`(\w+)`", word)) <= {*WORDS, TARGET.name, *DEFERRED}, word
+
+
+def test_each_word_has_a_call() -> None:
+    named = {word for row in rows("Names", CALLS) for word in re.findall(r"`(\w+)`", row[3])}
+    assert named >= {*WORDS, TARGET.name}
 
 
 @pytest.mark.parametrize("name", [*WORDS, "target"])

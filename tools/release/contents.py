@@ -80,7 +80,7 @@ def library(release: Release, prefix: pathlib.Path, libdir: str) -> dict[str, Fi
         **links,
         **written,
         **{f"include/{it}": File((install_library.LIBRARY / it).read_bytes()) for it in install_library.HEADERS},
-        f"share/man/man3/{install_library.MANUAL.name}": File(install_library.MANUAL.read_bytes()),
+        **{f"{install_library.MAN}/{it.name}": File(it.read_bytes()) for it in install_library.MANUALS},
     }
 
 

@@ -1,9 +1,10 @@
-// A script in the making that asks about one pixel, and sets a state only where it changes.
+// A device of its own that is asked about one pixel, and on which a state is set only where it changes.
 
-import { answersOf, pixelOf, refusalOf } from "./playing.js";
-import { bytesOf, joined } from "./script.js";
+import { Device } from "./device.js";
+import { record } from "./recording.js";
+import { PrimitiveTopology } from "./states.js";
 
-/** @typedef {import("./module.js").Draw} Draw */
+/** @typedef {import("./module.js").Module} Module */
 /** @typedef {import("./script.js").Script} Script */
 /** @typedef {import("./session.js").Item} Item */
 
@@ -11,27 +12,34 @@ export const NO_TESTS = "0 0 8 0 255 255 1 1 1 8 1 1 1 8 0";
 export const ANY_DEPTH = "1 1 8 0 255 255 1 1 1 8 1 1 1 8 0";
 export const NO_COLOUR = "0 4 0";
 
+const QUERY = 0;
+
 export class Asking {
     /**
-     * @param {Draw} draw
+     * @param {Module} module
      * @param {{x: number, y: number}} pixel
      */
-    constructor(draw, { x, y }) {
-        this.draw = draw;
+    constructor(module, { x, y }) {
+        // (what lies right of the pixel or below it is of no matter)
+        this.device = new Device(module, x + 1, y + 1);
+        this.context = this.device.immediate;
+        this.context.iaSetTopology(PrimitiveTopology.TRIANGLELIST);
         this.x = x;
         this.y = y;
         /** the scissor rectangle of the pixel */
         this.alone = `${x} ${y} ${x + 1} ${y + 1}`;
-        // (what lies right of the pixel or below it is of no matter)
-        this.pieces = [bytesOf(`target ${x + 1} ${y + 1}\ni topology 4\n`)];
         /** @type {Record<string, string | number>} */
         this.set = {};
-        this.count = 0;
     }
 
-    /** @param {string} text */
-    add(text) {
-        this.pieces.push(bytesOf(text));
+    /**
+     * Makes a call by its word.
+     *
+     * @param {string} word
+     * @param {number[]} numbers
+     */
+    record(word, numbers) {
+        record(this.context, word, numbers);
     }
 
     /** @param {Record<string, string>} states the numbers of lines by their words */
@@ -39,7 +47,7 @@ export class Asking {
         for (const [word, numbers] of Object.entries(states)) {
             if (this.set[word] === numbers) continue;
             this.set[word] = numbers;
-            this.add(`i ${word}${numbers && " "}${numbers}\n`);
+            this.record(word, numbers.split(" ").map(Number));
         }
     }
 
@@ -55,35 +63,29 @@ export class Asking {
             const line = item.state[word];
             if (this.set[word] === line) continue;
             this.set[word] = line;
-            this.pieces.push(line ? script.asImmediate(line) : bytesOf(`i ${word}\n`));
+            this.record(word, line ? script.numbers(line) : []);
         }
     }
 
-    /** Asks for the pixel, and gives the place of the answer. */
+    /** What the pixel holds. */
     pixel() {
-        this.add(`i pixel ${this.x} ${this.y}\n`);
-        return this.count++;
+        return this.context.pixel(this.x, this.y);
     }
 
     /**
-     * Draws, asks how many pixels passed, and gives the place of the answer.
+     * Draws, and tells whether a pixel passed.
      *
-     * @param {string} call
+     * @param {string} word
+     * @param {number[]} numbers
      */
-    counted(call) {
-        this.add(`i begin 0\ni ${call}\ni end 0\ni query 0\n`);
-        return this.count++;
+    passes(word, numbers) {
+        this.context.begin(QUERY);
+        this.record(word, numbers);
+        this.context.end(QUERY);
+        return this.context.getData(QUERY) > 0;
     }
 
-    /** Draws what was written: by its place what each question is answered. */
-    answers() {
-        const answers = answersOf(this.draw(joined(this.pieces)).lines);
-        const refused = refusalOf(answers);
-        if (refused)
-            throw new Error(`the device refuses a question about a pixel (${refused.line}, ${refused.number})`);
-        return {
-            pixel: (/** @type {number} */ place) => pixelOf(answers[place]),
-            passed: (/** @type {number} */ place) => Number(answers[place].split(" ")[2]) > 0,
-        };
+    dispose() {
+        this.device.dispose();
     }
 }

@@ -1,18 +1,17 @@
 // Why a pixel is what it is: each clear, and each triangle that covers it, with what became of the pixel.
 //
-// The device itself says it. Its image is the same however its commands are grouped, so the script is rewritten into
-// others that ask more of it: which draws and triangles cover the pixel, and then, with these alone and the lists
-// unrolled under their own state, which of their tests refuses, and what the pixel holds behind each. The package's
-// `explain` asks in the same way.
+// The device itself says it. What a script leaves is the same however its commands are grouped, so another device is
+// asked more: which draws and triangles cover the pixel, and then, with these alone and the lists unrolled under their
+// own state, which of their tests refuses, and what the pixel holds behind each. The package's `explain` asks in the
+// same way.
 
 import { ANY_DEPTH, Asking, NO_COLOUR, NO_TESTS } from "./asking.js";
 import { triangles } from "./assembly.js";
-import { performedBy } from "./performed.js";
+import { PrimitiveTopology } from "./states.js";
 
-/** @typedef {import("./module.js").Draw} Draw */
+/** @typedef {import("./device.js").PixelValue} PixelValue */
 /** @typedef {import("./language.js").Tables} Tables */
-/** @typedef {import("./playing.js").PixelValue} PixelValue */
-/** @typedef {import("./script.js").Script} Script */
+/** @typedef {import("./player.js").Player} Player */
 /** @typedef {import("./session.js").Item} Item */
 /** @typedef {import("./session.js").Performed} Performed */
 /**
@@ -51,6 +50,9 @@ const STATES = ["raster", "scissor", "ds", "blend"];
 // that many triangles are asked for at once, and each alone where one of them covers the pixel
 const GROUP = 64;
 const PARTS = 5;
+// count and start of one triangle, and of two
+const ONE = [3, 0], TWO = [6, 0];
+const LIST = String(PrimitiveTopology.TRIANGLELIST);
 
 /**
  * Whether two values of a pixel are the same.
@@ -64,40 +66,55 @@ export function same(a, b) {
 
 export class PixelHistory {
     /**
-     * @param {Draw} draw
-     * @param {Script} script
+     * @param {Player} player a device, with nothing pending, behind the line up to which is asked
      * @param {Tables} tables
      * @param {{x: number, y: number}} pixel
      */
-    constructor(draw, script, tables, pixel) {
-        this.draw = draw;
-        this.script = script;
+    constructor(player, tables, pixel) {
+        this.player = player;
+        this.script = player.script;
         this.tables = tables;
         this.pixel = pixel;
-    }
-
-    asking() {
-        return new Asking(this.draw, this.pixel);
+        /** @type {Map<number, number[]>} the numbers of lines with vertices */
+        this.vertices = new Map();
     }
 
     /**
-     * The steps up to a line.
+     * Lends a device that is asked about the pixel.
      *
-     * @param {number} last
+     * @template Result
+     * @param {(asking: Asking) => Result} use
+     * @returns {Result}
+     */
+    asking(use) {
+        const asking = new Asking(this.player.module, this.pixel);
+        try {
+            return use(asking);
+        } finally {
+            asking.dispose();
+        }
+    }
+
+    /**
+     * The steps up to the line.
+     *
      * @param {(done: number, all: number) => void} [tell] hears how far it is
      * @returns {Step[]}
      */
-    steps(last, tell = () => {}) {
-        const { performed, withholds, end } = performedBy(this.draw, this.script, last, this.pixel);
+    steps(tell = () => {}) {
+        const { performed, device } = this.player;
+        const end = device.immediate.pixel(this.pixel.x, this.pixel.y);
         tell(1, PARTS);
-        const draws = this.covering(
-            new Set(performed.flatMap(({ list }) => list.items.filter(({ word }) => word.startsWith("draw")))));
-        tell(2, PARTS);
-        const candidates = this.candidates(draws);
-        tell(3, PARTS);
-        const covering = this.measured(candidates);
+        const draws = new Set(performed.flatMap(({ list }) => list.items.filter(({ word }) => word.startsWith("draw"))));
+        const covering = this.asking((asking) => {
+            const those = this.covering(asking, draws);
+            tell(2, PARTS);
+            const candidates = this.candidates(asking, those);
+            tell(3, PARTS);
+            return this.measured(asking, candidates);
+        });
         tell(4, PARTS);
-        const steps = this.replayed([...this.touches(performed, covering, withholds)]);
+        const steps = this.asking((asking) => this.replayed(asking, [...this.touches(performed, covering)]));
         const content = steps.length ? steps[steps.length - 1].after : end;
         if (!same(content, end)) throw new Error("drawn step by step, the script ends in another pixel");
         return steps;
@@ -106,20 +123,18 @@ export class PixelHistory {
     /**
      * The draws of which a triangle covers the pixel.
      *
+     * @param {Asking} asking
      * @param {Set<Item>} draws
      */
-    covering(draws) {
-        const asking = this.asking();
+    covering(asking, draws) {
         asking.states({ raster: "1 0 1", scissor: asking.alone, ds: NO_TESTS, blend: NO_COLOUR });
         // (those of the same buffers stand together, so that each buffer is set once)
         const ordered =
             [...draws].sort((a, b) => a.state.vb - b.state.vb || a.state.ib - b.state.ib || a.line - b.line);
-        const asked = ordered.map((item) => {
+        return ordered.filter((item) => {
             asking.copied(this.script, item, item.word === "drawi" ? ["vb", "ib", "topology"] : ["vb", "topology"]);
-            return { item, place: asking.counted(`${item.word} ${this.script.numbers(item.line).join(" ")}`) };
+            return asking.passes(item.word, this.script.numbers(item.line));
         });
-        const { passed } = asking.answers();
-        return asked.filter(({ place }) => passed(place)).map(({ item }) => item);
     }
 
     /**
@@ -140,53 +155,60 @@ export class PixelHistory {
     /**
      * The triangles of those groups of draws of which one covers the pixel.
      *
+     * @param {Asking} asking
      * @param {Item[]} draws
      * @returns {Candidate[]}
      */
-    candidates(draws) {
-        const asking = this.asking();
+    candidates(asking, draws) {
         const most = Math.floor(this.tables.limits.buffer_length / 3 / GROUP) * GROUP;
-        asking.states({ raster: "1 0 1", scissor: asking.alone, ds: NO_TESTS, blend: NO_COLOUR });
-        /** @type {{place: number, group: Candidate[]}[]} */
-        const asked = [];
+        asking.states({ raster: "1 0 1", scissor: asking.alone, ds: NO_TESTS, blend: NO_COLOUR, topology: LIST });
+        /** @type {Candidate[]} */
+        const found = [];
         for (const item of draws) {
             const all =
                 this.trianglesOf(item).map((places, number, { length }) => ({ item, number, of: length, places }));
             asking.copied(this.script, item, ["vb"]);
             for (let chunk = 0; chunk < all.length; chunk += most) {
                 const taken = all.slice(chunk, chunk + most);
-                asking.add(`i ib ${taken.flatMap(({ places }) => places).join(" ")}\n`);
+                asking.states({ ib: taken.flatMap(({ places }) => places).join(" ") });
                 for (let at = 0; at < taken.length; at += GROUP) {
                     const group = taken.slice(at, at + GROUP);
-                    asked.push({ group, place: asking.counted(`drawi ${3 * group.length} ${3 * at} 0`) });
+                    if (asking.passes("drawi", [3 * group.length, 3 * at, 0])) found.push(...group);
                 }
             }
         }
-        const { passed } = asking.answers();
-        return asked.filter(({ place }) => passed(place)).flatMap(({ group }) => group);
+        return found;
     }
 
     /**
      * The triangles that cover the pixel, and each's depth there, by their draws.
      *
+     * @param {Asking} asking
      * @param {Candidate[]} candidates
      */
-    measured(candidates) {
-        const asking = this.asking();
-        const asked = candidates.map(({ item, number, of, places }) => {
-            const vertices = this.script.numbers(item.state.vb);
+    measured(asking, candidates) {
+        /** @type {Map<Item, Covering[]>} */
+        const found = new Map(candidates.map(({ item }) => [item, []]));
+        for (const { item, number, of, places } of candidates) {
+            const vertices = this.verticesOf(item.state.vb);
             const corners = places.map((place) => vertices.slice(7 * place, 7 * place + 7));
             const raster = rasterAlone(this.statesOf(item).raster, "1");
             asking.states(
                 { raster, scissor: asking.alone, ds: ANY_DEPTH, blend: NO_COLOUR, vb: corners.flat().join(" ") });
-            return { item, number, of, corners, counted: asking.counted("draw 3 0"), pixel: asking.pixel() };
-        });
-        const { passed, pixel } = asking.answers();
-        /** @type {Map<Item, Covering[]>} */
-        const found = new Map(candidates.map(({ item }) => [item, []]));
-        for (const { counted, pixel: place, ...it } of asked) {
-            if (passed(counted)) found.get(it.item)?.push({ ...it, depth: pixel(place).depth });
+            if (!asking.passes("draw", ONE)) continue;
+            found.get(item)?.push({ item, number, of, corners, depth: asking.pixel().depth });
         }
+        return found;
+    }
+
+    /**
+     * The numbers of a line with vertices, which is asked for again.
+     *
+     * @param {number} line
+     */
+    verticesOf(line) {
+        const found = this.vertices.get(line) || this.script.numbers(line);
+        this.vertices.set(line, found);
         return found;
     }
 
@@ -208,15 +230,14 @@ export class PixelHistory {
      *
      * @param {Performed[]} performed
      * @param {Map<Item, Covering[]>} covering
-     * @param {(performed: Performed, item: Item) => boolean} withholds
      * @returns {Generator<Touch>}
      */
-    * touches(performed, covering, withholds) {
+    * touches(performed, covering) {
         for (const it of performed) {
             for (const item of it.list.items) {
                 const found = item.word.startsWith("draw") ? covering.get(item) || [] : [null];
-                for (const triangle of found)
-                    yield { performed: it, item, covering: triangle, isLeftOut: withholds(it, item) };
+                const isLeftOut = found.length > 0 && this.player.withholds(it, item);
+                for (const triangle of found) yield { performed: it, item, covering: triangle, isLeftOut };
             }
         }
     }
@@ -224,31 +245,36 @@ export class PixelHistory {
     /**
      * Draws what touches the pixel, step by step, each test alone before it, and asks behind each.
      *
+     * @param {Asking} asking
      * @param {Touch[]} touches
      * @returns {Step[]}
      */
-    replayed(touches) {
-        const asking = this.asking();
-        const first = asking.pixel();
-        const asked = touches.map((touch) => {
-            const tests =
-                touch.isLeftOut || !touch.covering ? null : this.askedTests(asking, touch.item, touch.covering);
-            if (tests) {
-                asking.states(this.statesOf(touch.item));
-                asking.add("i draw 3 0\n");
-            } else if (!touch.isLeftOut) {
-                asking.pieces.push(this.script.asImmediate(touch.item.line));
-            }
-            return { touch, tests, pixel: asking.pixel() };
-        });
-        const { passed, pixel } = asking.answers();
-        let before = pixel(first);
-        return asked.map(({ touch, tests, pixel: place }) => {
-            const outcome = touch.isLeftOut ? "leftOut" : tests ? outcomeOf(tests, passed) : "cleared";
-            const step = this.step(touch, outcome, before, pixel(place));
+    replayed(asking, touches) {
+        let before = asking.pixel();
+        return touches.map((touch) => {
+            const outcome = touch.isLeftOut ? "leftOut" : this.perform(asking, touch);
+            const step = this.step(touch, outcome, before, asking.pixel());
             before = step.after;
             return step;
         });
+    }
+
+    /**
+     * Performs what touches the pixel, and tells what became of it.
+     *
+     * @param {Asking} asking
+     * @param {Touch} touch
+     * @returns {keyof typeof OUTCOMES}
+     */
+    perform(asking, { item, covering }) {
+        if (!covering) {
+            asking.record(item.word, this.script.numbers(item.line));
+            return "cleared";
+        }
+        const passed = this.askedTests(asking, item, covering);
+        asking.states(this.statesOf(item));
+        asking.record("draw", ONE);
+        return outcomeOf(passed);
     }
 
     /**
@@ -262,12 +288,12 @@ export class PixelHistory {
     askedTests(asking, item, { corners }) {
         const states = this.statesOf(item);
         const [cull, , isCut] = states.raster.split(" ");
-        /** @type {Record<string, number>} */
-        const asked = {};
+        /** @type {Record<string, boolean>} */
+        const passed = {};
         if (isCut === "1") {
             asking.states(
                 { raster: "1 0 1", scissor: states.scissor, ds: NO_TESTS, blend: NO_COLOUR, vb: this.square() });
-            asked.scissor = asking.counted("draw 6 0");
+            passed.scissor = asking.passes("draw", TWO);
         }
         const [hasDepth, , comparison, hasStencil, read, , ...rest] = states.ds.split(" ");
         /** @type {(depth: string, stencil: string) => string} */
@@ -283,9 +309,9 @@ export class PixelHistory {
         if (hasDepth === "1") kinds.push(["depth", tests(hasDepth, "0")]);
         for (const [name, ds] of kinds) {
             asking.states({ ds });
-            asked[name] = asking.counted("draw 3 0");
+            passed[name] = asking.passes("draw", ONE);
         }
-        return asked;
+        return passed;
     }
 
     /** Two triangles that cover the pixel and nothing else. */
@@ -338,12 +364,11 @@ function rasterAlone(numbers, cull) {
 /**
  * What became of a pixel: the first test that let nothing pass, if one did.
  *
- * @param {Record<string, number>} tests
- * @param {(place: number) => boolean} passed
+ * @param {Record<string, boolean>} passed
  * @returns {keyof typeof OUTCOMES}
  */
-function outcomeOf(tests, passed) {
-    const refusing = REFUSING.find((name) => name in tests && !passed(tests[name]));
-    if (!refusing && !passed(tests.drawn)) throw new Error("the device passes each test alone, and not all at once");
+function outcomeOf(passed) {
+    const refusing = REFUSING.find((name) => passed[name] === false);
+    if (!refusing && !passed.drawn) throw new Error("the device passes each test alone, and not all at once");
     return refusing || "drawn";
 }

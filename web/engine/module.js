@@ -6,7 +6,10 @@
 import { bytesOf, textOf } from "./script.js";
 
 // what the device answers to a script without a byte, since the module takes no such area
-const NO_SCRIPT = "refused 1 102\n";
+const NO_TARGET = { line: 1, number: 102 };
+const NO_SCRIPT = `refused ${NO_TARGET.line} ${NO_TARGET.number}\n`;
+// a line that is never without a fault
+const FAULTY = bytesOf("?\n");
 // an area of so many bytes is kept, and lent where that is enough
 const KEPT = 1 << 12;
 
@@ -25,12 +28,15 @@ const KEPT = 1 << 12;
  * @property {(size: bigint) => bigint} malloc
  * @property {(area: bigint) => void} free
  * @property {(...areas: bigint[]) => number} yuzuratchet_draw
+ * @property {(...areas: bigint[]) => number} yuzuratchet_sizes
  * @property {(script: bigint, size: bigint) => bigint} yuzuratchet_lines_bound
  * @property {(script: bigint, size: bigint) => bigint} yuzuratchet_image_bound
  * @property {() => number} yuzuratchet_version
  * @property {(result: number) => bigint} yz_result_name
  * @property {(result: number) => bigint} yz_result_text
  */
+/** @typedef {import("./script.js").Script} Script */
+/** @typedef {{line: number, number: number}} Refused */
 /** @typedef {Record<string, (...given: (bigint | number)[]) => number>} ObjectCalls those of yuzuratchet_device.h */
 
 export class Module {
@@ -108,6 +114,30 @@ export class Module {
     }
 
     /**
+     * The first line of a script that has a fault, or null. The script is read, and nothing of it is played, since one
+     * line more has a fault in any case.
+     *
+     * @param {Script} script
+     * @returns {Refused | null}
+     */
+    faultOf({ bytes, count }) {
+        if (!count) return NO_TARGET;
+        const { size: reported, refused_line: line, refusal } = this.report;
+        const size = bytes.length + FAULTY.length;
+        return this.lent(reported + size, (report) => {
+            const text = report + BigInt(reported);
+            const area = this.bytes(text, size);
+            area.set(bytes);
+            area.set(FAULTY, bytes.length);
+            const status = this.calls.yuzuratchet_sizes(text, BigInt(size), report);
+            if (status !== this.statuses.refused.number) throw new Error(`${this.textOf(status)} (${status})`);
+            const told = new DataView(this.calls.memory.buffer, Number(report), reported);
+            const found = { line: Number(told.getBigUint64(line, true)), number: told.getUint32(refusal, true) };
+            return found.line > count ? null : found;
+        });
+    }
+
+    /**
      * What a status means.
      *
      * @param {number} status
@@ -182,4 +212,24 @@ export class Module {
         const bytes = new Uint8Array(this.calls.memory.buffer, Number(at));
         return textOf(bytes.subarray(0, bytes.indexOf(0)));
     }
+}
+
+/**
+ * The answer lines of what was drawn, without their line feeds.
+ *
+ * @param {Uint8Array} lines
+ */
+export function answersOf(lines) {
+    return textOf(lines).split("\n").slice(0, -1);
+}
+
+/**
+ * The line and the number of the last answer line, where it says that a line was refused, else null.
+ *
+ * @param {string[]} answers
+ * @returns {Refused | null}
+ */
+export function refusalOf(answers) {
+    const [word, line, number] = (answers[answers.length - 1] || "").split(" ");
+    return word === "refused" ? { line: Number(line), number: Number(number) } : null;
 }

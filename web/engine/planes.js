@@ -18,8 +18,9 @@ const BLACK = 0xff000000 | 0;
  * @returns {{near: number, far: number}}
  */
 export function rangeOf(depth, deepest) {
-    let [near, far] = [deepest, 0];
-    for (let at = 0; at < depth.length; at++) {
+    const { length } = depth;
+    let near = deepest, far = 0;
+    for (let at = 0; at < length; at++) {
         const value = depth[at] | 0;
         if (value < near) near = value;
         if (value > far && value < deepest) far = value;
@@ -39,9 +40,17 @@ export function rangeOf(depth, deepest) {
 export function depthPicture({ width, height, values }, { near, far }, deepest) {
     const scale = 215 / Math.max(1, far - near), most = Math.max(0, far - near);
     const words = new Int32Array(values.length);
-    for (let at = 0; at < words.length; at++) {
-        const value = values[at] | 0, behind = Math.min(Math.max(0, value - near), most);
-        words[at] = BLACK | (value === deepest ? 0 : Math.round(255 - behind * scale) * 0x10101);
+    const { length } = words;
+    for (let at = 0; at < length; at++) {
+        const value = values[at] | 0;
+        if (value === deepest) {
+            words[at] = BLACK;
+            continue;
+        }
+        const from = value - near;
+        const behind = from < 0 ? 0 : from > most ? most : from;
+        // (these numbers aren't negative, so what is cut off rounds to the nearest)
+        words[at] = BLACK | Math.imul((255 - behind * scale + 0.5) | 0, 0x10101);
     }
     return { width, height, pixels: new Uint8ClampedArray(words.buffer) };
 }

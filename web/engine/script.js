@@ -1,45 +1,64 @@
-// A script's text by its lines, and the pieces of which other scripts are put together. Lines are counted from 1, as
-// the device counts them.
+// A script's text by its lines, which are counted from 1, as the device counts them.
 
 const LINE_FEED = 10;
-const SPACE = 32;
+const MINUS = 45, ZERO = 48, NINE = 57;
 // as much of a line as an actor, a word and the arguments of most words take
 const BEGINNING = 64;
+const ENCODER = new TextEncoder(), DECODER = new TextDecoder();
 
 /** @param {string} text */
 export function bytesOf(text) {
-    return new TextEncoder().encode(text);
+    return ENCODER.encode(text);
 }
 
 /** @param {Uint8Array} bytes */
 export function textOf(bytes) {
-    return new TextDecoder().decode(bytes);
+    return DECODER.decode(bytes);
 }
 
 /**
- * All pieces, one behind the other.
+ * The numbers of a line from a place on; a context is its number.
  *
- * @param {Uint8Array[]} pieces
+ * @param {Uint8Array} line
+ * @param {number} at
  */
-export function joined(pieces) {
-    const all = new Uint8Array(pieces.reduce((sum, piece) => sum + piece.length, 0));
-    let at = 0;
-    for (const piece of pieces) {
-        all.set(piece, at);
-        at += piece.length;
+function numbersFrom(line, at) {
+    const found = [];
+    let [number, isNegative, isOne] = [0, false, false];
+    for (; at < line.length; at++) {
+        const byte = line[at];
+        if (byte >= ZERO && byte <= NINE) {
+            number = 10 * number + byte - ZERO;
+            isOne = true;
+        } else if (byte === MINUS) {
+            isNegative = true;
+        } else if (isOne) {
+            found.push(isNegative ? -number : number);
+            [number, isNegative, isOne] = [0, false, false];
+        }
     }
+    return found;
+}
+
+/**
+ * The bytes of a text whose last line has its line feed.
+ *
+ * @param {Uint8Array} bytes
+ */
+function ended(bytes) {
+    if (!bytes.length || bytes[bytes.length - 1] === LINE_FEED) return bytes;
+    const all = new Uint8Array(bytes.length + 1).fill(LINE_FEED);
+    all.set(bytes);
     return all;
 }
 
 export class Script {
     /** @param {Uint8Array} bytes the text; a last line without its line feed is given one */
     constructor(bytes) {
-        this.bytes = bytes.length && bytes[bytes.length - 1] !== LINE_FEED ? joined([bytes, bytesOf("\n")]) : bytes;
+        this.bytes = ended(bytes);
         this.ends = [0];
         for (let at = this.bytes.indexOf(LINE_FEED); at >= 0; at = this.bytes.indexOf(LINE_FEED, at + 1))
             this.ends.push(at + 1);
-        /** @type {Map<number, number[]>} */
-        this.parsed = new Map();
     }
 
     /** How many lines there are. */
@@ -83,70 +102,7 @@ export class Script {
      * @param {number} line
      */
     numbers(line) {
-        let found = this.parsed.get(line);
-        if (!found) {
-            found = this.text(line).split(" ").slice(2).map((word) => Number(word.replace(/^d/, "")));
-            this.parsed.set(line, found);
-        }
-        return found;
-    }
-
-    /**
-     * A line as one of the immediate context, whoever it is of.
-     *
-     * @param {number} line
-     */
-    asImmediate(line) {
-        const bytes = this.slice(line, line);
-        return joined([bytesOf("i"), bytes.subarray(bytes.indexOf(SPACE))]);
-    }
-
-    /**
-     * The queries that the immediate context has open behind a line, in the order in which they were opened.
-     *
-     * @param {number} last
-     */
-    openQueries(last) {
-        const open = new Set();
-        for (let line = 2; line <= last; line++) {
-            const [actor, word, query] = this.words(line);
-            if (actor !== "i") continue;
-            if (word === "begin") open.add(query);
-            if (word === "end") open.delete(query);
-        }
-        return [...open];
-    }
-
-    /**
-     * The script up to a line. The device runs nothing while a query is open, so those that are open there are ended.
-     *
-     * @param {number} last
-     */
-    closedAt(last) {
-        return joined(
-            [this.slice(1, last), bytesOf(this.openQueries(last).map((query) => `i end ${query}\n`).join(""))]);
-    }
-
-    /**
-     * The same; behind the last line nothing is added, since a script that leaves a query open is refused.
-     *
-     * @param {number} last
-     */
-    upTo(last) {
-        return last >= this.count ? this.bytes : this.closedAt(last);
-    }
-
-    /**
-     * The lines up to `last` that ask: those of the answers, in their order.
-     *
-     * @param {number} last
-     */
-    questions(last) {
-        const found = [];
-        for (let line = 2; line <= last; line++) {
-            const [actor, word] = this.words(line);
-            if (actor === "i" && (word === "query" || word === "pixel")) found.push(line);
-        }
-        return found;
+        const [actor, word] = this.words(line);
+        return numbersFrom(this.slice(line, line), actor.length + 1 + word.length);
     }
 }

@@ -11,8 +11,8 @@ const RUNNING = new Set(["flush", "query", "pixel"]);
 /** @typedef {Record<string, number>} State of each kind the line that set it, or 0 where it is the default */
 /** @typedef {{line: number, word: string, state: State}} Item a draw or a clear, with the state that it is under */
 /**
- * @typedef {{items: Item[], issues: string[], line: number}} List what is recorded, and the queries that it begins;
- * its last line
+ * @typedef {{items: Item[], issues: string[], predicates: Set<number>, line: number}} List what is recorded, the
+ * queries that it begins, the lines that set the predicates of its items; its last line
  */
 /**
  * @typedef {{by: number | null, at: number, list: List}} Performed what ran at a line, and the line that executed it,
@@ -32,6 +32,8 @@ export class Recorder {
         this.items = [];
         /** @type {string[]} */
         this.issues = [];
+        /** @type {Set<number>} */
+        this.predicates = new Set();
         /** @type {Map<string, number>} the lines that began the queries that are open */
         this.open = new Map();
     }
@@ -49,6 +51,7 @@ export class Recorder {
             this.state = { ...this.state, [word]: line };
         } else if (DRAWING.has(word)) {
             this.items.push({ line, word, state: this.state });
+            if (this.state.predicate) this.predicates.add(this.state.predicate);
         } else if (word === "begin") {
             this.issues.push(query);
             this.open.set(query, line);
@@ -65,22 +68,17 @@ export class Recorder {
      * @returns {List}
      */
     finish(keeps, line) {
-        const { items, issues } = this;
+        const { items, issues, predicates } = this;
         Object.assign(this, new Recorder(), keeps ? { state: this.state, commands: 1 } : {});
-        return { items, issues, line };
+        return { items, issues, predicates, line };
     }
 }
 
 /** A script of accepted lines, taken line by line. */
 export class Session {
-    /**
-     * @param {Script} script
-     * @param {(session: Session, line: number, list: List | null) => void} [beforeRun] hears of a line that runs what
-     *     is pending and a list
-     */
-    constructor(script, beforeRun = () => {}) {
+    /** @param {Script} script */
+    constructor(script) {
         this.script = script;
-        this.beforeRun = beforeRun;
         this.line = 1;
         /** @type {Record<string, Recorder>} */
         this.contexts = {};
@@ -118,13 +116,17 @@ export class Session {
      * @param {number} last
      */
     takeTo(last) {
-        while (this.line < last) this.take(++this.line);
+        while (this.line < last) this.take(this.script.words(this.line + 1));
         return this;
     }
 
-    /** @param {number} line */
-    take(line) {
-        const [actor, word, argument, number, keeps] = this.script.words(line);
+    /**
+     * Takes the next line, by its first words.
+     *
+     * @param {string[]} words
+     */
+    take([actor, word, argument, number, keeps]) {
+        const line = ++this.line;
         if (word === "finish") {
             this.listsOf(actor).push(this.context(actor).finish(argument === "1", line));
         } else if (word === "exec") {
@@ -144,15 +146,19 @@ export class Session {
      * @param {List | null} list
      */
     run(line, keeps, list) {
-        this.beforeRun(this, line, list);
         this.perform(this.context("i").finish(keeps, line), line, null);
         if (list) this.perform(list, line, line);
     }
 
-    /** Runs what is pending behind the last line that was taken. */
-    end() {
-        this.run(this.line + 1, true, null);
-        return this;
+    /**
+     * What is pending behind the last line that was taken, as it runs there.
+     *
+     * @returns {Performed}
+     */
+    get pending() {
+        const { items, issues, predicates } = this.context("i");
+        const at = this.line + 1;
+        return { list: { items, issues, predicates, line: at }, at, by: null };
     }
 
     /**

@@ -1,8 +1,9 @@
 // What holds behind a line: the state of the context whose line it is, what it records, and when that is executed.
 
-import { KINDS, Session } from "./session.js";
+import { KINDS } from "./session.js";
 
 /** @typedef {import("./script.js").Script} Script */
+/** @typedef {import("./session.js").Session} Session */
 /**
  * @typedef {{word: string, line: number, numbers: string[], count: number}} Setting a state, the line that set it or
  * 0, its first numbers, and how many there are
@@ -23,12 +24,13 @@ const MOST = 200;
 const SPACE = 32;
 
 /**
- * @param {Script} script
- * @param {number} last a line that is accepted, as all before it are
+ * The state behind the last line of a session.
+ *
+ * @param {Session} session
  * @returns {StateAt}
  */
-export function stateAt(script, last) {
-    const session = new Session(script).takeTo(last);
+export function stateAt(session) {
+    const { script, line: last } = session;
     const [first, word] = script.words(last);
     const actor = last === 1 ? "i" : first;
     const context = session.context(actor);

@@ -1,23 +1,23 @@
 // The worker: holds the module with its devices, and answers the page's jobs one after the other.
 //
 // A job is {number, kind, bytes, last, ..}; its answer is {number, ..} or {number, error}. What takes long
-// tells {number, done, all} on the way. Images and answers are those of the script as a text; planes and pixels are
-// read from a device that stays, and goes on to the line that is asked for.
+// tells {number, done, all} on the way. All is read from a device that stays, and goes on to the line that is asked
+// for.
 
 import { difference } from "./difference.js";
 import { PixelHistory } from "./history.js";
+import { Shelf } from "./kept.js";
 import { Module } from "./module.js";
 import { depthPicture, rangeOf, stencilPicture } from "./planes.js";
-import { Players, pixelsOf } from "./player.js";
-import { answersOf, play, refusalOf } from "./playing.js";
+import { pixelsOf } from "./player.js";
 import { Script, bytesOf } from "./script.js";
 import { stateAt } from "./state.js";
 import { Plane } from "./states.js";
-import { decodeTarga, opaque } from "./targa.js";
+import { opaque } from "./targa.js";
 
+/** @typedef {import("./device.js").Device} Device */
 /** @typedef {import("./planes.js").Range} Range */
 /** @typedef {import("./planes.js").Values} Values */
-/** @typedef {import("./playing.js").Refused} Refused */
 /** @typedef {import("./targa.js").Picture} Picture */
 /** @typedef {(done: number, all: number) => void} Tell */
 
@@ -26,22 +26,25 @@ import { decodeTarga, opaque } from "./targa.js";
 const COLOURS = ["opaque", "alpha"];
 const COLOUR_CHANNELS = 4;
 
-/** @type {Module | null} */
-let module = null;
-/** @type {Players | null} */
-let players = null;
+/** @type {Shelf | null} */
+let shelf = null;
 /** @type {Tables | null} */
 let tables = null;
 let script = new Script(new Uint8Array(0));
 let serial = -1;
-/** the script beside this one, by its text, and the line up to which it is shown
- * @type {{text: string, script: Script, shown: number, refused: Refused | null} | null} */
+/** depths that were shown, whose room is used again */
+let depths = new Uint32Array(0);
+/** @type {{text: string, script: Script} | null} the script beside this one, by its text */
 let beside = null;
 
-/** @param {Uint8Array} bytes */
-function draw(bytes) {
-    if (!module) throw new Error("the device hasn't started");
-    return module.draw(bytes);
+/**
+ * A script with its device.
+ *
+ * @param {Script} of
+ */
+function kept(of) {
+    if (!shelf) throw new Error("the device hasn't started");
+    return shelf.of(of);
 }
 
 /**
@@ -51,23 +54,20 @@ function draw(bytes) {
  * @param {number} last
  */
 function deviceBehind(of, last) {
-    if (!players) throw new Error("the device hasn't started");
-    return players.behind(of, last);
+    return kept(of).behind(last).device;
 }
 
 /**
- * The script with a text, to be shown beside this one.
+ * The script with a text, to be shown beside this one, played as far as it goes.
  *
  * @param {string} text
  */
-function scriptBeside(text) {
+function playedBeside(text) {
     if (!beside || beside.text !== text) {
-        if (beside) players?.forget(beside.script);
-        const other = new Script(bytesOf(text));
-        const { shown, refused } = play(draw, other, other.count);
-        beside = { text, script: other, shown, refused };
+        if (beside) shelf?.forget(beside.script);
+        beside = { text, script: new Script(bytesOf(text)) };
     }
-    return beside;
+    return kept(beside.script).play(beside.script.count);
 }
 
 /** What is known of scripts. */
@@ -79,68 +79,70 @@ function known() {
 /** @type {Record<string, (job: any, tell: Tell) => object | Promise<object>>} */
 const JOBS = {
     async start({ module: bytes, tables: given }) {
-        module = await Module.of(bytes, given.library);
-        players = new Players(module);
+        const module = await Module.of(bytes, given.library);
+        shelf = new Shelf(module);
         tables = given;
         return { version: module.version };
     },
 
     play({ last }) {
-        const { image, ...told } = play(draw, script, last);
-        return { ...told, picture: image.length ? decodeTarga(image) : null };
+        const { player, ...told } = kept(script).play(last);
+        return { ...told, picture: player && player.device.picture() };
     },
 
     check() {
-        return { refused: refusalOf(answersOf(draw(script.bytes).lines)) };
+        return { refused: kept(script).check() };
     },
 
     planes({ last, what, range }) {
-        const plane = planeBehind(script, last, what);
+        const plane = planeOf(deviceBehind(script, last), what, depths);
+        if (plane.values instanceof Uint32Array) depths = plane.values;
         const found = what === "depth" ? rangeOf(plane.values, known().limits.deepest) : null;
         return { picture: pictureOf(plane, found && within(range, found)), range: found };
     },
 
     pixels({ last, area, other }) {
         const values = pixelsOf(deviceBehind(script, last), area);
-        const another = other ? scriptBeside(other) : null;
-        return { area, values, besides: another && pixelsOf(deviceBehind(another.script, another.shown), area) };
+        const another = other ? playedBeside(other).player : null;
+        return { area, values, besides: another && pixelsOf(another.device, area) };
     },
 
     state({ last }) {
-        return { state: stateAt(script, last) };
+        return { state: stateAt(kept(script).behind(last).session) };
     },
 
     changed({ last, what }) {
-        const [before, after] = [last - 1, last].map((line) => targetOf(script, line, what));
-        return { difference: before && after ? differenceOf(before, after) : null };
+        const [before, after] = [last - 1, last].map((line) => targetOf(deviceBehind(script, line), what));
+        return { difference: differenceOf(before, after) };
     },
 
     beside({ last, what, range, other }) {
-        const { script: another, shown, refused } = scriptBeside(other);
-        const [mine, others] = [targetOf(script, last, what), targetOf(another, shown, what)];
-        if (!mine || !others) return { refused, picture: null, difference: null, isSameSize: false };
+        const { player, refused } = playedBeside(other);
+        if (!player) return { refused, picture: null, difference: null, isSameSize: false };
+        const [mine, others] = [deviceBehind(script, last), player.device].map((device) => targetOf(device, what));
         const isSameSize = mine.width === others.width && mine.height === others.height;
         const found = isSameSize ? differenceOf(mine, others) : null;
         return { refused, picture: besidePicture(mine, others, what, range), difference: found, isSameSize };
     },
 
     history({ last, x, y }, tell) {
-        return { steps: new PixelHistory(draw, script, known(), { x, y }).steps(last, tell) };
+        return { steps: new PixelHistory(kept(script).behind(last), known(), { x, y }).steps(tell) };
     },
 };
 
 /**
- * The depths or the stencil of a script behind a line.
+ * The depths or the stencil of a device.
  *
- * @param {Script} of
- * @param {number} last
+ * @param {Device} device
  * @param {string} what
+ * @param {Uint32Array} [room] where depths go, if they are as many
  * @returns {Values}
  */
-function planeBehind(of, last, what) {
-    const device = deviceBehind(of, last);
-    const values = device.read(what === "depth" ? Plane.DEPTH32 : Plane.STENCIL8);
-    return { width: device.width, height: device.height, values };
+function planeOf(device, what, room) {
+    const { width, height } = device;
+    if (what !== "depth") return { width, height, values: device.read(Plane.STENCIL8) };
+    const into = room && room.length === width * height ? room : undefined;
+    return { width, height, values: device.read(Plane.DEPTH32, { into }) };
 }
 
 /**
@@ -154,17 +156,14 @@ function pictureOf(plane, range) {
 /** @typedef {Picture & {plane: Values | null}} Target colours, and the plane that is shown in their place */
 
 /**
- * What a script has drawn up to a line, or null where there is no image.
+ * What a device holds.
  *
- * @param {Script} of
- * @param {number} last
+ * @param {Device} device
  * @param {string} what
- * @returns {Target | null}
+ * @returns {Target}
  */
-function targetOf(of, last, what) {
-    const { image, shown } = play(draw, of, last);
-    if (!image.length) return null;
-    return { ...decodeTarga(image), plane: COLOURS.includes(what) ? null : planeBehind(of, shown, what) };
+function targetOf(device, what) {
+    return { ...device.picture(), plane: COLOURS.includes(what) ? null : planeOf(device, what) };
 }
 
 /**
@@ -214,7 +213,7 @@ port.onmessage = async ({ data: job }) => {
     const begun = performance.now();
     try {
         if (job.bytes && job.serial !== serial) {
-            players?.forget(script);
+            shelf?.forget(script);
             script = new Script(job.bytes);
             serial = job.serial;
         }

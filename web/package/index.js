@@ -1,8 +1,7 @@
 // The package `yuzuratchet` for node and browsers: the device behind one function, and by its calls.
 
 import { Device } from "./engine/device.js";
-import { Module } from "./engine/module.js";
-import { answersOf, refusalOf } from "./engine/playing.js";
+import { Module, answersOf, refusalOf } from "./engine/module.js";
 import { bytesOf } from "./engine/script.js";
 import { decodeTarga } from "./engine/targa.js";
 import { LAYOUT } from "./layout.js";

@@ -19,7 +19,7 @@ import { View } from "./view.js";
 
 /** @typedef {import("../engine/difference.js").Difference} Difference */
 /** @typedef {import("../engine/language.js").Tables} Tables */
-/** @typedef {import("../engine/playing.js").Refused} Refused */
+/** @typedef {import("../engine/module.js").Refused} Refused */
 /** @typedef {import("../engine/targa.js").Picture} Picture */
 /** @typedef {import("./texts.js").Entry} Entry */
 

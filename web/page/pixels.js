@@ -8,7 +8,7 @@ import { pixelSaid, pixelShown, stepsShown } from "./shown.js";
 import { View } from "./view.js";
 
 /** @typedef {import("../engine/history.js").Step} Step */
-/** @typedef {import("../engine/playing.js").PixelValue} PixelValue */
+/** @typedef {import("../engine/device.js").PixelValue} PixelValue */
 /** @typedef {import("./view.js").Pixel} Pixel */
 /**
  * @typedef {{onLine: (line: number) => void, onTouched: (lines: number[]) => void, labelOf: (line: number) => string |

@@ -8,7 +8,7 @@ import { counted, element, quietly } from "./elements.js";
 /** @typedef {import("../engine/language.js").Argument} Argument */
 /** @typedef {import("../engine/language.js").Caret} Caret */
 /** @typedef {import("../engine/language.js").Word} Word */
-/** @typedef {import("../engine/playing.js").PixelValue} PixelValue */
+/** @typedef {import("../engine/device.js").PixelValue} PixelValue */
 /** @typedef {import("../engine/state.js").StateAt} StateAt */
 /** @typedef {import("../engine/state.js").Setting} Setting */
 /** @typedef {(line: number) => void} OnLine */

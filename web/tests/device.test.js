@@ -7,12 +7,14 @@ import path from "path";
 import { fileURLToPath } from "url";
 
 import { CallRefused, Device } from "../engine/device.js";
-import { Player, Players, pixelsOf } from "../engine/player.js";
-import { answersOf, refusalOf } from "../engine/playing.js";
+import { Kept, Shelf } from "../engine/kept.js";
+import { answersOf, refusalOf } from "../engine/module.js";
+import { Player, pixelsOf } from "../engine/player.js";
 import { Script, bytesOf } from "../engine/script.js";
 import { ComparisonFunc, CullMode, Plane, PrimitiveTopology, StencilOp } from "../engine/states.js";
 import { decodeTarga } from "../engine/targa.js";
 import { vertexBytes } from "../engine/units.js";
+import { closedAt } from "./by_text.js";
 import { missing, module } from "./module.js";
 import { fileOf, imageLine, played } from "./played.js";
 
@@ -86,7 +88,7 @@ test("a refused call of the gallery is no end: what follows draws as if it weren
         assert.deepEqual([refusalBy(call), refusalBy(call)], [number, number], name);
         assert.deepEqual(player.answers, before, name);
         player.close();
-        const without = module.draw(script.closedAt(line - 1));
+        const without = module.draw(closedAt(script, line - 1));
         assert.equal(without.status, 0, name);
         assert.equal(imageLine(fileOf(player.device)), imageLine([without.image]), name);
         player.dispose();
@@ -253,17 +255,79 @@ test("vertices as rows are those as words", { skip: missing }, () => {
 });
 
 test("a script's device behind each line is what the module draws of these lines", { skip: missing }, () => {
-    const players = new Players(module);
+    const shelf = new Shelf(module);
     for (const name of ["lists.txt", "two-faced-count.txt", "rows/around-a-list.txt"]) {
         const script = scriptOf(name);
         const lines = Array.from({ length: script.count }, (_, at) => at + 1).filter((line) => line % 3 !== 2);
         for (const line of [...lines, ...lines.reverse(), script.count]) {
-            const device = players.behind(script, line);
-            assert.deepEqual(device.picture(), decodeTarga(module.draw(script.closedAt(line)).image), `${name} ${line}`);
+            const { device } = shelf.of(script).behind(line);
+            assert.deepEqual(device.picture(), decodeTarga(module.draw(closedAt(script, line)).image), `${name} ${line}`);
         }
     }
-    assert.equal(players.players.size, 2, "the others were forgotten");
-    for (const it of [...players.players.keys()]) players.forget(it);
+    assert.equal(shelf.kept.size, 2, "the others were forgotten");
+    for (const it of [...shelf.kept.keys()]) shelf.forget(it);
+});
+
+/** @param {string} text */
+function keptOf(text) {
+    return new Kept(module, new Script(bytesOf(text)));
+}
+
+test("a fault is found, and nothing of the script is played for that", { skip: missing }, () => {
+    const cases = [
+        ["", 1, 102], ["target 9 9\ni clearc 1 2 3", 2, 105], ["target 9 9\n\n", 2, 101], ["?", 1, 102],
+        ["target 9 9\ni exec d0 0 0\nd0 finish 0\n", 2, 107],
+    ];
+    for (const [text, line, number] of cases)
+        assert.deepEqual(module.faultOf(new Script(bytesOf(text))), { line, number }, text);
+    for (const text of ["target 9 9", "target 0 0\n", "target 4 4\ni draw 3 0\n"])
+        assert.equal(module.faultOf(new Script(bytesOf(text))), null, text);
+});
+
+test("a device stops before a fault, which hides what is refused", { skip: missing }, () => {
+    const kept = keptOf("target 2 1\ni clearc 1 2 3 4\ni pixel 0 0\ni draw 3 0\ni clear\n");
+    assert.deepEqual(kept.check(), { line: 5, number: 104 });
+    const { player, ...whole } = kept.play(5);
+    assert.deepEqual(whole, { shown: 3, answers: [], questions: [], refused: { line: 5, number: 104 } });
+    assert.deepEqual([...player.device.picture().pixels.subarray(0, 4)], [1, 2, 3, 4]);
+    const { player: other, ...part } = kept.play(4);
+    assert.deepEqual(part, {
+        shown: 3, answers: ["pixel 0 0 1 2 3 4 16777215 0"], questions: [3], refused: { line: 4, number: 7 },
+    });
+    assert.equal(other, player, "it is the same device");
+    kept.leave();
+});
+
+test("there is no device where no line can be played", { skip: missing }, () => {
+    for (const [text, line, number] of [["", 1, 102], ["target 4097 1\ni flush\n", 1, 2]]) {
+        const kept = keptOf(text);
+        const refused = { line, number };
+        for (const last of [1, 2])
+            assert.deepEqual(kept.play(last), { player: null, shown: 0, answers: [], questions: [], refused });
+        assert.deepEqual(kept.check(), refused);
+    }
+});
+
+test("what is read meanwhile lets no line be taken that a script is refused for", { skip: missing }, () => {
+    // (behind a run, line 5 would be taken)
+    const kept = keptOf("target 2 1\ni begin 0\ni end 0\ni clearc 1 2 3 4\ni predicate 0 0\ni clearc 9 9 9 9\n");
+    for (const last of [2, 3, 4]) assert.deepEqual([kept.play(last).refused, kept.play(last).shown], [null, last]);
+    for (const last of [5, 6, 4, 5]) {
+        const { refused, shown } = kept.play(last);
+        assert.deepEqual([refused, shown], [last < 5 ? null : { line: 5, number: 20 }, 4]);
+    }
+    assert.deepEqual(kept.check(), { line: 5, number: 20 });
+    kept.leave();
+});
+
+test("a query that is left open is told behind the last line, and the image shows all lines", { skip: missing }, () => {
+    const kept = keptOf("target 2 1\ni clearc 1 2 3 4\ni begin 0\ni clearc 5 6 7 8\n");
+    assert.equal(kept.play(3).refused, null);
+    assert.deepEqual(kept.check(), { line: 5, number: 9 });
+    const { player, shown, refused } = kept.play(4);
+    assert.deepEqual([shown, refused], [4, { line: 5, number: 9 }]);
+    assert.deepEqual([...player.device.picture().pixels.subarray(0, 4)], [5, 6, 7, 8]);
+    kept.leave();
 });
 
 test("depth of 2,048 by 2,048", { skip: missing }, (context) => {

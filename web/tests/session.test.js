@@ -27,25 +27,25 @@ i clearc 9 9 9 9
 `;
 const script = new Script(bytesOf(TEXT));
 
+/** @param {number} line */
+function stateBehind(line) {
+    return stateAt(new Session(script).takeTo(line));
+}
+
 test("a text by its lines", () => {
     assert.equal(script.count, 15);
     assert.equal(textOf(script.slice(2, 2)), "d0 topology 4\n");
     assert.equal(script.text(8), "i clearc 5 6 7 8");
-    assert.equal(textOf(script.asImmediate(6)), "i clearc 1 2 3 4\n");
     assert.deepEqual(script.numbers(12), [0, 1, 1]);
+    assert.deepEqual(new Script(bytesOf("target 9 9\ni drawi 3 0 -12")).numbers(2), [3, 0, -12]);
+    assert.deepEqual(new Script(bytesOf("target 9 9\nd7 predicate\n")).numbers(2), []);
     assert.equal(new Script(bytesOf("target 1 1")).count, 1);
     assert.equal(new Script(bytesOf("")).count, 0);
 });
 
-test("queries that are open behind a line are ended", () => {
-    assert.deepEqual(script.openQueries(9), ["0"]);
-    assert.equal(textOf(script.upTo(9)).split("\n").slice(8).join("|"), "i begin 0|i end 0|");
-    assert.equal(textOf(script.upTo(15)), TEXT);
-});
-
 test("what runs, in the order of execution, each under its state", () => {
-    const session = new Session(script).takeTo(script.count).end();
-    const told = session.performed.map(
+    const session = new Session(script).takeTo(script.count);
+    const told = [...session.performed, session.pending].map(
         ({ at, by, list }) => [at, by, list.items.map(({ line, state }) => `${line} ${state.vb} ${state.predicate}`)]);
     assert.deepEqual(told, [
         [11, null, ["8 0 0"]], [11, 11, ["4 3 0"]], [12, null, []], [12, 12, ["6 3 0"]], [16, null, ["15 0 14"]],
@@ -54,20 +54,20 @@ test("what runs, in the order of execution, each under its state", () => {
 });
 
 test("the state behind a line, and where a list is executed", () => {
-    const recorded = stateAt(script, 4);
+    const recorded = stateBehind(4);
     assert.equal(recorded.actor, "d0");
     assert.deepEqual(recorded.list, { number: 0, finish: 5, by: [11] });
     assert.equal(recorded.commands, 3);
     const settings = Object.fromEntries(recorded.settings.map(({ word, line, count }) => [word, [line, count]]));
     assert.deepEqual([settings.topology, settings.vb, settings.ib, settings.raster], [[2, 1], [3, 21], [0, 0], [0, 0]]);
     // the list that a finish line ends
-    assert.deepEqual(stateAt(script, 7).list, { number: 1, finish: 7, by: [12] });
-    assert.equal(stateAt(script, 6).commands, 2, "the kept state is a command");
-    assert.deepEqual(stateAt(script, 13).list, { number: 2, finish: 0, by: [] });
-    assert.deepEqual([stateAt(script, 9).actor, stateAt(script, 9).open, stateAt(script, 9).list], ["i", ["0"], null]);
-    assert.equal(stateAt(script, 1).actor, "i");
-    assert.equal(stateAt(script, 11).commands, 0);
-    assert.equal(stateAt(script, 12).commands, 1);
+    assert.deepEqual(stateBehind(7).list, { number: 1, finish: 7, by: [12] });
+    assert.equal(stateBehind(6).commands, 2, "the kept state is a command");
+    assert.deepEqual(stateBehind(13).list, { number: 2, finish: 0, by: [] });
+    assert.deepEqual([stateBehind(9).actor, stateBehind(9).open, stateBehind(9).list], ["i", ["0"], null]);
+    assert.equal(stateBehind(1).actor, "i");
+    assert.equal(stateBehind(11).commands, 0);
+    assert.equal(stateBehind(12).commands, 1);
 });
 
 test("a list's and a strip's triangles, the leading vertex first", () => {

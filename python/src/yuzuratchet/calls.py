@@ -29,7 +29,7 @@ from typing import Any, Callable, Final, Iterable, Iterator
 import numpy as np
 import numpy.typing as npt
 
-from .errors import CallRefused, LibraryMissing, ProgramFailed, WrongType
+from .errors import ArgumentError, CallRefused, LibraryMissing, ProgramFailed, WrongType
 from .images import Picture, Pixels, save
 from .library import HOW_TO_BUILD, find_library, load_library
 from .line import Line, Row, whole_numbers
@@ -472,21 +472,47 @@ class Device:
 
     def replay(self, scene: Scene) -> list[int | PixelAnswer]:
         """Makes all calls of a scene, on this device as it is; gives the answers."""
-        contexts = dict(zip(DEFERRED, self.deferred))
-        lists: dict[str, list[LiveList]] = {actor: [] for actor in DEFERRED}
-        answers: list[int | PixelAnswer] = []
+        replay = Replay(self)
         for line in scene.lines:
-            n = line.arguments
-            if line.word == "finish":
-                lists[line.actor].append(contexts[line.actor].finish_command_list(bool(n[0])))
-            elif line.word == "exec":
-                self.immediate.execute(lists[DEFERRED[n[0]]][n[1]], bool(n[2]))
-            elif line.word == "flush":
-                self.immediate.flush()
-            elif line.word == "query":
-                answers.append(self.immediate.get_data(*n))
-            elif line.word == "pixel":
-                answers.append(self.immediate.pixel(*n))
-            else:
-                contexts.get(line.actor, self.immediate).take(line)
-        return answers
+            replay.take(line)
+        return replay.answers
+
+
+class Replay:
+    """Makes the calls of a script's lines on a device, one after the other.
+
+    ``answers`` are those of the calls so far. One that is refused raises
+    :class:`~yuzuratchet.errors.CallRefused`, and the next may be made.
+    """
+
+    def __init__(self, device: Device) -> None:
+        self.device = device
+        self.answers: list[int | PixelAnswer] = []
+        self._contexts = dict(zip(DEFERRED, device.deferred))
+        self._lists: dict[str, list[LiveList]] = {actor: [] for actor in DEFERRED}
+
+    def take(self, line: Line) -> None:
+        """Makes the call of a line; an ``exec`` line is one of a list that was finished before."""
+        immediate, n = self.device.immediate, line.arguments
+        if line.word == "finish":
+            finished = self._contexts[line.actor].finish_command_list(bool(n[0]))
+            self._lists[line.actor].append(finished)
+        elif line.word == "exec":
+            immediate.execute(self._list(line), bool(n[2]))
+        elif line.word == "flush":
+            immediate.flush()
+        elif line.word == "query":
+            self.answers.append(immediate.get_data(*n))
+        elif line.word == "pixel":
+            self.answers.append(immediate.pixel(*n))
+        else:
+            self._contexts.get(line.actor, immediate).take(line)
+
+    def _list(self, line: Line) -> LiveList:
+        """The list that a line executes."""
+        context, number, _ = line.arguments
+        finished = self._lists[DEFERRED[context]]
+        if number >= len(finished):
+            made = f"{DEFERRED[context]} has finished {len(finished)}, counted from 0"
+            raise ArgumentError("list", made)
+        return finished[number]
