@@ -1,6 +1,6 @@
 //! The caller: it executes lists as they come, while the recorders are at work.
 
-ghost use Rattle.std.specs.Prelude.{◌≡◌, ◌×◌};
+ghost use Rattle.std.specs.Prelude.{◌≡◌};
 
 use crate::record::{ListPass, ListPorts, record_both};
 use device::{

@@ -1,12 +1,12 @@
 //! A recorder: it records the lists of its half, and sends each once it is finished.
 
-ghost use Rattle.std.specs.Prelude.{◌≡◌, ◌<◌, ◌×◌};
+ghost use Rattle.std.specs.Prelude.{◌≡◌, ◌<◌, ◌≤◌};
 
 use crate::figures::{HEIGHT, strip};
 use device::{
-    BlendDesc, BlendState, ColorMask, CommandList, Compare, Cull, DeferredContext, DepthStencilDesc,
-    DepthStencilState, DeviceContext, Face, GfxError, LogicOp, PixelRect, PortPass, Ports,
-    RasterDesc, RasterState, StencilOp, Topology,
+    BlendDesc, BlendState, ColorMask, CommandList, Compare, Cull, DeferredContext,
+    DepthStencilDesc, DepthStencilState, DeviceContext, Face, GfxError, LogicOp, PixelRect,
+    PortPass, Ports, RasterDesc, RasterState, StencilOp, Topology,
 };
 use std::alloc::Global;
 use std::sync::Wait;
@@ -25,7 +25,9 @@ pub(crate) type ListPass = PortPass<CommandList<Global>>;
 pub(crate) const TURNS: u32 = 3;
 
 /// The first query of a half; it has one for each turn.
-pub(crate) fn first_query(half: u32) -> u32 {
+pub(crate) fn first_query(half: u32) -> u32
+    ensures { result ≤ 8 }
+{
     if half == 0 { 0 } else { 8 }
 }
 

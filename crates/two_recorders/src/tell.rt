@@ -1,6 +1,7 @@
 //! What is asked of the picture: counts of queries, pixels, and a row of the three planes.
 
-ghost use Rattle.std.specs.Prelude.{◌≡◌, ◌<◌};
+ghost use Rattle.std.specs.Prelude.{◌<◌, ◌≤◌};
+ghost use Rattle.tileblock.specs.Surface.{IsWhole};
 
 use crate::figures::{HEIGHT, WIDTH};
 use crate::record::{TURNS, first_query};
@@ -12,10 +13,7 @@ use std::alloc::Global;
 const ROW: u32 = 48;
 
 /// The counts of both halves' queries, turn by turn, and that of the backdrop.
-fn tell_counts(
-    device: &mut ImmediateContext<Global>,
-    text: &mut Vec<u8>,
-) -> Result<(), GfxError> {
+fn tell_counts(device: &mut ImmediateContext<Global>, text: &mut Vec<u8>) -> Result<(), GfxError> {
     for turn in 0..TURNS {
         tell_count(device, text, first_query(0) + turn)?;
         tell_count(device, text, first_query(1) + turn)?;
@@ -35,10 +33,7 @@ fn tell_count(
 }
 
 /// What some pixels hold: every twelfth row, near the line between the halves.
-fn tell_pixels(
-    device: &mut ImmediateContext<Global>,
-    text: &mut Vec<u8>,
-) -> Result<(), GfxError> {
+fn tell_pixels(device: &mut ImmediateContext<Global>, text: &mut Vec<u8>) -> Result<(), GfxError> {
     for step in 0..HEIGHT / 12 {
         let (x, y) = (60 + step, 12 * step);
         let value = device.pixel_alone(x, y)?;
@@ -48,7 +43,9 @@ fn tell_pixels(
 }
 
 /// A row of the planes, eight pixels at a time.
-fn tell_row(target: &Target<Global>, text: &mut Vec<u8>) -> Result<(), GfxError> {
+fn tell_row(target: &Target<Global>, text: &mut Vec<u8>) -> Result<(), GfxError>
+    requires { IsWhole target.now }
+{
     let size = target.size();
     for span in 0..WIDTH / 8 {
         if 8 * span < size.width && ROW < size.height {
@@ -59,7 +56,11 @@ fn tell_row(target: &Target<Global>, text: &mut Vec<u8>) -> Result<(), GfxError>
 }
 
 /// Eight pixels of the row, from a column on.
-fn tell_span(target: &Target<Global>, text: &mut Vec<u8>, left: u32) -> Result<(), GfxError> {
+fn tell_span(target: &Target<Global>, text: &mut Vec<u8>, left: u32) -> Result<(), GfxError>
+    requires whole { IsWhole target.now }
+    requires inside { (left < target.now.size.width) × (48 < target.now.size.height) }
+    requires few { left ≤ 120 }
+{
     let colors = target.colors(left, ROW);
     let depths = target.depths(left, ROW);
     let stencils = target.stencils(left, ROW);
