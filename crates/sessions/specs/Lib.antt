@@ -4,3 +4,4 @@ pub mod Taking
 pub mod Playing
 pub mod Writing
 pub mod Performing
+pub mod Calling

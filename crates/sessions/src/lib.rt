@@ -8,6 +8,7 @@
 
 mod bytes;
 mod ending;
+mod law;
 mod outcome;
 mod perform;
 mod play;
@@ -15,4 +16,5 @@ mod run;
 mod threads;
 
 pub use bytes::{session, session_alone};
+pub use law::calls_leave_what_their_script_leaves;
 pub use outcome::{Ended, SessionFault};
