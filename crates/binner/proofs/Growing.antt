@@ -146,6 +146,8 @@ module _ {A : Type 0} (old new : Compiling A) where
   entered_sound e n h k = record {
     lists = subst IsLists (sym h.lists) k.lists;
     short = λ j. same _ _ _ _ (ap (λ l. length (at l j).numbers) h.lists) (ap length h.triangles) (ap length h.colors) (ap length h.depths) (k.short j);
+    triangles = rw h.triangles k.triangles;
+    clears = rw (h.colors, h.depths) k.clears;
   }
     where
       same : {x t c d : ℕ} (y u b a : ℕ) → y ≡ x → u ≡ t → b ≡ c → a ≡ d → x ≤ 2 * t + (c + d) → y ≤ 2 * u + (b + a)
@@ -160,6 +162,8 @@ module _ {A : Type 0} (old new : Compiling A) where
     short = budget _ _ _ _ _ _ new.lists 2
         (grown_short (λ j. TakesTriangle setup.edges setup.bounds (tile_rect old.lists.size j) entry (length old.triangles.items)) old.lists new.lists _ 2 (λ j o w p. taken_longer setup (tile_rect old.lists.size j) entry (length old.triangles.items) o w p) h.sound h.lists k.short)
         (sums _ _ _ _ _ _ (ap length h.triangles ∙ length-append old.triangles.items (setup ∷ [])) (ap length h.colors) (ap length h.depths));
+    triangles = rw h.triangles (simp length-append (omega (arith, h.room)));
+    clears = rw (h.colors, h.depths) k.clears;
   }
     where
       sums : (t c d u b a : ℕ) → u ≡ t + 1 → b ≡ c → a ≡ d → 2 * t + (c + d) + 2 ≡ 2 * u + (b + a)
@@ -171,6 +175,8 @@ module _ {A : Type 0} (old new : Compiling A) where
     short = budget _ _ _ _ _ _ new.lists 1
         (grown_short (λ j. TakesClear (ClearC (length old.colors.items))) old.lists new.lists _ 1 (λ j o w p. cleared_longer (ClearC (length old.colors.items)) o w p) h.sound h.lists k.short)
         (sums _ _ _ _ _ _ (ap length h.triangles) (ap length h.colors ∙ length-append old.colors.items (rgba ∷ [])) (ap length h.depths));
+    triangles = rw h.triangles k.triangles;
+    clears = rw (h.colors, h.depths) (simp length-append (omega (arith, h.room)));
   }
     where
       sums : (t c d u b a : ℕ) → u ≡ t → b ≡ c + 1 → a ≡ d → 2 * t + (c + d) + 1 ≡ 2 * u + (b + a)
@@ -182,6 +188,8 @@ module _ {A : Type 0} (old new : Compiling A) where
     short = budget _ _ _ _ _ _ new.lists 1
         (grown_short (λ j. TakesClear (ClearDs (length old.depths.items))) old.lists new.lists _ 1 (λ j o w p. cleared_longer (ClearDs (length old.depths.items)) o w p) h.sound h.lists k.short)
         (sums _ _ _ _ _ _ (ap length h.triangles) (ap length h.colors) (ap length h.depths ∙ length-append old.depths.items (v ∷ [])));
+    triangles = rw h.triangles k.triangles;
+    clears = rw (h.colors, h.depths) (simp length-append (omega (arith, h.room)));
   }
     where
       sums : (t c d u b a : ℕ) → u ≡ t → b ≡ c → a ≡ d + 1 → 2 * t + (c + d) + 1 ≡ 2 * u + (b + a)
