@@ -1,6 +1,6 @@
 -- Lists that are cut into segments, command by command.
 use Rattle.std.proofs.Common.{◌≡◌, ◌∙◌, ap, sym, subst, refl, Bool, ℕ, ◌+◌, ◌<◌, ◌≤◌, List, [], ◌∷◌, ◌++◌, length, map, drop, get_or, append_assoc}
-use Rattle.std.specs.Prelude.{None, Result, Ok, Err, IfOk}
+use Rattle.std.specs.Prelude.{None}
 use Rattle.std.proofs.lemmas.List.{append-nil, take_all, map-append}
 use Rattle.std.proofs.lemmas.List.Elements.{filter_map-append}
 use Rattle.gfxspec.specs.State.{Settings}
@@ -103,11 +103,6 @@ same_behind fs gs cs segment ys s e is p q =
 
 pub pushed : {A : Type 0} (xs ys : List (Code A)) (d : Code A) (cs : List Command) → map command_value xs ≡ cs → ys ≡ xs ++ d ∷ [] → map command_value ys ≡ cs ++ command_value d ∷ []
 pushed xs ys d cs e p = ap (map command_value) p ∙ map-append command_value xs (d ∷ []) ∙ ap (λ k. k ++ command_value d ∷ []) e
-
--- what follows from what holds of the value on success
-pub if_ok : {T E : Type 0} (P Q : T → Type 0) (r : Result T E) → ((x : T) → P x → Q x) → IfOk r P → IfOk r Q
-if_ok P Q (Ok x) f h = f x h
-if_ok P Q (Err e) f h = tt
 
 -- ---- the first i commands of a list
 

@@ -3,7 +3,7 @@ use Rattle.gfxspec.specs.Recorded.{items_at}
 use Rattle.meaning.specs.OneMore.{performed_items}
 use Rattle.command.specs.Seen.{state_value, command_value}
 use Rattle.cmdlist.specs.Drawable.{told}
-use Rattle.binner.proofs.Changing.{on_ok}
+use Rattle.std.proofs.lemmas.Result.{on_ok_weaker}
 use Rattle.binner.proofs.Commands.{adds_nothing, adds_same, performed_by}
 use Rattle.binner.proofs.compiling.add_performed.Goals as goal
 
@@ -17,6 +17,6 @@ pub returns-clause-drawn : goal.returns-clause-drawn
 returns-clause-drawn g c =
     let s = state_value c.args.state.now in
     let k = command_value c.args.command.now in
-    on_ok c.add_command.result
+    on_ok_weaker c.add_command.result
     (adds_same (λ opened. items_at s opened k) (λ opened. performed_items (told c.args.results.now) s opened k) (λ opened. sym (performed_by (told c.args.results.now) s k false (sym c.is_withheld.ensures ∙ search rules) opened)))
     c.add_command.ensures.drawn
