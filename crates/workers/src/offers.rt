@@ -100,7 +100,7 @@ fn hand_back<'a, J: TileJob + Drop, A: Allocator, R: Wait>(
 }
 
 // One more owner of a run, where there can be one.
-fn shared<'a, J: TileJob + Drop, A: Allocator>(
+fn another_owner<'a, J: TileJob + Drop, A: Allocator>(
     run: &Arc<SharedRun<'a, J, A>, &'a A>,
 ) -> Option<Arc<SharedRun<'a, J, A>, &'a A>>
     ensures { IfSome result (λ r. arc_value r ≡ arc_value run.now) }
@@ -182,7 +182,7 @@ pub(crate) fn offer_parts<'a, J: TileJob + Drop, A: Allocator, R: Wait>(
     let group = others.min(far);
     let (near_seat, far_seat) = run.board.split(seat);
     let offered = Part::new(far_seat, far, group);
-    let asleep = put_offer(rt, mailbox, shared(run), pass, offered);
+    let asleep = put_offer(rt, mailbox, another_owner(run), pass, offered);
     let behind = from_place(mailboxes, group);
     let rest = Part::new(near_seat, weight - far, workers - group);
     let seat = offer_parts(rt, behind, run, pass, rest);
