@@ -1,7 +1,6 @@
 -- Changes of one tile's list.
 use Rattle.std.proofs.Common.{◌≡◌, ◌∙◌, ap, sym, subst, refl, arith, ℕ, ◌+◌, ◌≤◌, inl, inr, List, [], ◌∷◌, ◌++◌, length, Some, true, length-append}
-use Rattle.std.specs.Prelude.{Result, Ok, Err, OnOk, None, false}
-use Rattle.std.specs.Result.{is_err}
+use Rattle.std.specs.Prelude.{None}
 use Rattle.gfxspec.specs.declared.geometry.PixelRect.{PixelRect}
 use Rattle.gfxspec.specs.Raster.{Triangle}
 use Rattle.classify.specs.Region.{IsClassOf}
@@ -17,16 +16,6 @@ use Rattle.binner.specs.declared.lists.Lists.{Lists}
 use Rattle.binner.specs.Lists.{TileList, at, has_some, ChangesAt, IsDrawnSince, GainsWord, PutsInForce, AddsTriangle, TakesClear}
 use Rattle.binner.proofs.Lasting.{drawn_of_tail}
 use Rattle.binner.proofs.Pushing.{flagged, some_pushed}
-
--- what holds on success
-pub on_ok : {T E P Q : Type 0} (r : Result T E) → (P → Q) → OnOk r P → OnOk r Q
-on_ok (Ok x) f h = f h
-on_ok (Err e) f h = h
-
--- what an answer that isn't an error tells
-pub told : {T E P : Type 0} (r : Result T E) → is_err r ≡ false → OnOk r P → P
-told (Ok x) h p = p
-told (Err e) h p = absurd cc
 
 some_drawn : (first : ℕ) (ns : List ℕ) → IsDrawnSince first ns → has_some ns ≡ true
 some_drawn first [] d = let e : None ≡ Some d.n = d.last None in absurd cc

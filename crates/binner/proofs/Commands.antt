@@ -1,17 +1,18 @@
 -- One command more.
-use Rattle.std.proofs.Common.{◌≡◌, ◌∙◌, ap, sym, subst, refl, arith, ℕ, ℤ, ◌+◌, ◌≤◌, List, [], ◌∷◌, ◌++◌, length, length-append, append-nil}
+use Rattle.std.proofs.Common.{◌≡◌, ◌∙◌, ap, sym, subst, refl, ℕ, ℤ, Bool, List, [], ◌++◌, append-nil, if◌then◌else◌}
 use Rattle.gfxspec.specs.declared.pixel.DepthStencil.{DepthStencil}
 use Rattle.gfxspec.specs.State.{Settings}
-use Rattle.gfxspec.specs.Assembly.{Primitive}
+use Rattle.gfxspec.specs.Items.{Item}
 use Rattle.gfxspec.specs.Commands.{Command, ClearColor, ClearDepthStencil}
-use Rattle.gfxspec.specs.Recorded.{drawn_items, items_at}
-use Rattle.meaning.specs.OneMore.{triangles_of}
+use Rattle.gfxspec.specs.Recorded.{items_at}
+use Rattle.gfxspec.specs.Predication.{withholds}
+use Rattle.meaning.specs.OneMore.{performed_items}
 use Rattle.command.specs.declared.command.Command.{Command as Code}
 use Rattle.command.specs.declared.command.Command.TheVariants as code
 use Rattle.command.specs.Seen.{command_value}
 use Rattle.binner.specs.declared.compiling.Compiling.{Compiling}
 use Rattle.binner.specs.Meaning.{entry_of}
-use Rattle.binner.specs.Compiling.{HasCompiled, IsSound, IsEntry, IsCurrent, AddsColor, AddsDepth, Grows, DrawsTriangles, Draws}
+use Rattle.binner.specs.Compiling.{HasCompiled, IsEntry, IsCurrent, CanTake, AddsColor, AddsDepth, Adds}
 use Rattle.binner.proofs.Growing.{color_means, color_sound, depth_means, depth_sound}
 
 -- a command that neither draws nor clears
@@ -32,52 +33,40 @@ nothing_at (code.Begin v) s opened a b c d = refl
 nothing_at (code.End v) s opened a b c d = refl
 nothing_at (code.Kept v) s opened a b c d = refl
 
--- a command that draws nothing
-pub draws_nothing : {A : Type 0} (s : Settings) (bits : ℕ) (c : Command) (k : Compiling A) → ((opened : List ℕ) → items_at s opened c ≡ []) → IsSound k → IsCurrent k s bits → Draws s bits c k k
-draws_nothing s bits c k none sound current = record {
-  sound = sound;
-  current = current;
-  grows = record { size = refl; states = omega arith; drawn = omega arith; clears = omega arith };
+-- nothing is added
+pub adds_nothing : {A : Type 0} (s : Settings) (bits : ℕ) (more : List ℕ → List Item) (k : Compiling A) → ((opened : List ℕ) → more opened ≡ []) → CanTake s bits k → Adds s bits more k k
+adds_nothing s bits more k none can = record {
+  can = can;
+  size = refl;
   means = λ items opened are h. subst (HasCompiled k) (sym (ap (λ l. items ++ l) (none opened) ∙ append-nil items)) h;
 }
 
-module _ {A : Type 0} (old new : Compiling A) (s : Settings) (bits : ℕ) (sound : IsSound old) (current : IsCurrent old s bits) where
+-- the same items
+pub adds_same : {A : Type 0} {s : Settings} {bits : ℕ} {old new : Compiling A} (f g : List ℕ → List Item) → ((opened : List ℕ) → f opened ≡ g opened) → Adds s bits f old new → Adds s bits g old new
+adds_same {new = new} f g is h = record {
+  can = h.can;
+  size = h.size;
+  means = λ items opened are m. subst (λ l. HasCompiled new (items ++ l)) (is opened) (h.means items opened are m);
+}
+
+-- what a command adds that its predicate may withhold
+pub performed_by : (results : ℕ → Bool) (s : Settings) (c : Command) (b : Bool) → withholds results s.predicate ≡ b → (opened : List ℕ) → performed_items results s opened c ≡ (if b then [] else items_at s opened c)
+performed_by results s c b is opened = ap (λ w. if w then [] else items_at s opened c) is
+
+module _ {A : Type 0} (old new : Compiling A) (s : Settings) (bits : ℕ) (can : CanTake s bits old) where
   stays_current : new.states.items ≡ old.states.items → new.current ≡ old.current → IsCurrent new s bits
-  stays_current p q n e = subst (λ es. IsEntry es (entry_of s bits) n) (sym p) (current n (sym q ∙ e))
+  stays_current p q n e = subst (λ es. IsEntry es (entry_of s bits) n) (sym p) (can.current n (sym q ∙ e))
 
-  same : (a b : ℕ) → a ≡ b → a ≤ b + 1
-  same a b e = omega arith
-
-  none : (a b n : ℕ) → a ≡ b → a ≤ b + n
-  none a b n e = omega arith
-
-  one_more : (a b c d : ℕ) → a ≡ c + 1 → b ≡ d → a + b ≤ c + d + 1
-  one_more a b c d p q = omega arith
-
-  more_one : (a b c d : ℕ) → a ≡ c → b ≡ d + 1 → a + b ≤ c + d + 1
-  more_one a b c d p q = omega arith
-
-  pub draws_color : (rgba : List ℕ) → AddsColor rgba old new → Draws s bits (ClearColor rgba) old new
-  draws_color rgba h = record {
-    sound = color_sound old new rgba h sound;
-    current = stays_current h.states h.current;
-    grows = record { size = h.lists.size; states = same _ _ (ap length h.states); drawn = none _ _ _ (ap length h.triangles); clears = one_more _ _ _ _ (ap length h.colors ∙ length-append old.colors.items (rgba ∷ [])) (ap length h.depths) };
+  pub adds_color : (rgba : List ℕ) → AddsColor rgba old new → Adds s bits (λ opened. items_at s opened (ClearColor rgba)) old new
+  adds_color rgba h = record {
+    can = record { sound = color_sound old new rgba h can.sound; current = stays_current h.states h.current };
+    size = h.lists.size;
     means = λ items opened are c. color_means old new rgba items h c;
   }
 
-  pub draws_depth : (v : DepthStencil) → AddsDepth v old new → Draws s bits (ClearDepthStencil v.depth v.stencil) old new
-  draws_depth v h = record {
-    sound = depth_sound old new v h sound;
-    current = stays_current h.states h.current;
-    grows = record { size = h.lists.size; states = same _ _ (ap length h.states); drawn = none _ _ _ (ap length h.triangles); clears = more_one _ _ _ _ (ap length h.colors) (ap length h.depths ∙ length-append old.depths.items (v ∷ [])) };
+  pub adds_depth : (v : DepthStencil) → AddsDepth v old new → Adds s bits (λ opened. items_at s opened (ClearDepthStencil v.depth v.stencil)) old new
+  adds_depth v h = record {
+    can = record { sound = depth_sound old new v h can.sound; current = stays_current h.states h.current };
+    size = h.lists.size;
     means = λ items opened are c. depth_means old new v items h c;
   }
-
--- a draw of its triangles is what the command is
-pub draws_triangles : {A : Type 0} (old new : Compiling A) (s : Settings) (bits : ℕ) (c : Command) (ps : List Primitive) → ((opened : List ℕ) → drawn_items s opened ps ≡ items_at s opened c) → length ps ≡ triangles_of s c → DrawsTriangles s bits ps old new → Draws s bits c old new
-draws_triangles old new s bits c ps is count h = record {
-  sound = h.sound;
-  current = h.current;
-  grows = subst (λ n. Grows n old new) count h.grows;
-  means = λ items opened are m. subst (λ l. HasCompiled new (items ++ l)) (is opened) (h.means items opened are m);
-}

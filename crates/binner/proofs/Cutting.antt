@@ -1,11 +1,11 @@
 -- Lists that are cut into segments, command by command.
-use Rattle.std.proofs.Common.{◌≡◌, ◌∙◌, ap, sym, subst, refl, Bool, ℕ, ◌+◌, ◌<◌, ◌≤◌, List, [], ◌∷◌, ◌++◌, length, map, get_or, append_assoc}
-use Rattle.std.specs.Prelude.{None, Result, Ok, Err, IfOk}
+use Rattle.std.proofs.Common.{◌≡◌, ◌∙◌, ap, sym, subst, refl, Bool, ℕ, ◌+◌, ◌<◌, ◌≤◌, List, [], ◌∷◌, ◌++◌, length, map, drop, get_or, append_assoc}
+use Rattle.std.specs.Prelude.{None}
 use Rattle.std.proofs.lemmas.List.{append-nil, take_all, map-append}
 use Rattle.std.proofs.lemmas.List.Elements.{filter_map-append}
 use Rattle.gfxspec.specs.State.{Settings}
 use Rattle.gfxspec.specs.Commands.{Command, Begin, Kept}
-use Rattle.gfxspec.specs.Recorded.{settings_after, items, issues, query_begun}
+use Rattle.gfxspec.specs.Recorded.{settings_after, open_from, items, issues, query_begun}
 use Rattle.gfxspec.specs.Predication.{performed}
 use Rattle.gfxspec.specs.Accepted.{AreSound, AreAccepted}
 use Rattle.meaning.specs.OneMore.{settings_with, performed_items}
@@ -14,12 +14,21 @@ use Rattle.meaning.proofs.Withheld.{items_performed-push}
 use Rattle.meaning.proofs.Accepting.{sound_with}
 use Rattle.command.specs.declared.command.Command.{Command as Code}
 use Rattle.command.specs.Seen.{command_value}
-use Rattle.cmdlist.specs.Drawable.{IsDrawable}
-use Rattle.binner.specs.Segments.{ReadyBehind, IsOpenSegment, CanFollow, IsSame, IsMore, cut_items, laid_items}
-use Rattle.binner.proofs.Accepted.{done, done_more, whole, drawable, accepted_at}
-use Rattle.binner.proofs.Batching.{none_open, still_none}
+use Rattle.binner.specs.Opened.{CanNote}
+use Rattle.binner.specs.Compiling.{CanStand, CanCompile}
+use Rattle.binner.specs.Segments.{IsOpenSegment, CanFollow, IsSame, IsMore, cut_items, laid_items}
+use Rattle.binner.proofs.Accepted.{done, done_more, whole, can_note, drawable, accepted_at}
 
--- ---- where no issue begins
+-- ---- where no issue begins, none is open
+
+none_open : (k : ℕ) (cs : List Command) → issues cs ≡ [] → open_from k cs ≡ []
+none_open k [] h = refl
+none_open k (Begin q ∷ cs) h = absurd cc
+none_open k (c ∷ cs) h = none_open k cs h
+
+none_at_front : (xs ys : List ℕ) → xs ++ ys ≡ [] → xs ≡ []
+none_at_front [] ys h = refl
+none_at_front (x ∷ xs) ys h = absurd cc
 
 begins_none : (c : Command) (cs : List Command) → issues (c ∷ cs) ≡ [] → query_begun c ≡ None
 begins_none (Begin q) cs h = absurd cc
@@ -36,17 +45,17 @@ none_begun c h = refl
 
 -- ---- the open segment
 
-ready-push : (earlier xs : List Command) (c : Command) → ReadyBehind earlier xs → IsDrawable (settings_after (earlier ++ xs)) c → ReadyBehind earlier (xs ++ c ∷ [])
-ready-push earlier [] c h d = (subst (λ e. IsDrawable (settings_after e) c) (append-nil earlier) d, tt)
-ready-push earlier (x ∷ xs) c h d =
-    (h.0, ready-push (earlier ++ x ∷ []) xs c h.1 (subst (λ e. IsDrawable (settings_after e) c) (sym (append_assoc earlier (x ∷ []) xs)) d))
+stands-push : (earlier xs : List Command) (c : Command) → CanCompile earlier xs → CanStand (earlier ++ xs) c → CanCompile earlier (xs ++ c ∷ [])
+stands-push earlier [] c h d = (subst (λ e. CanStand e c) (append-nil earlier) d, tt)
+stands-push earlier (x ∷ xs) c h d =
+    (h.0, stands-push (earlier ++ x ∷ []) xs c h.1 (subst (λ e. CanStand e c) (sym (append_assoc earlier (x ∷ []) xs)) d))
 
 pub still_open : (cs : List Command) (s t : Settings) (c : Command) → IsOpenSegment cs s → CanFollow (settings_after cs) c → t ≡ settings_with c s → IsOpenSegment (cs ++ c ∷ []) t
 still_open cs s t c h f e =
     let is : t ≡ settings_with c (settings_after cs) = e ∙ ap (settings_with c) h.state in
     record {
       segment = record {
-        ready = ready-push [] cs c h.segment.ready f.drawable;
+        can = stands-push [] cs c h.segment.can (record { drawable = f.drawable; note = subst (λ is. CanNote (length is) c) (sym h.segment.unissued) f.note });
         unissued = filter_map-append query_begun cs (c ∷ []) ∙ ap (λ k. k ++ issues (c ∷ [])) h.segment.unissued ∙ none_begun c f.unissued;
       };
       state = is ∙ sym (settings_after-push cs c);
@@ -95,11 +104,6 @@ same_behind fs gs cs segment ys s e is p q =
 pub pushed : {A : Type 0} (xs ys : List (Code A)) (d : Code A) (cs : List Command) → map command_value xs ≡ cs → ys ≡ xs ++ d ∷ [] → map command_value ys ≡ cs ++ command_value d ∷ []
 pushed xs ys d cs e p = ap (map command_value) p ∙ map-append command_value xs (d ∷ []) ∙ ap (λ k. k ++ command_value d ∷ []) e
 
--- what follows from what holds of the value on success
-pub if_ok : {T E : Type 0} (P Q : T → Type 0) (r : Result T E) → ((x : T) → P x → Q x) → IfOk r P → IfOk r Q
-if_ok P Q (Ok x) f h = f x h
-if_ok P Q (Err e) f h = tt
-
 -- ---- the first i commands of a list
 
 -- these commands are cut: they stand in the finished segments behind those that were there, and in the open one
@@ -111,12 +115,18 @@ pub none_cut : (start : List (List Command)) → Cut start [] start []
 none_cut start = record { state = refl; items = λ results. refl }
 
 module _ {A : Type 0} (cs : List (Code A)) (i : ℕ) (d : Code A) (l : i < length cs) where
+  none_issued : issues (map command_value cs) ≡ [] → issues (done cs i) ≡ []
+  none_issued h =
+      none_at_front (issues (done cs i)) _
+      (sym (filter_map-append query_begun (done cs i) (command_value (get_or cs i d) ∷ map command_value (drop (i + 1) cs))) ∙ ap issues (sym (whole cs i d l)) ∙ h)
+
   pub can_follow : (start finished : List (List Command)) (opened : List Command) → AreAccepted (map command_value cs) → issues (map command_value cs) ≡ [] → Cut start (done cs i) finished opened → CanFollow (settings_after opened) (command_value (get_or cs i d))
   can_follow start finished opened accepted unissued h =
       let c = command_value (get_or cs i d) in
       let ready = drawable cs i d (settings_after opened) accepted l h.state in
       record {
         drawable = ready;
+        note = subst (λ is. CanNote (length is) c) (none_issued unissued) (can_note (done cs i) c (accepted_at cs i d accepted l));
         sound = sound_with (done cs i) c (settings_after opened) (accepted_at cs i d accepted l) ready.sound;
         unissued = begins_none_behind (done cs i) c _ (subst (λ k. issues k ≡ []) (whole cs i d l) unissued);
       }
@@ -133,7 +143,7 @@ module _ {A : Type 0} (cs : List (Code A)) (i : ℕ) (d : Code A) (l : i < lengt
             ∙ append_assoc (cut_items results start) (items (performed results (done cs i))) (performed_items results (settings_after xs) [] c)
             ∙ ap (λ is. cut_items results start ++ is)
             (ap (λ s. items (performed results (done cs i)) ++ performed_items results s [] c) h.state
-            ∙ ap (λ o. items (performed results (done cs i)) ++ performed_items results (settings_after (done cs i)) o c) (sym (still_none results cs i unissued))
+            ∙ ap (λ o. items (performed results (done cs i)) ++ performed_items results (settings_after (done cs i)) o c) (sym (none_open 0 (done cs i) (none_issued unissued)))
             ∙ sym (items_performed-push results (done cs i) c) ∙ ap (λ ys. items (performed results ys)) (sym more));
       }
 

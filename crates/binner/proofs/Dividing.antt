@@ -136,6 +136,7 @@ can_draw_part None s rest at n from a l h =
     let rows = none_of (draw_rows s rest at) h.drawable.within in
     record {
       drawable = record { sound = h.drawable.sound; within = both _ _ _ _ rows.0 (not_beyond (length s.vertices) (from + n) (omega (arith, l, (fits None s rest at h).0))) };
+      note = tt;
       sound = h.sound;
       unissued = refl;
     }
@@ -150,6 +151,7 @@ can_draw_part (Some base) s rest at n from a l h =
         within = all_three _ _ _ _ _ _ rows.0 (not_beyond (length s.indices) (from + n) (omega (arith, l, (fits (Some base) s rest at h).0)))
             (ap not (all_of_part (is_used_well s.topology (length s.vertices) base) s.indices rest at n from a l (not_false _ rows.1.1.0)));
       };
+      note = tt;
       sound = h.sound;
       unissued = refl;
     }

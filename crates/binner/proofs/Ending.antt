@@ -18,7 +18,8 @@ use Rattle.binner.specs.Program.{Tables}
 use Rattle.binner.specs.Meaning.{ProgramFits, ProgramMeans}
 use Rattle.binner.specs.Lists.{TileList, at, times, has_some, IsLists}
 use Rattle.binner.proofs.Pushing.{same_list}
-use Rattle.binner.specs.Compiling.{tables, compilation_of, ListMeans, IsFresh, IsWhole}
+use Rattle.binner.specs.Compiling.{tables, compilation_of, ListMeans, HasCompiled, IsSound, IsFresh}
+use Rattle.binner.specs.Batched.{MeansItems}
 use Rattle.binner.specs.Compiled.{Compilation, IsCompilation, MeansList, CountsAreSums}
 use Rattle.binner.proofs.Items.{nothing_means}
 
@@ -86,35 +87,30 @@ module _ {A : Type 0} (c : Compiling A) (size : IsTrue (is_size c.lists.size)) (
       none : (n : ℕ) → None ≡ Some n → ⊥
       none n p = cc
 
-  pub fresh : c.states.items ≡ [] → c.triangles.items ≡ [] → c.colors.items ≡ [] → c.depths.items ≡ [] → c.current ≡ None → IsFresh c
-  fresh s t u v w = record {
-    sound = record { lists = first_lists; short = λ k. no_longer k _ };
-    states = s;
-    triangles = t;
-    colors = u;
-    depths = v;
-    current = w;
+  pub fresh : c.triangles.items ≡ [] → c.colors.items ≡ [] → c.depths.items ≡ [] → IsFresh c
+  fresh t u v = record {
+    sound = record { lists = first_lists; short = λ k. no_longer k _; triangles = rw t (omega arith); clears = rw (u, v) (omega arith) };
     compiled = λ k l. subst (ListMeans (tables c) (tile_rect c.lists.size k) [] c.current) (sym (at_first k)) (nothing_listed (tables c) (tile_rect c.lists.size k) c.current);
   }
 
 -- ---- the end
 
-module _ {A : Type 0} (commands : List Command) (begun : ℕ) (old c : Compiling A) (h : IsWhole commands begun old c) where
-  pub is_compilation : IsCompilation (compilation_of begun c)
-  is_compilation = record {
-    size = h.sound.lists.size;
-    issues = h.few;
-    tiles = h.sound.lists.bins;
-    short = λ k. most _ _ _ _ (h.sound.short k) h.room.triangles h.room.clears;
-    programs = λ k l. program_fits (tables c) (tile_rect c.lists.size k) (items commands) c.current (at c.lists k) (h.compiled k l);
-    touched = h.sound.lists.once;
+module _ {A : Type 0} (begun : ℕ) (c : Compiling A) (is : List Item) (h : HasCompiled c is) where
+  pub is_compilation : begun ≤ 64 → IsSound c → IsCompilation (compilation_of begun c)
+  is_compilation few sound = record {
+    size = sound.lists.size;
+    issues = few;
+    tiles = sound.lists.bins;
+    short = λ k. most _ _ _ _ (sound.short k) sound.triangles sound.clears;
+    programs = λ k l. program_fits (tables c) (tile_rect c.lists.size k) is c.current (at c.lists k) (h k l);
+    touched = sound.lists.once;
   }
     where
       most : (n t c d : ℕ) → n ≤ 2 * t + (c + d) → t ≤ 65536 → c + d ≤ 65536 → n ≤ 196608
       most n t c d p q r = omega arith
 
-  pub means_list : MeansList commands (compilation_of begun c)
-  means_list k l = program_means (tables c) (tile_rect c.lists.size k) (items commands) c.current (at c.lists k) (h.compiled k l)
+  pub means_items : MeansItems is (compilation_of begun c)
+  means_items k l = program_means (tables c) (tile_rect c.lists.size k) is c.current (at c.lists k) (h k l)
 
 pub counts_are_sums : (commands : List Command) (c : Compilation) → MeansList commands c → CountsAreSums commands c
 counts_are_sums commands c h issue opening few =

@@ -1,27 +1,14 @@
 -- A draw whose triangles are set up already.
-use Rattle.std.proofs.Common.{◌≡◌, sym, subst, refl, ℕ, inl, inr, List, [], ◌∷◌, length, arith}
+use Rattle.std.proofs.Common.{◌≡◌, sym, subst, refl, ℕ, inl, inr, List, [], ◌∷◌, length}
 use Rattle.gfxspec.specs.State.{Settings}
 use Rattle.gfxspec.specs.Assembly.{Primitive}
-use Rattle.gfxspec.specs.Commands.{Command, Draw, DrawIndexed}
-use Rattle.meaning.specs.OneMore.{triangles_of}
 use Rattle.binner.specs.declared.entry.Current.{Current}
 use Rattle.binner.specs.declared.setup.TriSetup.{TriSetup}
 use Rattle.binner.specs.declared.compiling.Compiling.{Compiling}
 use Rattle.binner.specs.Meaning.{IsSetupOf}
 use Rattle.binner.specs.Compiling.{AddsSetup}
 use Rattle.binner.specs.Setups.{ReachesNothing, AreSetups}
-use Rattle.cmdlist.specs.Drawable.{drawn_by}
 use Rattle.binner.proofs.Drawing.{Drew, drew_setup, drew_skip}
-
--- how many triangles a command draws
-pub drawn_count : (s : Settings) (c : Command) → length (drawn_by s c) ≡ triangles_of s c
-drawn_count s (Draw count start) = refl
-drawn_count s (DrawIndexed count start base) = refl
-drawn_count s c = refl
-
-pub none_left : {X : Type 0} (xs : List X) → length xs ≡ 0 → xs ≡ []
-none_left [] h = refl
-none_left (x ∷ xs) h = absurd (omega (arith, h))
 
 -- the setups that are left are those of the triangles that are left
 pub record Filled {A : Type 0} (old new : Compiling A) (s : Settings) (bits : ℕ) (now : Current) (all : List Primitive) (ts : List TriSetup) : Type 0 where

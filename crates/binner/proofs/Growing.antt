@@ -2,6 +2,7 @@
 use Rattle.std.proofs.Common.{◌≡◌, ◌∙◌, ap, sym, subst, refl, arith, ℕ, zero, suc, ◌+◌, ◌*◌, ◌<◌, ◌≤◌, inl, inr, ⊎_elim, List, [], ◌∷◌, ◌++◌, length, Some, None, slice_get, length-append, true, false, Bool}
 use Rattle.std.specs.Prelude.{nat_lt, slice_index_or, unwrap_or, not, ◌==◌}
 use Rattle.std.proofs.lemmas.Bool.Decides.{nat_tests}
+use Rattle.std.proofs.lemmas.Option.{slice_get_within}
 use Rattle.gfxspec.specs.declared.pixel.DepthStencil.{DepthStencil}
 use Rattle.gfxspec.specs.declared.geometry.PixelRect.{PixelRect}
 use Rattle.gfxspec.specs.State.{Settings}
@@ -19,7 +20,7 @@ use Rattle.binner.specs.Program.{program}
 use Rattle.binner.specs.Lists.{TileList, at, IsLists, IsShort, EachChanges, TakesTriangle, TakesClear, drawn_behind}
 use Rattle.binner.specs.Compiling.{tables, ListMeans, HasCompiled, IsSound, IsEntry, Enters, AddsSetup, AddsColor, AddsDepth}
 use Rattle.binner.proofs.Changing.{Longer, added_longer, cleared_longer}
-use Rattle.binner.proofs.Steps.{triangle_listed, color_listed, depth_listed, list_kept, list_entered, get_more, got_within, new_place, small_tile}
+use Rattle.binner.proofs.Steps.{triangle_listed, color_listed, depth_listed, list_kept, list_entered, get_more, new_place, small_tile}
 
 more_or_same : {A : Type 0} (xs ys zs : List A) → ys ≡ xs ++ zs → (n : ℕ) (x : A) → slice_get xs n ≡ Some x → slice_get ys n ≡ Some x
 more_or_same xs ys zs e n x h = ap (λ l. slice_get l n) e ∙ get_more xs zs n x h
@@ -49,7 +50,7 @@ module _ {A : Type 0} (old new : Compiling A) where
       was : (k : ℕ) (l : k < tile_count old.lists.size) (z : Current) (n : ℕ) → new.current ≡ Some z → drawn_behind None (program (at old.lists k).numbers) ≡ Some n → z.first ≤ n → old.current ≡ Some z
       was k l z n c q le = ⊎_elim
           (λ p. p.0 ∙ sym h.current ∙ c)
-          (λ p. absurd (above _ _ _ _ (ap (λ o. (unwrap_or o s).first) (sym h.current ∙ c)) p.0 le (let x = (all k l).below n q in got_within old.triangles.items n x.0 x.1)))
+          (λ p. absurd (above _ _ _ _ (ap (λ o. (unwrap_or o s).first) (sym h.current ∙ c)) p.0 le (let x = (all k l).below n q in slice_get_within old.triangles.items n x.0 x.1)))
           h.states
         where
           above : (a b n t : ℕ) → a ≡ b → a ≡ t → b ≤ n → n < t → ⊥
@@ -146,6 +147,8 @@ module _ {A : Type 0} (old new : Compiling A) where
   entered_sound e n h k = record {
     lists = subst IsLists (sym h.lists) k.lists;
     short = λ j. same _ _ _ _ (ap (λ l. length (at l j).numbers) h.lists) (ap length h.triangles) (ap length h.colors) (ap length h.depths) (k.short j);
+    triangles = rw h.triangles k.triangles;
+    clears = rw (h.colors, h.depths) k.clears;
   }
     where
       same : {x t c d : ℕ} (y u b a : ℕ) → y ≡ x → u ≡ t → b ≡ c → a ≡ d → x ≤ 2 * t + (c + d) → y ≤ 2 * u + (b + a)
@@ -160,6 +163,8 @@ module _ {A : Type 0} (old new : Compiling A) where
     short = budget _ _ _ _ _ _ new.lists 2
         (grown_short (λ j. TakesTriangle setup.edges setup.bounds (tile_rect old.lists.size j) entry (length old.triangles.items)) old.lists new.lists _ 2 (λ j o w p. taken_longer setup (tile_rect old.lists.size j) entry (length old.triangles.items) o w p) h.sound h.lists k.short)
         (sums _ _ _ _ _ _ (ap length h.triangles ∙ length-append old.triangles.items (setup ∷ [])) (ap length h.colors) (ap length h.depths));
+    triangles = rw h.triangles (simp length-append (omega (arith, h.room)));
+    clears = rw (h.colors, h.depths) k.clears;
   }
     where
       sums : (t c d u b a : ℕ) → u ≡ t + 1 → b ≡ c → a ≡ d → 2 * t + (c + d) + 2 ≡ 2 * u + (b + a)
@@ -171,6 +176,8 @@ module _ {A : Type 0} (old new : Compiling A) where
     short = budget _ _ _ _ _ _ new.lists 1
         (grown_short (λ j. TakesClear (ClearC (length old.colors.items))) old.lists new.lists _ 1 (λ j o w p. cleared_longer (ClearC (length old.colors.items)) o w p) h.sound h.lists k.short)
         (sums _ _ _ _ _ _ (ap length h.triangles) (ap length h.colors ∙ length-append old.colors.items (rgba ∷ [])) (ap length h.depths));
+    triangles = rw h.triangles k.triangles;
+    clears = rw (h.colors, h.depths) (simp length-append (omega (arith, h.room)));
   }
     where
       sums : (t c d u b a : ℕ) → u ≡ t → b ≡ c + 1 → a ≡ d → 2 * t + (c + d) + 1 ≡ 2 * u + (b + a)
@@ -182,6 +189,8 @@ module _ {A : Type 0} (old new : Compiling A) where
     short = budget _ _ _ _ _ _ new.lists 1
         (grown_short (λ j. TakesClear (ClearDs (length old.depths.items))) old.lists new.lists _ 1 (λ j o w p. cleared_longer (ClearDs (length old.depths.items)) o w p) h.sound h.lists k.short)
         (sums _ _ _ _ _ _ (ap length h.triangles) (ap length h.colors) (ap length h.depths ∙ length-append old.depths.items (v ∷ [])));
+    triangles = rw h.triangles k.triangles;
+    clears = rw (h.colors, h.depths) (simp length-append (omega (arith, h.room)));
   }
     where
       sums : (t c d u b a : ℕ) → u ≡ t → b ≡ c → a ≡ d + 1 → 2 * t + (c + d) + 1 ≡ 2 * u + (b + a)

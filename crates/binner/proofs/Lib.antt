@@ -19,9 +19,6 @@ pub mod Slices
 pub mod Filling
 pub mod Noting
 pub mod Whole
-pub mod Performing
 pub mod Ending
-pub mod Batching
-pub mod Reading
 pub mod Cutting
 pub mod Dividing

@@ -1,6 +1,7 @@
 -- Setups of slices of triangles, side by side.
-use Rattle.std.proofs.Common.{◌≡◌, ◌∙◌, ap, sym, subst, refl, ℕ, ◌+◌, ◌<◌, inl, inr, List, [], ◌∷◌, ◌++◌, length, map, Some, None, take, get_or, slice_get, append-nil, Bor, zero, suc, arith}
+use Rattle.std.proofs.Common.{◌≡◌, ◌∙◌, ap, sym, subst, refl, ℕ, ◌+◌, ◌<◌, inl, inr, List, [], ◌∷◌, ◌++◌, length, map, Some, None, take, get_or, append-nil, Bor}
 use Rattle.std.specs.Prelude.{Result, Ok, Err, IfOk, IfSome, MatchResult, All, Option}
+use Rattle.std.proofs.lemmas.Option.{slice_get-get_or, get_or_from_slice_get}
 use Rattle.std.specs.List.{flat_map, AllZip, Contains}
 use Rattle.std.specs.declared.vec.Vec.{Vec}
 use Rattle.std.specs.declared.alloc.AllocError.{AllocError}
@@ -76,16 +77,6 @@ module _ (s : Settings) (size : Size) where
 
 -- ---- the draws of a list
 
-got_or : {X : Type 0} (xs : List X) (i : ℕ) (d x : X) → slice_get xs i ≡ Some x → get_or xs i d ≡ x
-got_or [] i d x h = absurd cc
-got_or (y ∷ xs) zero d x h = cc
-got_or (y ∷ xs) (suc i) d x h = got_or xs i d x h
-
-got_some : {X : Type 0} (xs : List X) (i : ℕ) (d : X) → i < length xs → slice_get xs i ≡ Some (get_or xs i d)
-got_some [] i d h = absurd (omega (arith, h))
-got_some (y ∷ xs) zero d h = refl
-got_some (y ∷ xs) (suc i) d h = got_some xs i d (omega (arith, h))
-
 pub settings_more : {A : Type 0} (cs : List (Code A)) (place : ℕ) (d : Code A) (s t : Settings) → place < length cs → s ≡ settings_at cs place → t ≡ settings_with (command_value (get_or cs place d)) s → t ≡ settings_at cs (place + 1)
 settings_more cs place d s t l is e =
     let c = command_value (get_or cs place d) in
@@ -97,7 +88,7 @@ module _ {A : Type 0} (cs : List (Code A)) (size : Size) where
   set_up_for place d s now None l is e h = tt
   set_up_for place d s now (Some p) l is e h =
       subst (λ z. AreSetups s z (drawn_by s (command_value (get_or cs place d))) (all_setups p.items)) (sym e)
-      (subst (λ t. AreSetups t size (drawn_by t (command_value (get_or cs place d))) (all_setups p.items)) (sym is) (h (get_or cs place d) (got_some cs place d l)))
+      (subst (λ t. AreSetups t size (drawn_by t (command_value (get_or cs place d))) (all_setups p.items)) (sym is) (h (get_or cs place d) (slice_get-get_or cs place d l)))
 
   -- what is kept for a command is what it draws
   pub noted : (place : ℕ) (d : Code A) (s : Settings) (parts : Option (Vec (Vec TriSetup A) A)) (old new : List (DrawSetups A)) → s ≡ settings_at cs place → All (MatchesDraw cs size) old → IfSome parts (λ p. AreSetups s size (drawn_by s (command_value (get_or cs place d))) (all_setups p.items)) → Notes place parts old new → All (MatchesDraw cs size) new
@@ -106,4 +97,4 @@ module _ {A : Type 0} (cs : List (Code A)) (size : Size) where
       subst (All (MatchesDraw cs size)) (sym e)
       (All-push (MatchesDraw cs size) old (record { place = place; parts = p }) all
       (λ c q. subst (λ t. AreSetups t size (drawn_by t (command_value c)) (all_setups p.items)) is
-      (subst (λ k. AreSetups s size (drawn_by s (command_value k)) (all_setups p.items)) (got_or cs place d c q) h)))
+      (subst (λ k. AreSetups s size (drawn_by s (command_value k)) (all_setups p.items)) (get_or_from_slice_get cs place c d q) h)))

@@ -267,11 +267,6 @@ get_more [] ys n x h = absurd cc
 get_more (z ∷ xs) ys zero x h = h
 get_more (z ∷ xs) ys (suc n) x h = get_more xs ys n x h
 
-pub got_within : {A : Type 0} (xs : List A) (n : ℕ) (x : A) → slice_get xs n ≡ Some x → n < length xs
-got_within [] n x h = absurd cc
-got_within (z ∷ xs) zero x h = omega arith
-got_within (z ∷ xs) (suc n) x h = let l = got_within xs n x h in omega (arith, l)
-
 pub new_place : {A : Type 0} (xs : List A) (x : A) → slice_get (xs ++ x ∷ []) (length xs) ≡ Some x
 new_place [] x = refl
 new_place (z ∷ xs) x = new_place xs x

@@ -6,7 +6,7 @@ use Rattle.binmem.specs.Lists.{words_of}
 use Rattle.binner.specs.declared.compiling.Compiling.{Compiling}
 use Rattle.binner.specs.Meaning.{ProgramMeans}
 use Rattle.binner.specs.Compiled.{Compilation}
-use Rattle.binner.specs.Compiling.{HasCompiled, HasRoom, IsSound}
+use Rattle.binner.specs.Compiling.{HasCompiled, IsSound}
 
 -- each tile's program means these items on the tile's rectangle
 abbrev pub MeansItems : List Item → Compilation → Type 0
@@ -16,6 +16,5 @@ MeansItems is c =
 -- lists that were compiled one behind the other mean some items
 pub record IsBatch {A : Type 0} (c : Compiling A) : Type 0 where
   pub sound : IsSound c
-  pub room : HasRoom c
   pub items : List Item
   pub compiled : HasCompiled c items

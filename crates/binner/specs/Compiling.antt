@@ -5,10 +5,10 @@ use Rattle.gfxspec.specs.declared.geometry.PixelRect.{PixelRect}
 use Rattle.gfxspec.specs.State.{Settings}
 use Rattle.gfxspec.specs.Tiles.{tile_count, tile_rect}
 use Rattle.gfxspec.specs.Items.{Item}
-use Rattle.gfxspec.specs.Assembly.{Primitive}
 use Rattle.gfxspec.specs.Commands.{Command}
-use Rattle.gfxspec.specs.Recorded.{items, items_at, drawn_items, issues}
-use Rattle.meaning.specs.OneMore.{triangles_of, performed_items}
+use Rattle.gfxspec.specs.Recorded.{items, issues, settings_after}
+use Rattle.gfxspec.specs.Predication.{performed}
+use Rattle.cmdlist.specs.Drawable.{IsDrawable}
 use Rattle.tileword.specs.declared.word.Word.TheVariants.{ClearC, ClearDs}
 use Rattle.binner.specs.declared.entry.StateEntry.{StateEntry}
 use Rattle.binner.specs.declared.entry.Current.{Current}
@@ -17,6 +17,7 @@ use Rattle.binner.specs.declared.compiling.Compiling.{Compiling}
 use Rattle.binner.specs.Program.{Tables, program, force_behind}
 use Rattle.binner.specs.Meaning.{Decode, Means, AreBits, entry_of}
 use Rattle.binner.specs.Compiled.{Compilation}
+use Rattle.binner.specs.Opened.{CanNote}
 use Rattle.binner.specs.Cuts.{AreUncounted}
 use Rattle.binner.specs.Lists.{TileList, at, IsLists, IsShort, EachChanges, TakesTriangle, TakesClear, drawn_behind}
 
@@ -36,13 +37,10 @@ abbrev pub HasCompiled : {A : Type 0} → Compiling A → List Item → Type 0
 HasCompiled c items =
     (k : ℕ) → k < tile_count c.lists.size → ListMeans (tables c) (tile_rect c.lists.size k) items c.current (at c.lists k)
 
--- no list has more words than two for each triangle and one for each clear
+-- no list has more words than two for each triangle and one for each clear, and there are no more of them than 65,536
 pub record IsSound {A : Type 0} (c : Compiling A) : Type 0 where
   pub lists : IsLists c.lists
   pub short : IsShort (2 * length c.triangles.items + (length c.colors.items + length c.depths.items)) c.lists
-
--- the tables have at most as many entries as commands and triangles can need
-pub record HasRoom {A : Type 0} (c : Compiling A) : Type 0 where
   pub triangles : length c.triangles.items ≤ 65536
   pub clears : length c.colors.items + length c.depths.items ≤ 65536
 
@@ -54,13 +52,10 @@ pub record IsEntry (states : List StateEntry) (e : StateEntry) (s : Current) : T
 abbrev pub IsCurrent : {A : Type 0} → Compiling A → Settings → ℕ → Type 0
 IsCurrent c s issues = (now : Current) → c.current ≡ Some now → IsEntry c.states.items (entry_of s issues) now
 
--- one more command can be added that draws so many more triangles, under these settings, with these issues open
-pub record CanTake {A : Type 0} (s : Settings) (bits more : ℕ) (c : Compiling A) : Type 0 where
+-- more can be added under these settings, with these issues open
+pub record CanTake {A : Type 0} (s : Settings) (bits : ℕ) (c : Compiling A) : Type 0 where
   pub sound : IsSound c
   pub current : IsCurrent c s bits
-  pub states : length c.states.items < 65536
-  pub triangles : length c.triangles.items + more ≤ 65536
-  pub clears : length c.colors.items + length c.depths.items < 65536
 
 -- ---- steps
 
@@ -75,6 +70,7 @@ pub record Enters {A : Type 0} (e : StateEntry) (s : Current) (old new : Compili
   pub depths : new.depths.items ≡ old.depths.items
 
 pub record AddsSetup {A : Type 0} (setup : TriSetup) (s : Current) (old new : Compiling A) : Type 0 where
+  pub room : length old.triangles.items < 65536
   pub lists : EachChanges (λ k. TakesTriangle setup.edges setup.bounds (tile_rect old.lists.size k) s (length old.triangles.items)) old.lists new.lists
   pub sound : IsLists new.lists
   pub triangles : new.triangles.items ≡ old.triangles.items ++ setup ∷ []
@@ -84,6 +80,7 @@ pub record AddsSetup {A : Type 0} (setup : TriSetup) (s : Current) (old new : Co
   pub current : new.current ≡ old.current
 
 pub record AddsColor {A : Type 0} (rgba : List ℕ) (old new : Compiling A) : Type 0 where
+  pub room : length old.colors.items + length old.depths.items < 65536
   pub lists : EachChanges (λ k. TakesClear (ClearC (length old.colors.items))) old.lists new.lists
   pub sound : IsLists new.lists
   pub triangles : new.triangles.items ≡ old.triangles.items
@@ -93,6 +90,7 @@ pub record AddsColor {A : Type 0} (rgba : List ℕ) (old new : Compiling A) : Ty
   pub current : new.current ≡ old.current
 
 pub record AddsDepth {A : Type 0} (value : DepthStencil) (old new : Compiling A) : Type 0 where
+  pub room : length old.colors.items + length old.depths.items < 65536
   pub lists : EachChanges (λ k. TakesClear (ClearDs (length old.depths.items))) old.lists new.lists
   pub sound : IsLists new.lists
   pub triangles : new.triangles.items ≡ old.triangles.items
@@ -101,33 +99,11 @@ pub record AddsDepth {A : Type 0} (value : DepthStencil) (old new : Compiling A)
   pub depths : new.depths.items ≡ old.depths.items ++ value ∷ []
   pub current : new.current ≡ old.current
 
--- what a command that draws so many triangles may add to the tables
-pub record Grows {A : Type 0} (triangles : ℕ) (old new : Compiling A) : Type 0 where
+-- what was added under these settings, with these issues open, means these items
+pub record Adds {A : Type 0} (s : Settings) (bits : ℕ) (more : List ℕ → List Item) (old new : Compiling A) : Type 0 where
+  pub can : CanTake s bits new
   pub size : new.lists.size ≡ old.lists.size
-  pub states : length new.states.items ≤ length old.states.items + 1
-  pub drawn : length new.triangles.items ≤ length old.triangles.items + triangles
-  pub clears : length new.colors.items + length new.depths.items ≤ length old.colors.items + length old.depths.items + 1
-
--- what a draw of these triangles under these settings, with these issues open, has added
-pub record DrawsTriangles {A : Type 0} (s : Settings) (bits : ℕ) (ps : List Primitive) (old new : Compiling A) : Type 0 where
-  pub sound : IsSound new
-  pub current : IsCurrent new s bits
-  pub grows : Grows (length ps) old new
-  pub means : (items : List Item) (opened : List ℕ) → AreBits bits opened → HasCompiled old items → HasCompiled new (items ++ drawn_items s opened ps)
-
--- what a command under these settings, with these issues open, has added
-pub record Draws {A : Type 0} (s : Settings) (bits : ℕ) (c : Command) (old new : Compiling A) : Type 0 where
-  pub sound : IsSound new
-  pub current : IsCurrent new s bits
-  pub grows : Grows (triangles_of s c) old new
-  pub means : (items : List Item) (opened : List ℕ) → AreBits bits opened → HasCompiled old items → HasCompiled new (items ++ items_at s opened c)
-
--- what a command has added under query results that may withhold it
-pub record Performs {A : Type 0} (results : ℕ → Bool) (s : Settings) (bits : ℕ) (c : Command) (old new : Compiling A) : Type 0 where
-  pub sound : IsSound new
-  pub current : IsCurrent new s bits
-  pub grows : Grows (triangles_of s c) old new
-  pub means : (items : List Item) (opened : List ℕ) → AreBits bits opened → HasCompiled old items → HasCompiled new (items ++ performed_items results s opened c)
+  pub means : (items : List Item) (opened : List ℕ) → AreBits bits opened → HasCompiled old items → HasCompiled new (items ++ more opened)
 
 -- all but the current entry
 pub record SameTables {A : Type 0} (old new : Compiling A) : Type 0 where
@@ -137,24 +113,30 @@ pub record SameTables {A : Type 0} (old new : Compiling A) : Type 0 where
   pub colors : new.colors ≡ old.colors
   pub depths : new.depths ≡ old.depths
 
+-- ---- lists
+
 -- nothing is compiled yet
 pub record IsFresh {A : Type 0} (c : Compiling A) : Type 0 where
   pub sound : IsSound c
-  pub states : c.states.items ≡ []
-  pub triangles : c.triangles.items ≡ []
-  pub colors : c.colors.items ≡ []
-  pub depths : c.depths.items ≡ []
-  pub current : c.current ≡ None
   pub compiled : HasCompiled c []
 
--- these commands are compiled, which begin so many issues
-pub record IsWhole {A : Type 0} (commands : List Command) (begun : ℕ) (old new : Compiling A) : Type 0 where
+-- no row but that on the length of a list refuses this command behind others
+pub record CanStand (earlier : List Command) (c : Command) : Type 0 where
+  pub drawable : IsDrawable (settings_after earlier) c
+  pub note : CanNote (length (issues earlier)) c
+
+-- no row but that on the length of a list refuses any of these commands behind others
+abbrev pub CanCompile : List Command → List Command → Type 0
+CanCompile earlier [] = Unit {0}
+CanCompile earlier (c ∷ cs) = CanStand earlier c × CanCompile (earlier ++ c ∷ []) cs
+
+-- what a list has added under these results of queries, and how many issues it begins
+pub record AddsList {A : Type 0} (results : ℕ → Bool) (commands : List Command) (begun : ℕ) (old new : Compiling A) : Type 0 where
   pub begun_are : begun ≡ length (issues commands)
   pub few : begun ≤ 64
   pub size : new.lists.size ≡ old.lists.size
   pub sound : IsSound new
-  pub room : HasRoom new
-  pub compiled : HasCompiled new (items commands)
+  pub means : (is : List Item) → HasCompiled old is → HasCompiled new (is ++ items (performed results commands))
 
 -- what is kept of it at the end
 abbrev pub compilation_of : {A : Type 0} → ℕ → Compiling A → Compilation

@@ -9,16 +9,13 @@ use Rattle.gfxspec.specs.Accepted.{AreSound}
 use Rattle.gfxspec.specs.State.{Settings}
 use Rattle.meaning.specs.OneMore.{settings_with, performed_items}
 use Rattle.cmdlist.specs.Drawable.{IsDrawable}
+use Rattle.binner.specs.Opened.{CanNote}
 use Rattle.binner.specs.Compiled.{Compilation}
+use Rattle.binner.specs.Compiling.{CanCompile}
 use Rattle.binner.specs.Batched.{MeansItems}
 
--- commands behind others that can be compiled: no row but that on the length of the list refuses any of them
-abbrev pub ReadyBehind : List Command → List Command → Type 0
-ReadyBehind earlier [] = Unit {0}
-ReadyBehind earlier (c ∷ cs) = IsDrawable (settings_after earlier) c × ReadyBehind (earlier ++ c ∷ []) cs
-
 pub record IsSegment (commands : List Command) : Type 0 where
-  pub ready : ReadyBehind [] commands
+  pub can : CanCompile [] commands
   pub unissued : issues commands ≡ []
 
 -- the items of segments, one behind the other, under these query results
@@ -48,6 +45,7 @@ draw_of (Some base) count start = DrawIndexed count start base
 -- a command that can be added to a segment with these settings
 pub record CanFollow (s : Settings) (c : Command) : Type 0 where
   pub drawable : IsDrawable s c
+  pub note : CanNote 0 c
   pub sound : AreSound (settings_with c s)
   pub unissued : query_begun c ≡ None
 

@@ -1,87 +1,14 @@
 //! Lists that are compiled as one.
 
-ghost use Rattle.std.specs.Prelude.{◌≡◌, ◌<◌, ◌≤◌, ◌+◌, ◌++◌, List, map, length, IsTrue, OnOk};
-ghost use Rattle.gfxspec.specs.Items.{Item};
-ghost use Rattle.gfxspec.specs.Recorded.{items};
-ghost use Rattle.gfxspec.specs.Predication.{performed};
-ghost use Rattle.meaning.specs.OneMore.{triangles_of as count_of};
-ghost use Rattle.command.specs.Seen.{state_value, command_value};
-ghost use Rattle.cmdlist.specs.Drawable.{IsDrawable, told};
-ghost use Rattle.binner.specs.Compiling.{HasCompiled, HasRoom, IsSound};
-ghost use Rattle.binner.specs.Segments.{IsSegment};
+ghost use Rattle.cmdlist.specs.Drawable.{told};
 
 use crate::compiled::{Compiled, finished, nothing};
-use crate::compiling::{Compiling, add_performed, forget_unless, keeps_entry};
+use crate::compiling::{Compiling, add_commands};
 use crate::segment::Segment;
-use assemble::triangle_count;
 use binmem::Bins;
-use cmdlist::{Command, State, draw_of};
 use gfxspec::Size;
-use std::alloc::{AllocError, Allocator};
+use std::alloc::Allocator;
 use std::marker::Model;
-
-/// How many states, triangles or clears a compiled list numbers at most.
-const MOST: usize = 65_536;
-
-/// How many triangles a command draws.
-fn triangles_drawn<A: Allocator>(command: &Command<A>, state: &State<'_>) -> u32
-    requires { IsDrawable (state_value state.now) (command_value command.now) }
-    ensures { result ≡ count_of (state_value state.now) (command_value command.now) }
-{
-    match draw_of(command, state) {
-        Some(draw) => triangle_count(&draw),
-        None => 0,
-    }
-}
-
-/// Whether the tables have room for what a command may add.
-fn has_room<A: Allocator>(compiling: &Compiling<A>, command: &Command<A>, state: &State<'_>) -> bool
-    requires { IsDrawable (state_value state.now) (command_value command.now) }
-    ensures states { IsTrue result → length compiling.now.states.items < 65536 }
-    ensures triangles { IsTrue result → length compiling.now.triangles.items + count_of (state_value state.now) (command_value command.now) ≤ 65536 }
-    ensures clears { IsTrue result → length compiling.now.colors.items + length compiling.now.depths.items < 65536 }
-{
-    let triangles = triangles_drawn(command, state) as usize;
-    let clears = compiling
-        .colors
-        .len()
-        .saturating_add(compiling.depths.len());
-    compiling.states.len() < MOST
-        && clears < MOST
-        && triangles <= MOST
-        && compiling.triangles.len() <= MOST - triangles
-}
-
-/// Adds what the commands of a segment draw and clear, from the default state on and under these results, behind what is
-/// compiled. Refused too where the tables have no room.
-fn add_behind<A: Allocator + Copy>(
-    compiling: &mut Compiling<A>,
-    commands: &[Command<A>],
-    results: &[bool; 64],
-) -> Result<(), AllocError>
-    requires segment { IsSegment (map command_value commands.now) }
-    requires sound { IsSound compiling.old }
-    requires room { HasRoom compiling.old }
-    ensures bins { length compiling.new.lists.bins ≡ length compiling.old.lists.bins }
-    ensures size { OnOk result (compiling.new.lists.size ≡ compiling.old.lists.size) }
-    ensures sound { OnOk result (IsSound compiling.new) }
-    ensures room { OnOk result (HasRoom compiling.new) }
-    ensures means { (is : List Item) → HasCompiled compiling.old is
-        → OnOk result (HasCompiled compiling.new (is ++ items (performed (told results.now) (map command_value commands.now)))) }
-{
-    forget_unless(compiling, false, 0, 0);
-    let mut state = State::new();
-    for command in commands {
-        if !has_room(compiling, command, &state) {
-            return Err(AllocError);
-        }
-        add_performed(compiling, command, &state, 0, results, None)?;
-        let kept = keeps_entry(command);
-        forget_unless(compiling, kept, 0, 0);
-        state.change(command);
-    }
-    Ok(())
-}
 
 /// Lists that are compiled as one, each from the default state on, in the order in which they were added. Their commands begin no query.
 #[derive(Drop)]
@@ -132,8 +59,9 @@ impl<A: Allocator + Copy> Batch<A> {
         ensures refused { IfErr result (λ back. back ≡ no_words (tile_count self.lists.size)) }
     {
         let mut compiling = self.compiling;
-        match add_behind(&mut compiling, &segment.commands, results) {
-            Ok(()) => Ok(Batch { compiling }),
+        let ahead = Vec::new(*segment.commands.allocator());
+        match add_commands(&mut compiling, &segment.commands, results, ahead) {
+            Ok(_) => Ok(Batch { compiling }),
             Err(_) => Err(compiling.lists.bins.seal().reuse()),
         }
     }

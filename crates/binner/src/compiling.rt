@@ -1,22 +1,18 @@
 //! A list that is being compiled: each command adds to the words of the tiles.
 
-ghost use Rattle.std.specs.Prelude.{◌≡◌, ◌<◌, ◌≤◌, ℕ, List, length, slice_index_or, false, IsTrue, IfOk, IfSome, OnOk, Some, All};
+ghost use Rattle.std.specs.Prelude.{◌≡◌, ◌<◌, ◌+◌, [], ℕ, List, map, length, IsTrue, IfOk, IfSome, OnOk, Some, All};
 ghost use Rattle.std.specs.List.{list_all};
+ghost use Rattle.gfxspec.specs.State.{Settings};
 ghost use Rattle.gfxspec.specs.Refusals.{is_in_range};
 ghost use Rattle.gfxspec.specs.Recorded.{drawn_items, items_at};
-ghost use Rattle.gfxspec.specs.Predication.{withholds, performed};
-ghost use Rattle.meaning.specs.OneMore.{triangles_of as count_of};
+ghost use Rattle.meaning.specs.OneMore.{settings_with, performed_items};
 ghost use Rattle.assemble.specs.Drawing.{IsInRange, triangles_of};
 ghost use Rattle.command.specs.Seen.{state_value, command_value};
 ghost use Rattle.cmdlist.specs.Drawable.{IsDrawable, drawn_by, told};
+ghost use Rattle.binner.specs.declared.entry.Current.{Current};
 ghost use Rattle.binner.specs.Meaning.{entry_of};
 ghost use Rattle.binner.specs.Setups.{AreSetups, all_setups, MatchesDraw};
-ghost use Rattle.binner.specs.Compiling.{IsSound, IsCurrent, CanTake, HasRoom, AddsSetup, AddsColor, AddsDepth, Enters, DrawsTriangles, Draws, Performs, SameTables, IsFresh, IsWhole};
-ghost use Rattle.std.specs.Prelude.{map};
-ghost use Rattle.binner.specs.declared.entry.Current.{Current};
-ghost use Rattle.gfxspec.specs.State.{Settings};
-ghost use Rattle.gfxspec.specs.Accepted.{AreAccepted};
-ghost use Rattle.meaning.specs.OneMore.{settings_with};
+ghost use Rattle.binner.specs.Compiling.{IsSound, CanTake, AddsSetup, AddsColor, AddsDepth, Enters, Adds, AddsList, SameTables, CanCompile};
 
 use crate::ahead::{DrawSetups, Parts, take_ahead};
 use crate::entry::{Current, StateEntry};
@@ -43,6 +39,9 @@ pub struct Compiling<A: Allocator> {
     pub current: Option<Current>,
 }
 
+/// How many states, triangles or clears a compiled list has at most.
+const MOST: usize = 65_536;
+
 /// The entry of a state, with the open issues as bits.
 fn entry(state: &State<'_>, issues: u64) -> StateEntry
     ensures { result ≡ entry_of (state_value state.now) issues }
@@ -57,23 +56,25 @@ fn entry(state: &State<'_>, issues: u64) -> StateEntry
     }
 }
 
-/// The entry of the state, which is new where the state has none.
+/// The entry of the state, which is new where the state has none. Refused too where no more states have room.
 fn current_entry<A: Allocator + Copy>(
     compiling: &mut Compiling<A>,
     state: &State<'_>,
     issues: u64,
 ) -> Result<Current, AllocError>
-    requires current { IsCurrent compiling.old (state_value state.now) issues }
-    requires states { length compiling.old.states.items < 65536 }
-    requires triangles { length compiling.old.triangles.items ≤ 65536 }
+    requires { CanTake (state_value state.now) issues compiling.old }
     ensures bins { length compiling.new.lists.bins ≡ length compiling.old.lists.bins }
     ensures enters { IfOk result (λ s. Enters (entry_of (state_value state.now) issues) s compiling.old compiling.new) }
 {
     if let Some(current) = compiling.current {
         return Ok(current);
     }
+    let states = compiling.states.len();
+    if states >= MOST {
+        return Err(AllocError);
+    }
     let current = Current {
-        entry: compiling.states.len() as u16,
+        entry: states as u16,
         first: compiling.triangles.len() as u32,
         counted: issues != 0,
     };
@@ -82,7 +83,7 @@ fn current_entry<A: Allocator + Copy>(
     Ok(current)
 }
 
-/// Adds a triangle with these edges under an entry.
+/// Adds a triangle with these edges under an entry. Refused too where no more triangles have room.
 #[inline(always)]
 fn add_setup<A: Allocator + Copy>(
     compiling: &mut Compiling<A>,
@@ -91,45 +92,56 @@ fn add_setup<A: Allocator + Copy>(
     current: Current,
 ) -> Result<(), AllocError>
     requires sound { IsSound compiling.old }
-    requires room { HasRoom compiling.old }
-    requires triangles { length compiling.old.triangles.items < 65536 }
     requires edges { edges.now ≡ setup.edges }
     ensures bins { length compiling.new.lists.bins ≡ length compiling.old.lists.bins }
     ensures added { OnOk result (AddsSetup setup current compiling.old compiling.new) }
 {
-    let number = compiling.triangles.len() as u16;
-    add_to_tiles(&mut compiling.lists, &setup, edges, current, number)?;
+    let number = compiling.triangles.len();
+    if number >= MOST {
+        return Err(AllocError);
+    }
+    add_to_tiles(&mut compiling.lists, &setup, edges, current, number as u16)?;
     compiling.triangles.push(setup)?;
     Ok(())
 }
 
-/// Clears the colour.
+/// Whether one more clear has room.
+fn takes_clear<A: Allocator>(compiling: &Compiling<A>) -> bool
+    ensures { IsTrue result → length compiling.now.colors.items + length compiling.now.depths.items < 65536 }
+{
+    let colors = compiling.colors.len();
+    colors.saturating_add(compiling.depths.len()) < MOST
+}
+
+/// Clears the colour. Refused too where no more clears have room.
 fn add_color<A: Allocator + Copy>(
     compiling: &mut Compiling<A>,
     rgba: [u8; 4],
 ) -> Result<(), AllocError>
-    requires sound { IsSound compiling.old }
-    requires room { HasRoom compiling.old }
-    requires colors { length compiling.old.colors.items < 65536 }
+    requires { IsSound compiling.old }
     ensures bins { length compiling.new.lists.bins ≡ length compiling.old.lists.bins }
     ensures added { OnOk result (AddsColor rgba compiling.old compiling.new) }
 {
+    if !takes_clear(compiling) {
+        return Err(AllocError);
+    }
     let number = compiling.colors.len() as u16;
     compiling.colors.push(rgba)?;
     add_to_all(&mut compiling.lists, Word::ClearC(number))
 }
 
-/// Clears depth and stencil.
+/// Clears depth and stencil. Refused too where no more clears have room.
 fn add_depth<A: Allocator + Copy>(
     compiling: &mut Compiling<A>,
     value: DepthStencil,
 ) -> Result<(), AllocError>
-    requires sound { IsSound compiling.old }
-    requires room { HasRoom compiling.old }
-    requires depths { length compiling.old.depths.items < 65536 }
+    requires { IsSound compiling.old }
     ensures bins { length compiling.new.lists.bins ≡ length compiling.old.lists.bins }
     ensures added { OnOk result (AddsDepth value compiling.old compiling.new) }
 {
+    if !takes_clear(compiling) {
+        return Err(AllocError);
+    }
     let number = compiling.depths.len() as u16;
     compiling.depths.push(value)?;
     add_to_all(&mut compiling.lists, Word::ClearDs(number))
@@ -142,11 +154,11 @@ fn add_draw<A: Allocator + Copy>(
     state: &State<'_>,
     issues: u64,
 ) -> Result<(), AllocError>
-    requires room { CanTake (state_value state.now) issues (length (triangles_of draw.now)) compiling.old }
+    requires can { CanTake (state_value state.now) issues compiling.old }
     requires range { IsInRange draw.now }
     requires vertices { IsTrue (list_all is_in_range draw.now.vertices.now) }
     ensures bins { length compiling.new.lists.bins ≡ length compiling.old.lists.bins }
-    ensures drawn { OnOk result (DrawsTriangles (state_value state.now) issues (triangles_of draw.now) compiling.old compiling.new) }
+    ensures drawn { OnOk result (Adds (state_value state.now) issues (λ opened. drawn_items (state_value state.now) opened (triangles_of draw.now)) compiling.old compiling.new) }
 {
     let current = current_entry(compiling, state, issues)?;
     for tri in triangles(draw) {
@@ -165,10 +177,10 @@ fn add_parts<A: Allocator + Copy>(
     issues: u64,
     parts: Parts<A>,
 ) -> Result<(), AllocError>
-    requires room { CanTake (state_value state.now) issues (length (triangles_of draw.now)) compiling.old }
+    requires can { CanTake (state_value state.now) issues compiling.old }
     requires made { AreSetups (state_value state.now) compiling.old.lists.size (triangles_of draw.now) (all_setups parts.items) }
     ensures bins { length compiling.new.lists.bins ≡ length compiling.old.lists.bins }
-    ensures drawn { OnOk result (DrawsTriangles (state_value state.now) issues (triangles_of draw.now) compiling.old compiling.new) }
+    ensures drawn { OnOk result (Adds (state_value state.now) issues (λ opened. drawn_items (state_value state.now) opened (triangles_of draw.now)) compiling.old compiling.new) }
 {
     let current = current_entry(compiling, state, issues)?;
     'parts: for part in parts {
@@ -188,12 +200,12 @@ fn add_drawn<A: Allocator + Copy>(
     issues: u64,
     parts: Option<Parts<A>>,
 ) -> Result<(), AllocError>
-    requires room { CanTake (state_value state.now) issues (length (triangles_of draw.now)) compiling.old }
+    requires can { CanTake (state_value state.now) issues compiling.old }
     requires range { IsInRange draw.now }
     requires vertices { IsTrue (list_all is_in_range draw.now.vertices.now) }
     requires made { IfSome parts (λ parts. AreSetups (state_value state.now) compiling.old.lists.size (triangles_of draw.now) (all_setups parts.items)) }
     ensures bins { length compiling.new.lists.bins ≡ length compiling.old.lists.bins }
-    ensures drawn { OnOk result (DrawsTriangles (state_value state.now) issues (triangles_of draw.now) compiling.old compiling.new) }
+    ensures drawn { OnOk result (Adds (state_value state.now) issues (λ opened. drawn_items (state_value state.now) opened (triangles_of draw.now)) compiling.old compiling.new) }
 {
     match parts {
         Some(parts) => add_parts(compiling, draw, state, issues, parts),
@@ -211,10 +223,10 @@ fn add_drawing<A: Allocator + Copy>(
 ) -> Result<(), AllocError>
     requires drawable { IsDrawable (state_value state.now) (command_value command.now) }
     requires draws { (opened : List ℕ) → items_at (state_value state.now) opened (command_value command.now) ≡ drawn_items (state_value state.now) opened (drawn_by (state_value state.now) (command_value command.now)) }
-    requires room { CanTake (state_value state.now) issues (count_of (state_value state.now) (command_value command.now)) compiling.old }
+    requires can { CanTake (state_value state.now) issues compiling.old }
     requires made { IfSome parts (λ parts. AreSetups (state_value state.now) compiling.old.lists.size (drawn_by (state_value state.now) (command_value command.now)) (all_setups parts.items)) }
     ensures bins { length compiling.new.lists.bins ≡ length compiling.old.lists.bins }
-    ensures drawn { OnOk result (Draws (state_value state.now) issues (command_value command.now) compiling.old compiling.new) }
+    ensures drawn { OnOk result (Adds (state_value state.now) issues (λ opened. items_at (state_value state.now) opened (command_value command.now)) compiling.old compiling.new) }
 {
     let Some(draw) = draw_of(command, state) else {
         return Ok(());
@@ -232,10 +244,10 @@ fn add_command<A: Allocator + Copy>(
     parts: Option<Parts<A>>,
 ) -> Result<(), AllocError>
     requires drawable { IsDrawable (state_value state.now) (command_value command.now) }
-    requires room { CanTake (state_value state.now) issues (count_of (state_value state.now) (command_value command.now)) compiling.old }
+    requires can { CanTake (state_value state.now) issues compiling.old }
     requires made { IfSome parts (λ parts. AreSetups (state_value state.now) compiling.old.lists.size (drawn_by (state_value state.now) (command_value command.now)) (all_setups parts.items)) }
     ensures bins { length compiling.new.lists.bins ≡ length compiling.old.lists.bins }
-    ensures drawn { OnOk result (Draws (state_value state.now) issues (command_value command.now) compiling.old compiling.new) }
+    ensures drawn { OnOk result (Adds (state_value state.now) issues (λ opened. items_at (state_value state.now) opened (command_value command.now)) compiling.old compiling.new) }
 {
     match command {
         Command::Draw(_, _) => add_drawing(compiling, command, state, issues, parts),
@@ -254,7 +266,7 @@ fn add_command<A: Allocator + Copy>(
 
 /// Adds what a command draws or clears under a state, unless the state's predicate withholds it. What it draws may
 /// be set up already, in parts.
-pub(crate) fn add_performed<A: Allocator + Copy>(
+fn add_performed<A: Allocator + Copy>(
     compiling: &mut Compiling<A>,
     command: &Command<A>,
     state: &State<'_>,
@@ -263,10 +275,10 @@ pub(crate) fn add_performed<A: Allocator + Copy>(
     parts: Option<Parts<A>>,
 ) -> Result<(), AllocError>
     requires drawable { IsDrawable (state_value state.now) (command_value command.now) }
-    requires room { CanTake (state_value state.now) issues (count_of (state_value state.now) (command_value command.now)) compiling.old }
+    requires can { CanTake (state_value state.now) issues compiling.old }
     requires made { IfSome parts (λ parts. AreSetups (state_value state.now) compiling.old.lists.size (drawn_by (state_value state.now) (command_value command.now)) (all_setups parts.items)) }
     ensures bins { length compiling.new.lists.bins ≡ length compiling.old.lists.bins }
-    ensures drawn { OnOk result (Performs (told results.now) (state_value state.now) issues (command_value command.now) compiling.old compiling.new) }
+    ensures drawn { OnOk result (Adds (state_value state.now) issues (λ opened. performed_items (told results.now) (state_value state.now) opened (command_value command.now)) compiling.old compiling.new) }
 {
     if is_withheld(results, state.predicate) {
         return Ok(());
@@ -275,7 +287,7 @@ pub(crate) fn add_performed<A: Allocator + Copy>(
 }
 
 /// Whether a command leaves what entries are made of as it is.
-pub(crate) fn keeps_entry<A: Allocator>(command: &Command<A>) -> bool
+fn keeps_entry<A: Allocator>(command: &Command<A>) -> bool
     ensures { IsTrue result → (s : Settings) (issues : ℕ) → entry_of (settings_with (command_value command.now) s) issues ≡ entry_of s issues }
 {
     match command {
@@ -292,12 +304,7 @@ pub(crate) fn keeps_entry<A: Allocator>(command: &Command<A>) -> bool
 }
 
 /// Has no entry for the state that comes next, unless the last one still is its entry.
-pub(crate) fn forget_unless<A: Allocator>(
-    compiling: &mut Compiling<A>,
-    kept: bool,
-    before: u64,
-    after: u64,
-)
+fn forget_unless<A: Allocator>(compiling: &mut Compiling<A>, kept: bool, before: u64, after: u64)
     ensures rest { SameTables compiling.old compiling.new }
     ensures current { (n : Current) → compiling.new.current ≡ Some n → IsTrue kept × (before ≡ after) × (compiling.old.current ≡ Some n) }
 {
@@ -306,26 +313,28 @@ pub(crate) fn forget_unless<A: Allocator>(
     }
 }
 
-/// Adds what the commands of a list draw and clear, from the default state on and under the results before the list, and
-/// tells how many issues they begin. Some draws may be set up already.
+/// Adds what the commands of a list draw and clear behind what is compiled, from the default state on and under the results
+/// before the list, and tells how many issues they begin. Some draws may be set up already. Refused too where the tables have
+/// no room.
 pub(crate) fn add_commands<A: Allocator + Copy>(
     compiling: &mut Compiling<A>,
     commands: &[Command<A>],
     results: &[bool; 64],
     ahead: Vec<DrawSetups<A>, A>,
 ) -> Result<u32, AllocError>
-    requires accepted { AreAccepted (map command_value commands.now) }
-    requires fresh { IsFresh compiling.old }
+    requires can { CanCompile [] (map command_value commands.now) }
+    requires sound { IsSound compiling.old }
     requires ahead { All (MatchesDraw commands.now compiling.old.lists.size) ahead.items }
     ensures bins { length compiling.new.lists.bins ≡ length compiling.old.lists.bins }
-    ensures compiled { IfOk result (λ issues. IsWhole (performed (told results.now) (map command_value commands.now)) issues compiling.old compiling.new) }
+    ensures added { IfOk result (λ issues. AddsList (told results.now) (map command_value commands.now) issues compiling.old compiling.new) }
 {
+    let size = compiling.lists.size;
+    forget_unless(compiling, false, 0, 0);
     let mut state = State::new();
     let mut bits = 0_u64;
     let mut begun = 0_u32;
     let mut of_query = nothing_begun();
     let mut ahead = ahead;
-    let size = compiling.lists.size;
     for (place, command) in commands.iter().enumerate() {
         let parts = take_ahead(&mut ahead, place, commands, size);
         add_performed(compiling, command, &state, bits, results, parts)?;

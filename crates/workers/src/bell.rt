@@ -66,9 +66,9 @@ impl Bell {
         self.bell.notify_one();
     }
 
-    // Looks so often whether there is a call, which may spare the thread its sleep.
-    fn look_out(&self, looks: u32) {
-        for _ in 0..looks {
+    // Spins so often for a call, which may spare the thread its sleep.
+    fn spin_until_called(&self, spins: u32) {
+        for _ in 0..spins {
             if self.called.load(Ordering::Relaxed) {
                 return;
             }
@@ -76,9 +76,9 @@ impl Bell {
         }
     }
 
-    /// Waits for a call; false where it is the last. Its thread looks so often before it sleeps.
-    pub(crate) fn wait<R: Wait>(&self, rt: &R, looks: u32) -> bool {
-        self.look_out(looks);
+    /// Waits for a call; false where it is the last. Its thread spins so often before it sleeps.
+    pub(crate) fn wait<R: Wait>(&self, rt: &R, spins: u32) -> bool {
+        self.spin_until_called(spins);
         let mut call = self.call.lock(rt);
         for _ in rt.forever() {
             match *call {

@@ -13,7 +13,7 @@ use crate::draining::drain;
 use crate::gates::Gate;
 use crate::mailbox::Mailbox;
 use crate::part::Part;
-use crate::returns::{BackQueue, Returns, Same, Ticket};
+use crate::returns::{ReturnQueue, Returns, Same, SeatReturn};
 use board::{Board, Seat};
 use crossbeam_queue::Pass;
 use std::alloc::Allocator;
@@ -22,22 +22,22 @@ use std::snapshot::Snapshot;
 use std::sync::{Arc, Wait};
 use tilecore::TileJob;
 
-/// What a worker knows of the queue by which seats come back.
-pub(crate) type Mine<J> = Pass<Ticket<J>, Option<Seat<J>>>;
+/// The right to push to, and to pop from, the queue by which seats come back, with what its holder knows of it.
+pub(crate) type ReturnPass<J> = Pass<SeatReturn<J>, Option<Seat<J>>>;
 
 // What the threads of a run share: its board and job, and the queue by which seats come back.
 #[derive(Drop)]
 pub(crate) struct SharedRun<'a, J: TileJob + Drop, A: Allocator> {
     pub(crate) board: Board<'a, J, A>,
     pub(crate) job: J,
-    pub(crate) back: BackQueue<J, &'a A>,
+    pub(crate) queue: ReturnQueue<J, &'a A>,
 }
 
 // A part of a run, for the worker that it is offered to and those behind it.
 #[derive(Drop)]
 pub(crate) struct Offer<'a, J: TileJob + Drop, A: Allocator> {
     run: Arc<SharedRun<'a, J, A>, &'a A>,
-    pass: Mine<J>,
+    pass: ReturnPass<J>,
     part: Part<J>,
     // that the allocator outlives its loan
     loan: PhantomData<&'a A>,
@@ -54,32 +54,32 @@ impl<'a, J: TileJob + Drop, A: Allocator> Model for Offer<'a, J, A> {
     ghost view = { λ _. tt };
 
     ghost invariant = { λ o. IsTied false J.tile_count (arc_value o.run).board (arc_value o.run).job o.part.seat
-        × IsPassOf (arc_value o.run).back o.pass × Knows (arc_value o.run).board (knows o.pass) };
+        × IsPassOf (arc_value o.run).queue o.pass × Knows (arc_value o.run).board (knows o.pass) };
 }
 
-// A seat as it comes back.
-fn ticket_of<J: TileJob>(seat: Seat<J>) -> Ticket<J>
+// A seat, as the queue takes it.
+fn return_of<J: TileJob>(seat: Seat<J>) -> SeatReturn<J>
     ensures { result.seat ≡ Some seat }
 {
     let like = Snapshot::of(&seat);
-    Ticket {
+    SeatReturn {
         seat: Some(seat),
         like,
     }
 }
 
-// Puts a ticket into the queue of its run, which has room for one of each thread.
-fn push_ticket<'a, J: TileJob + Drop, A: Allocator, R: Wait>(
+// Puts a seat into the queue of its run, which has room for one of each thread.
+fn push_return<'a, J: TileJob + Drop, A: Allocator, R: Wait>(
     rt: &R,
     run: &SharedRun<'a, J, A>,
-    pass: &mut Mine<J>,
-    ticket: Ticket<J>,
+    pass: &mut ReturnPass<J>,
+    returned: SeatReturn<J>,
 ) -> bool
-    requires own { IfSome ticket.seat (λ s. IsSeatOf run.now.board s × (s.view.hand ≡ Empty)) }
-    requires whole { is_some ticket.seat ≡ true }
-    requires pass { IsPassOf run.now.back pass.old × Knows run.now.board (view pass.old) }
+    requires own { IfSome returned.seat (λ s. IsSeatOf run.now.board s × (s.view.hand ≡ Empty)) }
+    requires whole { is_some returned.seat ≡ true }
+    requires pass { IsPassOf run.now.queue pass.old × Knows run.now.board (view pass.old) }
 {
-    match run.back.push_as::<Returns, R>(rt, pass, ticket) {
+    match run.queue.push_as::<Returns, R>(rt, pass, returned) {
         Ok(()) => true,
         Err(_) => false,
     }
@@ -89,18 +89,18 @@ fn push_ticket<'a, J: TileJob + Drop, A: Allocator, R: Wait>(
 fn hand_back<'a, J: TileJob + Drop, A: Allocator, R: Wait>(
     rt: &R,
     run: &SharedRun<'a, J, A>,
-    pass: Mine<J>,
+    pass: ReturnPass<J>,
     seat: Seat<J>,
 )
     requires own { IsSeatOf run.now.board seat × (seat.view.hand ≡ Empty) }
-    requires pass { IsPassOf run.now.back pass × Knows run.now.board (view pass) }
+    requires pass { IsPassOf run.now.queue pass × Knows run.now.board (view pass) }
 {
     let mut pass = pass;
-    push_ticket(rt, run, &mut pass, ticket_of(seat));
+    push_return(rt, run, &mut pass, return_of(seat));
 }
 
 // One more owner of a run, where there can be one.
-fn shared<'a, J: TileJob + Drop, A: Allocator>(
+fn another_owner<'a, J: TileJob + Drop, A: Allocator>(
     run: &Arc<SharedRun<'a, J, A>, &'a A>,
 ) -> Option<Arc<SharedRun<'a, J, A>, &'a A>>
     ensures { IfSome result (λ r. arc_value r ≡ arc_value run.now) }
@@ -114,17 +114,17 @@ fn shared<'a, J: TileJob + Drop, A: Allocator>(
 // The offer of a part.
 fn make_offer<'a, J: TileJob + Drop, A: Allocator>(
     run: Arc<SharedRun<'a, J, A>, &'a A>,
-    pass: &mut Mine<J>,
+    pass: &mut ReturnPass<J>,
     part: Part<J>,
 ) -> Offer<'a, J, A>
     requires tied { IsTied false J.tile_count (arc_value run).board (arc_value run).job part.seat }
-    requires pass { IsPassOf (arc_value run).back pass.old × Knows (arc_value run).board (view pass.old) }
-    ensures pass { IsPassOf (arc_value run.entry).back pass.new × (view pass.new ≡ view pass.old) }
+    requires pass { IsPassOf (arc_value run).queue pass.old × Knows (arc_value run).board (view pass.old) }
+    ensures pass { IsPassOf (arc_value run.entry).queue pass.new × (view pass.new ≡ view pass.old) }
 {
-    let theirs = run.back.another::<Same>(pass);
+    let given = run.queue.another::<Same>(pass);
     Offer {
         run,
-        pass: theirs,
+        pass: given,
         part,
         loan: PhantomData,
     }
@@ -136,12 +136,12 @@ fn put_offer<'a, J: TileJob + Drop, A: Allocator, R: Wait>(
     rt: &R,
     mailbox: &Mailbox<'a, Offer<'a, J, A>>,
     run: Option<Arc<SharedRun<'a, J, A>, &'a A>>,
-    pass: &mut Mine<J>,
+    pass: &mut ReturnPass<J>,
     part: Part<J>,
 ) -> bool
     requires tied { IfSome run (λ r. IsTied false J.tile_count (arc_value r).board (arc_value r).job part.seat) }
-    requires pass { IfSome run (λ r. IsPassOf (arc_value r).back pass.old × Knows (arc_value r).board (view pass.old)) }
-    ensures pass { IfSome run.entry (λ r. IsPassOf (arc_value r).back pass.new) × (view pass.new ≡ view pass.old) }
+    requires pass { IfSome run (λ r. IsPassOf (arc_value r).queue pass.old × Knows (arc_value r).board (view pass.old)) }
+    ensures pass { IfSome run.entry (λ r. IsPassOf (arc_value r).queue pass.new) × (view pass.new ≡ view pass.old) }
     ensures none { IfNone run.entry (pass.new ≡ pass.old) }
 {
     match run {
@@ -152,18 +152,18 @@ fn put_offer<'a, J: TileJob + Drop, A: Allocator, R: Wait>(
 
 /// Offers what of a part is for others: to the first of the mailboxes for a group of workers, with half of the seat's weight, and to
 /// those behind this group. The seat of one is left. It wakes the threads that it offers to.
-pub(crate) fn offer_others<'a, J: TileJob + Drop, A: Allocator, R: Wait>(
+pub(crate) fn offer_parts<'a, J: TileJob + Drop, A: Allocator, R: Wait>(
     rt: &R,
     mailboxes: &[Mailbox<'a, Offer<'a, J, A>>],
     run: &Arc<SharedRun<'a, J, A>, &'a A>,
-    pass: &mut Mine<J>,
+    pass: &mut ReturnPass<J>,
     part: Part<J>,
 ) -> Seat<J>
     requires tied { IsTied false J.tile_count (arc_value run.now).board (arc_value run.now).job part.seat }
-    requires pass { IsPassOf (arc_value run.now).back pass.old × Knows (arc_value run.now).board (view pass.old) }
+    requires pass { IsPassOf (arc_value run.now).queue pass.old × Knows (arc_value run.now).board (view pass.old) }
     ensures tied { IsTied false J.tile_count (arc_value run.now).board (arc_value run.now).job result }
     ensures same { result.view.placed ≡ part.seat.view.placed }
-    ensures pass { IsPassOf (arc_value run.now).back pass.new × (view pass.new ≡ view pass.old) }
+    ensures pass { IsPassOf (arc_value run.now).queue pass.new × (view pass.new ≡ view pass.old) }
 {
     let others = part.others();
     let Part {
@@ -180,16 +180,16 @@ pub(crate) fn offer_others<'a, J: TileJob + Drop, A: Allocator, R: Wait>(
     }
     let far = weight / 2;
     let group = others.min(far);
-    let (mine, theirs) = run.board.split(seat);
-    let theirs = Part::new(theirs, far, group);
-    let asleep = put_offer(rt, mailbox, shared(run), pass, theirs);
+    let (near_seat, far_seat) = run.board.split(seat);
+    let offered = Part::new(far_seat, far, group);
+    let asleep = put_offer(rt, mailbox, another_owner(run), pass, offered);
     let behind = from_place(mailboxes, group);
-    let rest = Part::new(mine, weight - far, workers - group);
-    let mine = offer_others(rt, behind, run, pass, rest);
+    let rest = Part::new(near_seat, weight - far, workers - group);
+    let seat = offer_parts(rt, behind, run, pass, rest);
     if asleep {
         mailbox.bell().ring();
     }
-    mine
+    seat
 }
 
 /// The mailboxes from a place on.
@@ -216,7 +216,7 @@ pub(crate) fn work<'a, J: TileJob + Drop, A: Allocator, G: Gate, R: Wait>(
         loan: _,
     } = offer;
     let behind = from_place(mailboxes, 1);
-    let seat = offer_others(rt, behind, &run, &mut pass, part);
+    let seat = offer_parts(rt, behind, &run, &mut pass, part);
     let all: &SharedRun<'a, J, A> = &run;
     let seat = drain(&all.board, seat, &all.job, worker, gate);
     hand_back(rt, all, pass, seat);

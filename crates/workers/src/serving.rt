@@ -18,8 +18,8 @@ use std::thread;
 use std::thread::{Scope, Threads};
 use tilecore::TileJob;
 
-// How often a thread looks for a call before it sleeps, where it has a processor of its own: some 20 microseconds.
-const LOOKS_BEFORE_SLEEP: u32 = 400;
+// How often a thread spins for a call before it sleeps, where it has a processor of its own: some 20 microseconds.
+const SPINS_BEFORE_SLEEP: u32 = 400;
 
 // The mailboxes of a crew.
 type Mailboxes<'s, 'a, J, A> = &'s [Mailbox<'a, Offer<'a, J, A>>];
@@ -33,7 +33,7 @@ struct ThreadSetup<'s, 'a, E, J: TileJob + Drop, K: TileJob + Drop, A: Allocator
     first: Mailboxes<'s, 'a, J, A>,
     second: Mailboxes<'s, 'a, K, A>,
     worker: u32,
-    looks: u32,
+    spins: u32,
     gate: &'s G,
 }
 
@@ -133,7 +133,7 @@ fn serve<
     let bell = mailbox.bell();
     let mut next = 2 * setup.worker;
     for _ in setup.rt.forever() {
-        if !bell.wait(setup.rt, setup.looks) {
+        if !bell.wait(setup.rt, setup.spins) {
             return;
         }
         let one = take(setup.rt, setup.first);
@@ -146,10 +146,10 @@ fn serve<
     }
 }
 
-// How often threads look before they sleep: where there are fewer processors than threads, the caller needs theirs.
-fn looks_for<R: Threads>(rt: &R, workers: u32) -> u32 {
+// How often threads spin before they sleep: where there are fewer processors than threads, the caller needs theirs.
+fn spins_for<R: Threads>(rt: &R, workers: u32) -> u32 {
     match thread::available_parallelism(rt) {
-        Ok(processors) if processors.get() > workers as usize => LOOKS_BEFORE_SLEEP,
+        Ok(processors) if processors.get() > workers as usize => SPINS_BEFORE_SLEEP,
         _ => 0,
     }
 }
@@ -182,7 +182,7 @@ pub fn start_crews<
         first: first.mailboxes(),
         second: second.mailboxes(),
         worker: 1,
-        looks: looks_for(rt, first.workers()),
+        spins: spins_for(rt, first.workers()),
         gate,
     });
 }

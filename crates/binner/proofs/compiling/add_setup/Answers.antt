@@ -1,4 +1,4 @@
-use Rattle.std.proofs.Common.{◌∙◌, refl, subst}
+use Rattle.std.proofs.Common.{rules, ◌∙◌, refl, subst}
 use Rattle.gfxspec.specs.Tiles.{tile_rect}
 use Rattle.binner.specs.Lists.{EachChanges, TakesTriangle}
 use Rattle.binner.proofs.compiling.add_setup.Goals as goal
@@ -7,6 +7,7 @@ pub returns-clause-added : goal.returns-clause-added
 returns-clause-added g c =
     let k = c.args.compiling.now in
     record {
+      room = search rules;
       lists = subst (λ n. EachChanges (λ j. TakesTriangle c.args.setup.edges c.args.setup.bounds (tile_rect k.lists.size j) c.args.current n) k.lists c.add_to_tiles.new.lists) (c.len-number.ensures ∙ k.triangles.ok.0) c.in_ok-add_to_tiles.ensures.added;
       sound = c.in_ok-add_to_tiles.ensures.sound;
       triangles = c.in_ok-push.ensures.items;

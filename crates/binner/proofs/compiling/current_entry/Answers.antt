@@ -17,7 +17,7 @@ returns-in-Some-clause-enters g c = record {
 
 pub returns-clause-enters : goal.returns-clause-enters
 returns-clause-enters g c = record {
-  entry = new_entry c.args.compiling.now.states.items c.push.new.self.items (entry_of (state_value c.args.state.now) c.args.issues) c.len.result c.len-2.result (search rules) (search rules);
+  entry = new_entry c.args.compiling.now.states.items c.push.new.self.items (entry_of (state_value c.args.state.now) c.args.issues) c.len-states.result c.len.result (search rules) (search rules);
   current = refl;
   states = inr (search rules, search rules);
   lists = refl;

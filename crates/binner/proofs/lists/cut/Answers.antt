@@ -1,6 +1,6 @@
 use Rattle.std.proofs.Common.{rules, ◌<◌, ◌≤◌, ◌∙◌, ap, sym, subst, refl, length, length-set, arith}
 use Rattle.binmem.specs.Lists as bins
-use Rattle.binner.proofs.Changing.{on_ok}
+use Rattle.std.proofs.lemmas.Result.{on_ok_weaker}
 use Rattle.binner.proofs.Pushing.{few, room_of, short_cut, short_push, cut_sound, cut_at}
 use Rattle.binner.proofs.lists.cut.Goals as goal
 
@@ -22,13 +22,13 @@ push_number-requires-2-clause-room g c =
 
 pub returns-clause-sound : goal.returns-clause-sound
 returns-clause-sound g c =
-    on_ok c.push_number-2.result
+    on_ok_weaker c.push_number-2.result
     (λ h. cut_sound c.args.lists.now _ c.args.tile c.args.number c.args.word c.cut.new.self c.push_number.new.bins c.requires.sound c.requires.tile refl c.cut.ensures c.in_ok-push_number.ensures.pushed (h ∙ ap (λ n. bins.with_word c.push_number.new.bins c.args.tile n) c.encode.ensures.value) refl refl c.requires.can)
     c.push_number-2.ensures.pushed
 
 pub returns-clause-cut : goal.returns-clause-cut
 returns-clause-cut g c =
-    on_ok c.push_number-2.result
+    on_ok_weaker c.push_number-2.result
     (λ h. cut_at c.args.lists.now _ c.args.tile c.args.number c.args.word c.cut.new.self c.push_number.new.bins c.requires.sound c.requires.tile refl c.cut.ensures c.in_ok-push_number.ensures.pushed (h ∙ ap (λ n. bins.with_word c.push_number.new.bins c.args.tile n) c.encode.ensures.value) refl refl c.requires.can)
     c.push_number-2.ensures.pushed
 

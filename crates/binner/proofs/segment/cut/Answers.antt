@@ -3,7 +3,7 @@ use Rattle.gfxspec.specs.Commands.{Command}
 use Rattle.gfxspec.specs.Recorded.{settings_after}
 use Rattle.command.specs.Seen.{command_value}
 use Rattle.binner.specs.Segments.{CanFollow, IsMore}
-use Rattle.binner.proofs.Changing.{on_ok}
+use Rattle.std.proofs.lemmas.Result.{on_ok_weaker}
 use Rattle.binner.proofs.Cutting.{Cut, none_cut, can_follow, one_cut, all_cut}
 use Rattle.binner.proofs.segment.cut.Goals as goal
 
@@ -33,7 +33,7 @@ returns g c =
     let l = c.loop-command in
     record {
       means = λ results.
-          on_ok c.end.result
+          on_ok_weaker c.end.result
           (all_cut results c.args.commands.now l.command-index c.args.segments.now.items l.segments.items l.opened c.end.new.segments.items c.loop-command-test.false l.invariant)
           c.end.ensures;
     }

@@ -10,13 +10,12 @@ pub invariant_of-result : goal.invariant_of-result
 invariant_of-result g c =
     let b = c.self.invariant in
     record {
-      sound = c.in-Ok.ensures.sound;
-      room = c.in-Ok.ensures.room;
+      sound = c.in-Ok.ensures.added.sound;
       items = b.items ++ items (performed (told c.args.results.now) (map command_value c.deref.result.now));
-      compiled = c.in-Ok.ensures.means b.items b.compiled;
+      compiled = c.in-Ok.ensures.added.means b.items b.compiled;
     }
 
 pub returns-in-Ok-clause-means : goal.returns-in-Ok-clause-means
 returns-in-Ok-clause-means g c is h =
-    subst (λ cs. HasCompiled c.add_behind.new.compiling (is ++ items (performed (told c.args.results.now) cs))) (ap (map command_value) c.deref.ensures.value ∙ c.segment.view_is)
-    (c.in-Ok.ensures.means is (subst (λ k. HasCompiled k is) (sym c.self.view_is) h))
+    subst (λ cs. HasCompiled c.add_commands.new.compiling (is ++ items (performed (told c.args.results.now) cs))) (ap (map command_value) c.deref.ensures.value ∙ c.segment.view_is)
+    (c.in-Ok.ensures.added.means is (subst (λ k. HasCompiled k is) (sym c.self.view_is) h))

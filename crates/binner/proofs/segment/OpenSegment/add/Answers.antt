@@ -1,8 +1,9 @@
 use Rattle.std.proofs.Common.{sym, subst, List}
 use Rattle.gfxspec.specs.Commands.{Command}
+use Rattle.std.proofs.lemmas.Result.{IfOk-weaker}
 use Rattle.command.specs.Seen.{command_value}
 use Rattle.binner.specs.Segments.{IsMore, draw_of}
-use Rattle.binner.proofs.Cutting.{if_ok, more_behind_same}
+use Rattle.binner.proofs.Cutting.{more_behind_same}
 use Rattle.binner.proofs.segment.OpenSegment.add.Goals as goal
 
 pub returns-in-Some : goal.returns-in-Some
@@ -13,7 +14,7 @@ returns-in-Some g c =
     let gs = c.finish_where_full.new.segments.items in
     let hs = c.add_parts.new.segments.items in
     let roomy = c.in_ok-roomy.roomy in
-    if_ok (λ (s : List Command). IsMore (draw_of d.base d.count d.start) gs roomy hs s) (λ (s : List Command). IsMore k fs c.args.self hs s) c.add_parts.result
+    IfOk-weaker c.add_parts.result (λ (s : List Command). IsMore (draw_of d.base d.count d.start) gs roomy hs s) (λ (s : List Command). IsMore k fs c.args.self hs s)
     (λ s m. more_behind_same k fs c.args.self gs roomy hs s c.in_ok-roomy.ensures (subst (λ e. IsMore e gs roomy hs s) (sym c.in-Some.ensures.0) m))
     c.add_parts.ensures
 
@@ -24,6 +25,6 @@ returns-in_ok-share-in-None g c =
     let fs = c.args.segments.now.items in
     let gs = c.finish_where_full.new.segments.items in
     let roomy = c.in_ok-roomy.roomy in
-    if_ok (λ (s : List Command). IsMore (command_value shared.field-0) gs roomy gs s) (λ (s : List Command). IsMore k fs c.args.self gs s) c.push.result
+    IfOk-weaker c.push.result (λ (s : List Command). IsMore (command_value shared.field-0) gs roomy gs s) (λ (s : List Command). IsMore k fs c.args.self gs s)
     (λ s m. more_behind_same k fs c.args.self gs roomy gs s c.in_ok-roomy.ensures (subst (λ d. IsMore d gs roomy gs s) shared.ensures m))
     (c.push.ensures gs)

@@ -1,9 +1,9 @@
 use Rattle.std.proofs.Common.{rules, arith, ◌≡◌, ◌*◌, List, sym, subst}
 use Rattle.gfxspec.specs.Commands.{Command}
 use Rattle.gfxspec.specs.Recorded.{settings_after}
+use Rattle.std.proofs.lemmas.Result.{IfOk-weaker}
 use Rattle.command.specs.Seen.{command_value}
 use Rattle.binner.specs.Segments.{CanFollow, IsMore, draw_of}
-use Rattle.binner.proofs.Cutting.{if_ok}
 use Rattle.binner.proofs.Dividing.{all_left, less_left, can_draw_part, fits}
 use Rattle.binner.proofs.segment.OpenSegment.add_parts.Goals as goal
 
@@ -46,6 +46,6 @@ pub returns : goal.returns
 returns g c =
     let l = c.loop-room in
     let gs = l.segments.items in
-    if_ok (λ (s : List Command). IsMore (command_value c.command-2.result) gs l.opened gs s) (λ (s : List Command). IsMore (draw_of c.args.draw.base c.args.draw.count c.args.draw.start) c.args.segments.now.items c.args.self gs s) c.push-2.result
+    IfOk-weaker c.push-2.result (λ (s : List Command). IsMore (command_value c.command-2.result) gs l.opened gs s) (λ (s : List Command). IsMore (draw_of c.args.draw.base c.args.draw.count c.args.draw.start) c.args.segments.now.items c.args.self gs s)
     (λ s m. l.invariant.left.means gs s (subst (λ k. IsMore k gs l.opened gs s) c.command-2.ensures m))
     (c.push-2.ensures gs)
