@@ -1,6 +1,6 @@
 //! Segments, compiled by the caller or by a crew.
 
-ghost use Rattle.std.specs.Prelude.{◌≡◌, ◌≤◌, ◌+◌, ◌∷◌, [], ℕ, List, length, IfSome, IfOk, IfErr, Some, false};
+ghost use Rattle.std.specs.Prelude.{◌≡◌, ◌≤◌, ◌+◌, ◌∷◌, ℕ, List, length, IfSome, IfOk, IfErr, Some, false};
 ghost use mathlib.Core.Option.{some};
 ghost use lib.ListN.{get_elem?};
 ghost use Rattle.gfxspec.specs.declared.geometry.Size.{Size};
@@ -10,7 +10,6 @@ ghost use Rattle.gfxspec.specs.Tiles.{tile_count};
 ghost use Rattle.binmem.specs.Lists.{no_words};
 ghost use Rattle.board.specs.declared.view.Hand.TheVariants.{Empty};
 ghost use Rattle.board.specs.Known.{IsSeatOf, AreNew};
-ghost use Rattle.binner.specs.Compiled.{Compilation};
 ghost use Rattle.cmdlist.specs.Drawable.{told};
 ghost use Rattle.binner.specs.Segments.{cut_items, AreCompiled};
 ghost use Rattle.segmentrun.specs.declared.job.SegmentJob.{SegmentJob};
@@ -68,25 +67,6 @@ fn next_list<'a, A: Allocator + Copy + Send>(
     }
 }
 
-/// The lists of the windows behind the first, in their order. Refused where there was no memory for one of them.
-fn take_behind<'a, A: Allocator + Copy + Send>(
-    alloc: A,
-    finished: &mut Finished<'a, SegmentJob<A>, A>,
-    windows: u32,
-) -> Result<Vec<Compiled<A>, A>, GfxError>
-    requires next { (finished.old.next ≡ 1) × (1 ≤ windows) }
-    ensures lists { (size : Size) (meant : ℕ → List Item) (first : Compilation) → AreOfWindows size meant finished.old.results
-        → AreCompiled size (joined meant 1) (first ∷ [])
-        → IfOk result (λ behind. AreCompiled size (joined meant windows) (first ∷ behind.items)) }
-    ensures memory { IfErr result (λ e. e ≡ OutOfMemory) }
-{
-    let mut behind = Vec::new(alloc);
-    for _ in 1..windows {
-        behind.push(next_list(finished)?)?;
-    }
-    Ok(behind)
-}
-
 /// The lists of all windows, in their order. Refused where there was no memory for one of them.
 fn take_lists<'a, A: Allocator + Copy + Send>(
     alloc: A,
@@ -99,7 +79,10 @@ fn take_lists<'a, A: Allocator + Copy + Send>(
     ensures memory { IfErr result (λ e. e ≡ OutOfMemory) }
 {
     let first = next_list(finished)?;
-    let behind = take_behind(alloc, finished, windows)?;
+    let mut behind = Vec::new(alloc);
+    for _ in 1..windows {
+        behind.push(next_list(finished)?)?;
+    }
     Ok((first, behind))
 }
 

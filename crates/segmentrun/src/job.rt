@@ -74,9 +74,8 @@ fn part_of<A: Allocator>(segments: &[Segment<A>], first: usize, count: usize) ->
 fn of_window<A: Allocator>(segments: &[Segment<A>], width: usize, number: u32) -> &[Segment<A>]
     ensures { result.now ≡ window_of width number segments.now }
 {
-    let begin = width.saturating_mul(number as usize).min(segments.len());
-    let behind = &segments[begin..];
-    &behind[..width.min(behind.len())]
+    let first = width.saturating_mul(number as usize).min(segments.len());
+    part_of(segments, first, width)
 }
 
 impl<A: Allocator> SegmentJob<A> {

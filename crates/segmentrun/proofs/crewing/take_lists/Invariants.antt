@@ -5,7 +5,7 @@ use Rattle.binner.specs.Compiled.{Compilation}
 use Rattle.binner.specs.Segments.{AreCompiled}
 use Rattle.segmentrun.specs.Windows.{joined}
 use Rattle.segmentrun.specs.Collected.{AreOfWindows}
-use Rattle.segmentrun.proofs.crewing.take_behind.Given as goal
+use Rattle.segmentrun.proofs.crewing.take_lists.Given as goal
 
 abbrev pub invariant-loop : goal.invariant-loop
 invariant-loop g l = record {
