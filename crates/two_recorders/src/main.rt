@@ -1,5 +1,5 @@
 //! A picture by calls, without a script: two recorders in threads of their own record lists and send them by ports to the
-//! caller, which executes them as they come, with a crew of workers beside it, and then asks for counts, pixels and planes.
+//! caller, which executes them with a crew of workers beside it, and then asks for counts, pixels and planes.
 //!
 //! Each recorder has a half of the target, by its scissor rectangle, and queries of its own, so what comes out is the same
 //! whichever lists come first. What is asked is printed as answer lines. data/picture.txt spells the same calls as a
@@ -40,7 +40,7 @@ fn main(rt: HostRuntime) -> ExitCode {
 fn picture<R: Threads + Wait + Sync>(rt: &R, alloc: Global) -> Result<Vec<u8>, GfxError> {
     let mut device = ImmediateContext::new(alloc, WIDTH, HEIGHT)?;
     clear(&mut device)?;
-    let mut device = draw_lists(rt, alloc, device)?;
+    draw_lists(rt, alloc, &mut device)?;
     tell_all(alloc, &mut device)
 }
 

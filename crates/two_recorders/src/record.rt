@@ -10,8 +10,6 @@ use device::{
 };
 use std::alloc::Global;
 use std::sync::Wait;
-use std::sync::atomic::AtomicU64;
-use std::sync::atomic::Ordering::SeqCst;
 use std::thread;
 use std::thread::Threads;
 
@@ -123,20 +121,18 @@ fn send_turns<R: Wait>(
     Ok(())
 }
 
-/// Records and sends the lists of a half, and says that it is done.
+/// Records and sends the lists of a half. The pass comes back.
 fn record_half<R: Wait>(
     rt: &R,
     alloc: Global,
     ports: &ListPorts,
     pass: ListPass,
-    at_work: &AtomicU64,
 ) -> (ListPass, Result<(), GfxError>)
     requires { pass.queue ≡ ports.now.queue }
     ensures { (result.0.queue ≡ ports.now.queue) × (result.0.port ≡ pass.port) }
 {
     let mut pass = pass;
     let sent = send_turns(rt, alloc, ports, &mut pass);
-    at_work.fetch_sub(1, SeqCst);
     (pass, sent)
 }
 
@@ -147,7 +143,6 @@ pub(crate) fn record_both<R: Threads + Wait + Sync>(
     ports: &ListPorts,
     left: ListPass,
     right: ListPass,
-    at_work: &AtomicU64,
 ) -> (ListPass, ListPass, Result<(), GfxError>)
     requires { (left.queue ≡ ports.now.queue) × (right.queue ≡ ports.now.queue) }
     ensures left { (result.0.queue ≡ ports.now.queue) × (result.0.port ≡ left.port) }
@@ -158,11 +153,11 @@ pub(crate) fn record_both<R: Threads + Wait + Sync>(
         move ||
             requires { left.queue ≡ ports.now.queue }
             ensures { (result.0.queue ≡ ports.entry.now.queue) × (result.0.port ≡ left.port) }
-        { record_half(rt, alloc, ports, left, at_work) },
+        { record_half(rt, alloc, ports, left) },
         move ||
             requires { right.queue ≡ ports.now.queue }
             ensures { (result.0.queue ≡ ports.entry.now.queue) × (result.0.port ≡ right.port) }
-        { record_half(rt, alloc, ports, right, at_work) },
+        { record_half(rt, alloc, ports, right) },
     );
     (left.0, right.0, left.1.and(right.1))
 }
