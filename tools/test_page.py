@@ -74,7 +74,6 @@ RANDOM_SCENES, CHANGED_SCRIPTS = 40, 300
 SCENES_BY_CALLS, SCENES_ON_SLIDER = 500, 200
 # what the package's examples print, as those in C and in Python do: of a cube its first three frames
 CUBE = ["26122 pixels", "26154 pixels", "26079 pixels"]
-CUBE_REFUSED = "refused: YZ_TOPOLOGY_UNSET"
 RECORDERS = ["refused with 7", "4096 pixels", *7 * ["1792 pixels"]]
 IN_CHROMIUM = (
     "answers",
@@ -187,7 +186,7 @@ class NodeTests:
             path.parent.mkdir(parents=True, exist_ok=True)
             path.write_bytes(it.data)
         cube, recorders = self.example("cube", "60"), self.example("recorders")
-        check(cube[:3] == CUBE and cube[60:] == [CUBE_REFUSED], f"{cube}")
+        check(cube[:3] == CUBE and len(cube) == 60, f"{cube}")
         check(recorders == RECORDERS, f"{recorders}")
         return "60 frames of a cube, 8 recorders"
 

@@ -2,7 +2,7 @@
 // device, and prints how many pixels of the cube each shows. A deferred context records the cube. The program turns,
 // lights and projects its corners; the device sorts out what is in front.
 
-import { CallRefused, PrimitiveTopology, createDevice } from "../index.js";
+import { PrimitiveTopology, createDevice } from "../index.js";
 
 /** @typedef {import("../index.js").Device} Device */
 /** @typedef {import("../index.js").Vertex} Vertex */
@@ -92,11 +92,4 @@ export function drawFrame({ immediate, deferred: [recorder] }, turn) {
 const device = await createDevice(SIDE, SIDE);
 const frames = Number(/** @type {any} */ (globalThis).process?.argv[2] || 1);
 for (let frame = 0; frame < frames; frame++) console.log(`${drawFrame(device, 0.7 + 0.1 * frame)} pixels`);
-try {
-    device.immediate.draw(3);
-} catch (error) {
-    if (!(error instanceof CallRefused)) throw error;
-    // the device goes on
-    console.log(`refused: ${error.name}`);
-}
 device.dispose();
