@@ -12,20 +12,16 @@ use tileblock::{DepthBounds, TileBlock};
 /// Whether a triangle's bounds are as wide or as high as a tile. The vertices of a smaller one tell about as much of its depths as its
 /// plane does.
 #[inline(always)]
-fn is_large(bounds: PixelRect) -> bool {
+pub(crate) fn is_large(bounds: PixelRect) -> bool {
     let width = bounds.right.wrapping_sub(bounds.left);
     let height = bounds.bottom.wrapping_sub(bounds.top);
     width | height >= 32
 }
 
-/// Whether a triangle's plane is asked what its depths lie between: where it is large, depth is tested, and something is known of the
-/// stored depths.
-pub(crate) fn asks_plane(
-    bounds: PixelRect,
-    entry: &StateEntry,
-    stored: Option<DepthBounds>,
-) -> bool {
-    is_large(bounds) && entry.depth_stencil.depth() && stored.is_some()
+/// Whether a large triangle's plane is asked what its depths lie between: where depth is tested, and something is known of the stored
+/// depths.
+pub(crate) fn asks_plane(entry: &StateEntry, stored: Option<DepthBounds>) -> bool {
+    entry.depth_stencil.depth() && stored.is_some()
 }
 
 /// No depth from `least` to `greatest` passes against any of the stored ones.

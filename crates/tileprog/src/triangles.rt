@@ -18,7 +18,7 @@ ghost use Rattle.tileprog.specs.Strokes.{IsWithin};
 use crate::alike::{alike_outcome, is_open, run_alike, run_open};
 use crate::brush::make_brush;
 use crate::draw::draw;
-use crate::hidden::{asks_plane, bounds_after, is_hidden, keep_after};
+use crate::hidden::{asks_plane, bounds_after, is_hidden, is_large, keep_after};
 use crate::paint::write_under;
 use binner::{StateEntry, TriSetup};
 use gfxspec::PixelRect;
@@ -111,6 +111,34 @@ fn depth_range(triangle: &TriSetup, rect: PixelRect, asked: bool, whole: bool) -
     cut_range(triangle, rect)
 }
 
+/// A triangle that is less wide and less high than a tile, over the pixels of a clip rectangle: its vertices tell as much of its depths
+/// as its plane does, and whole tiles aren't asked about.
+fn run_small<A: Allocator>(
+    block: &mut TileBlock<A>,
+    triangle: &TriSetup,
+    mask: EdgeMask,
+    entry: &StateEntry,
+    clip: PixelRect,
+    flip: u32,
+) -> u32
+    requires tile { IsTile block.old.rect }
+    requires class { IsClassOf (Cut (edge_bits mask)) triangle.now.edges block.old.rect }
+    requires bounded { IsBounded triangle.now entry.now }
+    requires within { IsWithin clip block.old.rect }
+    requires inside { (u v : ℕ) → IsIn block.old.rect u v → is_in_rect clip u v ≡ is_in_rect triangle.now.bounds u v }
+    ensures rect { block.new.rect ≡ block.old.rect }
+    ensures pixels { (u v : ℕ) → IsIn block.old.rect u v → stands_for flip block.new u v ≡ triangle_by mask (Some triangle.now) (Some entry.now) u v (stands_for flip block.old u v) }
+    ensures count { result ≡ sum_over block.old.rect (triangle_count mask triangle.now entry.now block.old) }
+    ensures few { result ≤ 1024 }
+{
+    let stored = block.depth_bounds();
+    let (least, greatest) = (triangle.least_depth, triangle.greatest_depth);
+    let after = bounds_after(entry, least, greatest, false, stored);
+    let passed = draw_under(block, triangle, mask, entry, clip, flip);
+    keep_after(block, after, entry.depth_stencil.func(), passed);
+    passed
+}
+
 /// A triangle under a state entry over a tile, of whose colours bits may still have to be flipped; the answer is how many pixels pass.
 /// It stands by itself, so that a word whose triangle is hidden pays for none of what it keeps.
 #[inline(never)]
@@ -134,13 +162,16 @@ fn run_triangle<A: Allocator>(
     if clip.left >= clip.right || clip.top >= clip.bottom {
         return 0;
     }
+    if !is_large(triangle.bounds) {
+        return run_small(block, triangle, mask, entry, clip, *flip);
+    }
     let whole = is_whole(rect, clip, mask);
     let open = is_open(entry, whole);
     if open {
         return run_open(block, flip, triangle, entry);
     }
     let stored = block.depth_bounds();
-    let asked = asks_plane(triangle.bounds, entry, stored);
+    let asked = asks_plane(entry, stored);
     let (least, greatest) = depth_range(triangle, rect, asked, whole);
     let hidden = is_hidden(entry, least, greatest, stored);
     if hidden {

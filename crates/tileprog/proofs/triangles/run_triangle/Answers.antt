@@ -51,6 +51,13 @@ returns-then-clip-clause-count g c =
     let empty : (clip.right ≤ clip.left) ⊎ (clip.bottom ≤ clip.top) = ⊎_elim (λ a. inl a) (λ b. inr b.1) c.then-clip.either in
     none_counted p c.args.entry.now c.args.mask clip r c.requires.tile c.requires.class c.requires.bounded inside empty c.args.block.now
 
+pub run_small-requires-clause-inside : goal.run_small-requires-clause-inside
+run_small-requires-clause-inside g c =
+    let p = c.args.triangle.now in
+    let clip = c.clipped-clip.result in
+    let P : PixelRect → Type 0 = λ r. (u v : ℕ) → IsIn r u v → is_in_rect clip u v ≡ is_in_rect p.bounds u v in
+    subst P c.rect-rect.ensures c.clipped-clip.ensures.pixels
+
 pub returns-then-open-clause-pixels : goal.returns-then-open-clause-pixels
 returns-then-open-clause-pixels g c = λ u v is.
     let t = c.args.triangle.now in
