@@ -57,7 +57,7 @@ fn put<W: Sink>(out: &mut W, piece: &[u8], taken: u64) -> Result<u64, TgaFault>
 }
 
 /// How many bytes are handed to the sink at once, at most.
-const PIECE: usize = 65_536;
+const PIECE: usize = 16_384;
 
 /// The bytes of an image on their way to a sink.
 #[derive(Drop)]

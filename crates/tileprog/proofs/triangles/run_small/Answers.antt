@@ -1,4 +1,4 @@
-use Rattle.std.proofs.Common.{◌∙◌, ap, true, false, true≢false, sym, absurd}
+use Rattle.std.proofs.Common.{◌∙◌, ap, true, false, true≢false, sym}
 use Rattle.tileblock.specs.Block.{Block}
 use Rattle.tileprog.proofs.Hiding.{vertices_lie, kept_if}
 use Rattle.tileprog.specs.Painting.{stands_for}
