@@ -2,3 +2,4 @@ pub mod Played
 pub mod Steps
 pub mod Endings
 pub mod Ran
+pub mod Beside

@@ -12,7 +12,11 @@ mod outcome;
 mod perform;
 mod play;
 mod run;
+mod telling;
 mod threads;
+mod traced;
+mod tracing;
 
 pub use bytes::{session, session_alone};
 pub use outcome::{Ended, SessionFault};
+pub use telling::{NoHistory, history};
