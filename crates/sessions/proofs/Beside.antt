@@ -7,7 +7,7 @@ use Rattle.gfxspec.specs.declared.geometry.Size.{Size}
 use Rattle.gfxspec.specs.Commands.{Command}
 use Rattle.gfxspec.specs.Items.{opening}
 use Rattle.gfxspec.specs.Session.{Step, Records, Flushes}
-use Rattle.meaning.specs.Standing.{settled}
+use Rattle.meaning.specs.Standing.{settled, Stands}
 use Rattle.meaning.proofs.Standing.{settled-record, settled-run}
 use Rattle.pixelevents.specs.History.{history_from}
 use Rattle.pixelevents.specs.Laws.{left_by}
@@ -17,6 +17,7 @@ use Rattle.pixelevents.proofs.SessionLaws.{flush_keeps_items}
 use Rattle.pixelhistory.specs.declared.trace.Trace.{Trace}
 use Rattle.pixelhistory.specs.Standing.{IsTraceOf, Traces}
 use Rattle.scenetext.specs.Scene.{Line, Scene}
+use Rattle.immediate.specs.Held.{Held, context_of}
 use Rattle.sessions.specs.declared.outcome.Ended.TheVariants as ended
 use Rattle.sessions.specs.declared.play.Interruption.{Interruption}
 use Rattle.sessions.specs.declared.traced.TracedContext.{TracedContext}
@@ -34,10 +35,9 @@ module _ {A : Type 0} (size : Size) where
   pub traced_settle : (steps : List Step) (x y : ℕ) (t : Trace A) → Traces size steps x y t → Traces size (steps ++ []) x y t
   traced_settle steps x y t h = subst (λ ss. Traces size ss x y t) (sym (append-nil steps)) h
 
-  -- where a call traces on at the pixel of a context, and this is the one
-  pub traced_at : {T E : Type 0} (steps more : List Step) (x y column row : ℕ) (t u : Trace A) (result : Result T E) → (column ≡ x) × (row ≡ y) × Traces size steps x y t → (Traces size steps column row t → OnOk result (Traces size more column row u)) → OnOk result ((column ≡ x) × (row ≡ y) × Traces size more x y u)
-  traced_at steps more x y column row t u (Err e) h on = tt
-  traced_at steps more x y column row t u (Ok done) h on = (
+  -- where this is the pixel of a context, and the trace goes on there
+  pub traced_at : (steps more : List Step) (x y column row : ℕ) (t u : Trace A) → (column ≡ x) × (row ≡ y) × Traces size steps x y t → (Traces size steps column row t → Traces size more column row u) → (column ≡ x) × (row ≡ y) × Traces size more x y u
+  traced_at steps more x y column row t u h on = (
     h.0,
     h.1,
     subst (λ n. Traces size more n y u) h.0
@@ -49,6 +49,12 @@ module _ {A : Type 0} (size : Size) where
   pub traced_whole : (steps : List Step) (x y : ℕ) (t : Trace A) → Traces size (steps ++ Flushes ∷ []) x y t → t.events.items ≡ session_history size steps x y
   traced_whole steps x y t h =
       h.events ∙ ap (λ is. history_from 0 is x y opening) (ap (performed_items size) (settled-run steps Flushes refl) ∙ flush_keeps_items size steps)
+
+-- what a call traced at the pixel of a context that held h
+pub on_beside : {A T E : Type 0} (h : Held) (more : List Step) (column row : ℕ) (t u : Trace A) (result : Result T E) → ((steps : List Step) → Stands h.surface.size steps (context_of h) → Traces h.surface.size steps column row t → OnOk result (Traces h.surface.size (steps ++ more) column row u))
+    → OnOk result ((steps : List Step) (x y : ℕ) → Stands h.surface.size steps (context_of h) → (column ≡ x) × (row ≡ y) × Traces h.surface.size steps x y t → (column ≡ x) × (row ≡ y) × Traces h.surface.size (steps ++ more) x y u)
+on_beside h more column row t u (Ok done) on = λ steps x y stands before. traced_at h.surface.size steps (steps ++ more) x y column row t u before (on steps stands)
+on_beside h more column row t u (Err e) on = tt
 
 -- its last event leaves what the pixel holds in the image
 pub last_shown : (size : Size) (lines : List Line) (x y : ℕ) → left_by opening (session_history size (steps_of lines) x y) ≡ pixel_after size lines x y

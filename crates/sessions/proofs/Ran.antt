@@ -92,11 +92,6 @@ pub traces_listed : {C T E : Type 0} (traces : Size → List Step → ℕ → �
 traces_listed traces agrees h list right restore a b (Ok done) same on = λ ok. subst (λ l. TracesOn traces h (Executes l restore ∷ []) a b) (same ok) on
 traces_listed traces agrees h list right restore a b (Err e) same on = tt
 
--- what is traced where a call did what it does
-pub traced_if : {C T E : Type 0} (traces : Size → List Step → ℕ → ℕ → C → Type 0) (h : Held) (more : List Step) (a b : C) (result : Result T E) → ((steps : List Step) (x y : ℕ) → Stands h.surface.size steps (context_of h) → traces h.surface.size steps x y a → OnOk result (traces h.surface.size (steps ++ more) x y b)) → OnOk result (TracesOn traces h more a b)
-traced_if traces h more a b (Ok done) on = on
-traced_if traces h more a b (Err e) on = tt
-
 -- ---- a target keeps its size
 
 may_size : (old new : Held) → MayHaveRun old new → new.surface.size ≡ old.surface.size

@@ -46,7 +46,7 @@ impl<A: Allocator + Copy + Send> RecordsCalls for TracedContext<A> {
 impl<A: Allocator + Copy + Send> TracedContext<A> {
     /// A context with the trace of a pixel of its new target.
     pub(crate) fn new(alloc: A, context: ImmediateContext<A>, x: u32, y: u32) -> Self
-        requires { (x < context.surface.size.width) × (y < context.surface.size.height) }
+        requires inside { (x < context.surface.size.width) × (y < context.surface.size.height) }
         ensures held { result.context ≡ context }
         ensures traced { (size : Size) → traces_beside size [] x y result }
     {

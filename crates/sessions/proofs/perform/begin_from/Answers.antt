@@ -15,8 +15,8 @@ returns-in-Ok-new-clause-begun g c = record {
   new = c.in-Ok-new.ensures.new;
 }
 
-pub returns-clause-stopped : goal.returns-clause-stopped
-returns-clause-stopped g c =
+pub returns-in-Err-new-clause-stopped : goal.returns-in-Err-new-clause-stopped
+returns-in-Err-new-clause-stopped g c =
     let text = c.args.text.now in
     let scene = scene_value c.in-Ok.scene in
     subst (λ n. Writes text (stopped_output [] 1 n)) (sym c.number.ensures) (drawing scene _ c.in-Ok.ensures.scene (no_target scene c.in-Err-new.refusal c.in-Err-new.ensures.answer))

@@ -2,11 +2,11 @@ use Rattle.sessions.proofs.Ran.{anyway, settle_is, settle_size, still_inside}
 use Rattle.sessions.proofs.Beside.{traced_settle}
 use Rattle.sessions.proofs.traced.TracedContext.settle.Goals as goal
 
-pub self-inside : goal.self-inside
-self-inside g c =
+pub invariant_of-self : goal.invariant_of-self
+invariant_of-self g c =
     let old = c.args.self.now in
     let new = c.settle_alone.new.self in
-    still_inside old.x old.y old.context new (settle_size old.context new c.settle_alone.result c.settle_alone.ensures) old.inside
+    record { inside = still_inside old.x old.y old.context new (settle_size old.context new c.settle_alone.result c.settle_alone.ensures) old.inside }
 
 pub returns-clause-ran : goal.returns-clause-ran
 returns-clause-ran g c =

@@ -4,10 +4,10 @@ use Rattle.sessions.proofs.Ran.{anyway, record_size, still_inside}
 use Rattle.sessions.proofs.Beside.{traced_record}
 use Rattle.sessions.proofs.tracing.TracedContextRecordsCalls.record_command.Goals as goal
 
-pub self-inside : goal.self-inside
-self-inside g c =
+pub invariant_of-self : goal.invariant_of-self
+invariant_of-self g c =
     let old = c.args.self.now in
-    still_inside old.x old.y old.context c.record.new.self (record_size (command_value c.args.command.now) old.context c.record.new.self c.record.result c.record.ensures) old.inside
+    record { inside = still_inside old.x old.y old.context c.record.new.self (record_size (command_value c.args.command.now) old.context c.record.new.self c.record.result c.record.ensures) old.inside }
 
 pub returns-clause-traced : goal.returns-clause-traced
 returns-clause-traced g c =
