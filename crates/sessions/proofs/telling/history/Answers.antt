@@ -21,7 +21,7 @@ returns-then-lacks_pixel-clause-refused g c =
     }
 
 pub new-traced-requires-clause-inside : goal.new-traced-requires-clause-inside
-new-traced-requires-clause-inside g c =
+new-traced-requires-clause-inside g c κs within =
     let begun = c.in-Ok.ensures.begun in
     subst (λ (z : Size). (c.args.x < z.width) × (c.args.y < z.height)) (sym begun.size_is)
     (pixel_inside c.args.x c.args.y c.in-Ok.begun.0.size (sym c.lacks_pixel.ensures ∙ c.if-lacks_pixel.false))
