@@ -7,7 +7,7 @@ use Rattle.gfxspec.specs.declared.geometry.Size.{Size}
 use Rattle.gfxspec.specs.Commands.{Command}
 use Rattle.gfxspec.specs.Items.{opening}
 use Rattle.gfxspec.specs.Session.{Step, Records, Flushes}
-use Rattle.meaning.specs.Standing.{settled, Stands}
+use Rattle.meaning.specs.Standing.{Stands}
 use Rattle.meaning.proofs.Standing.{settled-record, settled-run}
 use Rattle.pixelevents.specs.History.{history_from}
 use Rattle.pixelevents.specs.Laws.{left_by}

@@ -1,4 +1,4 @@
-use Rattle.std.proofs.Common.{subst, sym, ℕ, []}
+use Rattle.std.proofs.Common.{subst, sym, []}
 use Rattle.scenetext.specs.SeenScene.{scene_value}
 use Rattle.sessions.specs.Writing.{Writes, drawing, stopped_output}
 use Rattle.sessions.proofs.Endings.{sized, unread, no_target}

@@ -2,7 +2,7 @@ use Rattle.std.proofs.Common.{rules, ◌≤◌, ◌<◌, ◌∙◌, ap, sym, sub
 use Rattle.sessions.specs.Playing.{own_count, HasReached, IsInterrupted}
 use Rattle.std.proofs.lemmas.List.{get_or_past}
 use Rattle.recorders.specs.Dealing.{places_of}
-use Rattle.sessions.proofs.Steps.{more_inside, next_line, reached_next, interrupted, last_interrupted, none_reached, none_traced, traced_next, last_traced}
+use Rattle.sessions.proofs.Steps.{more_inside, next_line, reached_next, interrupted, last_interrupted, none_reached, none_traced, traced_next}
 use Rattle.sessions.proofs.play.play.Goals as goal
 
 pub loop-next-init : goal.loop-next-init

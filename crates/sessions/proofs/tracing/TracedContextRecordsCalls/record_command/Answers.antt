@@ -1,4 +1,3 @@
-use Rattle.std.proofs.Common.{[], ◌∷◌}
 use Rattle.command.specs.Seen.{command_value}
 use Rattle.sessions.proofs.Ran.{anyway, record_size, still_inside}
 use Rattle.sessions.proofs.Beside.{traced_record}
