@@ -1,6 +1,6 @@
 //! Tests of what no contract says, over what the crates below hand out: scripts from bytes to bytes (`scripts`), the calls
 //! of the immediate context that no script reaches (`contexts`), recorded and compiled lists (`recording`, `compiling`), tiles
-//! in any order (`orders`), the reading of scripts (`reading`), blocks, boards, crews, ports and their threads (`blocks`, `boards`,
+//! in any order (`orders`), the reading of scripts (`reading`), histories of pixels (`histories`), blocks, boards, crews, ports and their threads (`blocks`, `boards`,
 //! `crews`, `segments`, `ports`, `meeting`),
 //! devices (`devices`), numbers and texts of refusals (`refusals`), the command line (`words`), and the allocator that
 //! refuses a growth (`allocator`).
@@ -24,6 +24,8 @@ mod contexts;
 mod crews;
 #[cfg(test)]
 mod devices;
+#[cfg(test)]
+mod histories;
 #[cfg(test)]
 mod meeting;
 #[cfg(test)]

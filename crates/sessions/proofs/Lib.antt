@@ -3,3 +3,4 @@ pub mod Steps
 pub mod Endings
 pub mod Ran
 pub mod Called
+pub mod Beside

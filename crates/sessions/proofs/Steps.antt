@@ -1,7 +1,7 @@
 -- Lines that are accepted and answered, one by one, and one more line of the immediate context.
 use Rattle.std.proofs.Common.{◌≡◌, ◌∙◌, ap, sym, subst, refl, ℕ, ◌+◌, ◌<◌, ◌≤◌, arith, Bool, true, false, true≢false, List, [], ◌∷◌, ◌++◌, length, take, map, get_or, below_more, None, zero, suc, ◌-◌, ◌%◌, ◌==◌, drop, append_assoc}
 use Rattle.std.specs.Prelude.{if◌then◌else◌}
-use Rattle.std.proofs.lemmas.List.{length-map, take_more, append-nil, get_or-map, get_or_past, length-append}
+use Rattle.std.proofs.lemmas.List.{length-map, take_more, take_all, append-nil, get_or-map, get_or_past, length-append}
 use Rattle.gfxspec.specs.declared.geometry.Size.{Size}
 use Rattle.gfxspec.specs.declared.error.GfxError.{GfxError}
 use Rattle.gfxspec.specs.Commands.{Command}
@@ -9,7 +9,7 @@ use Rattle.gfxspec.specs.Refusals.{first_row}
 use Rattle.meaning.specs.Standing.{Stands, IsNew}
 use Rattle.meaning.proofs.Contexts.{stands_new}
 use Rattle.scenetext.specs.Seen.{verb_value}
-use Rattle.scenetext.specs.Scene.{Actor, Immediate, Deferred, Verb, Flush, Execute, Query, Pixel, Line}
+use Rattle.scenetext.specs.Scene.{Actor, Immediate, Deferred, Verb, Call, Finish, Flush, Execute, Query, Pixel, Line}
 use Rattle.scenetext.specs.Spelling.{is_immediate_actor, may_take, HasList, IsLine, AreLines}
 use Rattle.recorders.specs.Recording.{recording_of, listed}
 use Rattle.recorders.specs.Apart.{a_line, line_at, Cause}
@@ -20,12 +20,13 @@ use Rattle.recorders.proofs.Places.{IsFirst, first, next_place, kept_on}
 use Rattle.immediate.specs.Held.{Held, context_of}
 use Rattle.sessions.specs.declared.play.Interruption.{Interruption}
 use Rattle.sessions.specs.declared.play.Interruption.TheVariants.{Refused}
-use Rattle.sessions.specs.Lists.{actor_steps, steps_of}
+use Rattle.gfxspec.specs.Session.{Step, Executes, Flushes}
+use Rattle.sessions.specs.Lists.{verb_steps, actor_steps, steps_of}
 use Rattle.answers.specs.declared.line.Answer.{Answer}
 use Rattle.answers.specs.Lines.{answer_lines, answer_line}
 use Rattle.sessions.specs.Answers.{answer_of, line_rows, refusal, answers_behind, answers_or, answers_from}
 use Rattle.sessions.specs.Playing.{own_count, own_place, IsPlayed, ListsOf, ImmediateAccepts, HasReached, IsInterrupted, IsTold}
-use Rattle.sessions.specs.Taking.{held_rows, HasTaken, held_answers, Interrupts}
+use Rattle.sessions.specs.Taking.{held_rows, HasTaken, held_answers, Interrupts, taken_steps, TracesOn}
 use Rattle.sessions.proofs.Played.{steps_of-push, rows_are, next_played, answers_are}
 use Rattle.std.proofs.lemmas.Bool.{eqb-true}
 use Rattle.std.proofs.Math.Nat.{mod-lt}
@@ -196,6 +197,21 @@ executed_list ls j l next w right k n restore at =
     let few : n < length (recording_of k (take i ls)).lists = subst (λ m. n < m) (sym (lists_counted k (take i ls))) has in
     right k n ∙ listed_early k i n ls few
 
+-- the steps of a verb whose list, where it executes one, is this
+taken_are : (w : ℕ → ℕ → List Command) (e : List Line) (v : Verb) → ((k n : ℕ) (restore : Bool) → v ≡ Execute k n restore → w k n ≡ listed e k n) → taken_steps w v ≡ verb_steps e v
+taken_are w e (Call k) right = refl
+taken_are w e (Finish restore) right = refl
+taken_are w e Flush right = refl
+taken_are w e (Execute k n restore) right = ap (λ l. Executes l restore ∷ []) (right k n restore refl)
+taken_are w e (Query q) right = refl
+taken_are w e (Pixel x y) right = refl
+
+-- what is traced on behind steps of which the context has the size
+traced_on : (size : Size) (steps : List Step) (c : Held) → c.surface.size ≡ size → Stands size steps (context_of c) → {C : Type 0} (traces : Size → List Step → ℕ → ℕ → C → Type 0) (more : List Step) (x y : ℕ) (old new : C) → TracesOn traces c more old new → traces size steps x y old → traces size (steps ++ more) x y new
+traced_on size steps c at stands traces more x y old new on t =
+    subst (λ z. traces z (steps ++ more) x y new) at
+    (on steps x y (subst (λ z. Stands z steps (context_of c)) (sym at) stands) (subst (λ z. traces z steps x y old) (sym at) t))
+
 -- ---- one more line
 
 module _ (size : Size) (ls : List Line) (n : ℕ) (l : Line) (c : Held) (text : List ℕ) (next : IsNext ls n l) (h : HasReached size ls (own_place ls n) c text) where
@@ -225,6 +241,19 @@ module _ (size : Size) (ls : List Line) (n : ℕ) (l : Line) (c : Held) (text : 
     cause = subst (λ (m : Line). Interrupts (refusal size (take i ls) (line_at ls i)) m.verb why) next.here (subst (λ o. Interrupts o l.verb why) (sym refusal_is) cause);
   }
 
+  steps_next : (w : ℕ → ℕ → List Command) → ListsOf ls w → steps_of (take i ls) ++ taken_steps w l.verb ≡ steps_of (take (own_place ls (n + 1)) ls)
+  steps_next w right =
+      ap (λ ss. steps_of (take i ls) ++ ss) (taken_are w (take i ls) l.verb (executed_list ls n l next w right) ∙ ap (λ a. actor_steps (take i ls) a l.verb) (sym next.own))
+      ∙ sym (steps_of-push (take i ls) l)
+      ∙ ap (λ m. steps_of (take i ls ++ m ∷ [])) next.here
+      ∙ ap steps_of (sym (take_more ls i a_line next.below))
+      ∙ (next.on size).steps
+
+  -- what is traced beside the context
+  pub traced_next : {C : Type 0} (traces : Size → List Step → ℕ → ℕ → C → Type 0) (w : ℕ → ℕ → List Command) (x y : ℕ) (old new : C) → ListsOf ls w → TracesOn traces c (taken_steps w l.verb) old new → traces size (steps_of (take i ls)) x y old → traces size (steps_of (take (own_place ls (n + 1)) ls)) x y new
+  traced_next traces w x y old new right on t =
+      subst (λ ss. traces size ss x y new) (steps_next w right) (traced_on size (steps_of (take i ls)) c h.played.size_is h.played.stands traces (taken_steps w l.verb) x y old new on t)
+
 -- ---- before the first line, and behind the last
 
 pub none_reached : (ls : List Line) (c : Held) (text : List ℕ) → AreLines [] ls → IsNew c.surface.size (context_of c) → text ≡ [] → HasReached c.surface.size ls (own_place ls 0) c text
@@ -247,3 +276,14 @@ last_interrupted size ls c text why e h cause is = record {
 
 pub more_inside : (i n : ℕ) → i < n → i + 1 ≤ n
 more_inside i n p = omega (arith, p)
+
+-- what is traced beside a new context, before its first line
+pub none_traced : (size : Size) (ls : List Line) → AreLines [] ls → {C : Type 0} (traces : Size → List Step → ℕ → ℕ → C → Type 0) (x y : ℕ) (c : C) → traces size [] x y c → traces size (steps_of (take (own_place ls 0) ls)) x y c
+none_traced size ls sound traces x y c t =
+    subst (λ ss. traces size ss x y c) (passed size ls sound 0 _ (first ls 4 ls 0 refl (omega arith))).steps t
+
+-- and behind the last run
+pub last_traced : (size : Size) (ls : List Line) (n : ℕ) (c : Held) (text : List ℕ) → n ≡ length ls → HasReached size ls n c text → {C : Type 0} (traces : Size → List Step → ℕ → ℕ → C → Type 0) (x y : ℕ) (old new : C) → TracesOn traces c (Flushes ∷ []) old new → traces size (steps_of (take n ls)) x y old → traces size (steps_of ls ++ Flushes ∷ []) x y new
+last_traced size ls n c text end h traces x y old new on t =
+    subst (λ l. traces size (steps_of l ++ Flushes ∷ []) x y new) (ap (λ m. take m ls) end ∙ take_all (length ls) ls (omega arith))
+    (traced_on size (steps_of (take n ls)) c h.played.size_is h.played.stands traces (Flushes ∷ []) x y old new on t)

@@ -1,3 +1,4 @@
+pub mod Histories
 pub mod Lists
 pub mod Answers
 pub mod Taking

@@ -1,6 +1,6 @@
 //! How a scene ends: at the least refused line, or drawn.
 
-ghost use Rattle.std.specs.Prelude.{true, ◌≡◌, ◌+◌, List, [], length, map, if◌then◌else◌};
+ghost use Rattle.std.specs.Prelude.{true, ◌≡◌, ◌+◌, List, [], length, map, None, IfOk, if◌then◌else◌};
 ghost use Rattle.gfxspec.specs.declared.geometry.Size.{Size};
 ghost use Rattle.gfxspec.specs.Limits.{is_size};
 ghost use Rattle.scenetext.specs.Seen.{verb_value, line_value};
@@ -90,7 +90,8 @@ pub(crate) fn end<A: Allocator + Copy>(
     requires scene { IsScene (scene_value scene.now) }
     requires recorded { AreRecorded scene.now.lines deferred (missing_in played.interruption) }
     requires played { HasPlayed scene.now.size scene.now.lines played }
-    ensures { Draws (scene_value scene.now) (output_by result.answers.items result.end) }
+    ensures draws { Draws (scene_value scene.now) (output_by result.answers.items result.end) }
+    ensures finished { IfOk result.end (λ _. played.interruption ≡ None) }
 {
     let Played {
         context,

@@ -13,8 +13,12 @@ mod outcome;
 mod perform;
 mod play;
 mod run;
+mod telling;
 mod threads;
+mod traced;
+mod tracing;
 
 pub use bytes::{session, session_alone};
 pub use law::calls_leave_what_their_script_leaves;
 pub use outcome::{Ended, SessionFault};
+pub use telling::{NoHistory, history};

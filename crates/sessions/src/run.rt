@@ -34,20 +34,26 @@ pub(crate) trait RecordsCalls {
     ghost use Rattle.command.specs.Seen.{command_value};
     ghost use Rattle.cmdlist.specs.Calls.{RecordsCall};
     ghost use Rattle.immediate.specs.Held.{Held, IsExamined, held_more};
-    ghost use Rattle.std.specs.Prelude.{◌≡◌, [], OnOk, IfErr};
+    ghost use Rattle.std.specs.Prelude.{◌≡◌, ℕ, List, [], ◌∷◌, OnOk, IfErr};
+    ghost use Rattle.gfxspec.specs.declared.geometry.Size.{Size};
     ghost use Rattle.gfxspec.specs.Refusals.{first_row};
+    ghost use Rattle.gfxspec.specs.Session.{Step, Records};
     ghost use Rattle.recorders.specs.Apart.{Cause};
-    ghost use Rattle.sessions.specs.Taking.{held_rows, verb_asked, IsInside, stored_answer};
+    ghost use Rattle.sessions.specs.Taking.{held_rows, verb_asked, IsInside, stored_answer, TracesOn};
 
     /// Where commands have their memory from.
     type Alloc: Allocator;
 
     ghost held: { Self → Held };
 
+    /// What is kept beside it of a pixel of a target of this size, behind these steps.
+    ghost traces: { Size → List Step → ℕ → ℕ → Self → Type 0 };
+
     /// Records a command.
     fn record_command(&mut self, command: &Command<Self::Alloc>) -> Result<(), GfxError>
         ensures taken { RecordsCall (λ (h : Held). h.pending) held_more (held self.old) (command_value command.now) (held self.new) result }
-        ensures cause { IfErr result (Cause (first_row (held_rows (held self.old) (Call (command_value command.now))))) };
+        ensures cause { IfErr result (Cause (first_row (held_rows (held self.old) (Call (command_value command.now))))) }
+        ensures traced { OnOk result (TracesOn traces (held self.old) (Records (command_value command.now) ∷ []) self.old self.new) };
 
     /// Whether a question is refused before anything runs for it.
     fn examine(&self, question: Question) -> Result<(), GfxError>
@@ -65,6 +71,8 @@ impl<A: Allocator + Copy + Send> RecordsCalls for ImmediateContext<A> {
     type Alloc = A;
 
     ghost held = { λ context. context };
+
+    ghost traces = { λ size steps x y context. Unit {0} };
 
     fn record_command(&mut self, command: &Command<A>) -> Result<(), GfxError> {
         self.record(command)

@@ -74,7 +74,7 @@ pub(crate) fn perform_in_threads<
 {
     let (scene, immediate) = match begin(alloc, text) {
         Ok(begun) => begun,
-        Err(stopped) => return stopped,
+        Err((line, number)) => return stopped(alloc, line, number),
     };
     let Ok(lines) = deal(alloc, scene.lines.as_slice()) else {
         return stopped(alloc, 0, 1);

@@ -5,7 +5,7 @@ use Rattle.scenetext.specs.SeenScene.{scene_value}
 use Rattle.recorders.specs.Ending.{earlier_of}
 use Rattle.sessions.specs.Answers.{answers_behind}
 use Rattle.sessions.specs.Writing.{stopped_output, Draws}
-use Rattle.sessions.proofs.Endings.{stop_is, no_stop, stopped_draws, drawn}
+use Rattle.sessions.proofs.Endings.{stop_is, no_stop, no_interruption, stopped_draws, drawn}
 use Rattle.sessions.proofs.ending.end.Goals as goal
 
 pub slice_bounds-before-end : goal.slice_bounds-before-end
@@ -17,8 +17,8 @@ slice_bounds-before-end g c =
     let few : c.in-Some.stop.place ≤ length c.as_slice.result.now = omega (arith, below, count) in
     sym (length-take-le c.in-Some.stop.place c.as_slice.result.now few)
 
-pub returns-in-Some : goal.returns-in-Some
-returns-in-Some g c =
+pub returns-in-Some-clause-draws : goal.returns-in-Some-clause-draws
+returns-in-Some-clause-draws g c =
     let scene = scene_value c.args.scene.now in
     let p = c.args.played in
     let stop = c.in-Some.stop in
@@ -34,8 +34,12 @@ returns-in-Some g c =
     subst (λ k. Draws scene (stopped_output bytes k c.number.result)) (sym (c.line_behind-line.ensures ∙ ap (λ n. n + 2) (length-take-le stop.place c.as_slice.result.now few)))
     (subst (λ n. Draws scene (stopped_output bytes (stop.place + 2) n)) (sym c.number.ensures) draws)
 
-pub returns-in-None : goal.returns-in-None
-returns-in-None g c =
+pub returns-in-None-clause-draws : goal.returns-in-None-clause-draws
+returns-in-None-clause-draws g c =
     let p = c.args.played in
     drawn (scene_value c.args.scene.now) c.requires.sized c.requires.scene.1 p.context p.answers.items
     (no_stop (scene_value c.args.scene.now) c.requires.sized c.requires.scene.1 c.args.deferred p c.requires.recorded c.requires.played (c.in-None.ensures ∙ ap (earlier_of c.args.deferred) c.refused_line.ensures))
+
+pub returns-in-None-clause-finished : goal.returns-in-None-clause-finished
+returns-in-None-clause-finished g c =
+    no_interruption (scene_value c.args.scene.now) c.requires.sized c.requires.scene.1 c.args.deferred c.args.played c.requires.recorded c.requires.played (c.in-None.ensures ∙ ap (earlier_of c.args.deferred) c.refused_line.ensures)

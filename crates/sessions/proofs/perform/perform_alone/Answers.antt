@@ -8,8 +8,11 @@ use Rattle.sessions.specs.Playing.{HasPlayed, missing_in}
 use Rattle.sessions.specs.Writing.{Writes, drawing, gathering}
 use Rattle.sessions.proofs.perform.perform_alone.Goals as goal
 
+pub returns-in-Err : goal.returns-in-Err
+returns-in-Err g c = subst (Writes c.args.text.items) (sym c.stopped.ensures) c.in-Err.ensures.stopped
+
 pub returns-in_default : goal.returns-in_default
-returns-in_default g c = subst (Writes c.args.text.items) (sym c.stopped.ensures) gathering
+returns-in_default g c = subst (Writes c.args.text.items) (sym c.stopped-in_default.ensures) gathering
 
 pub play_alone-played-requires-clause-may : goal.play_alone-played-requires-clause-may
 play_alone-played-requires-clause-may g c κs within = record {
@@ -31,4 +34,4 @@ end-requires-clause-played g c =
     (subst (λ s. HasPlayed s c.in-Ok-deal.lines p) c.in-Ok.ensures.begun.size_is (c.play_alone-played.ensures.played tt))
 
 pub returns : goal.returns
-returns g c = drawing (scene_value c.in-Ok.begun.0) _ c.in-Ok.ensures.begun.spells c.end.ensures
+returns g c = drawing (scene_value c.in-Ok.begun.0) _ c.in-Ok.ensures.begun.spells c.end.ensures.draws

@@ -2,7 +2,7 @@ use Rattle.std.proofs.Common.{rules, ◌≤◌, ◌<◌, ◌∙◌, ap, sym, sub
 use Rattle.sessions.specs.Playing.{own_count, HasReached, IsInterrupted}
 use Rattle.std.proofs.lemmas.List.{get_or_past}
 use Rattle.recorders.specs.Dealing.{places_of}
-use Rattle.sessions.proofs.Steps.{more_inside, next_line, reached_next, interrupted, last_interrupted, none_reached}
+use Rattle.sessions.proofs.Steps.{more_inside, next_line, reached_next, interrupted, last_interrupted, none_reached, none_traced, traced_next}
 use Rattle.sessions.proofs.play.play.Goals as goal
 
 pub loop-next-init : goal.loop-next-init
@@ -12,6 +12,7 @@ loop-next-init g c = record {
   right = refl;
   agrees = λ ok. ok;
   reached = λ ok. none_reached c.args.lines.now (g.C.RecordsCalls.held c.args.immediate) c.new-answers.result.items c.requires.may.sound c.requires.may.start (search rules);
+  traced = λ x y t ok. none_traced (g.C.RecordsCalls.held c.args.immediate).surface.size c.args.lines.now c.requires.may.sound g.C.RecordsCalls.traces x y c.args.immediate t;
 }
 
 pub take_verb-requires-clause-verb : goal.take_verb-requires-clause-verb
@@ -43,6 +44,8 @@ loop-next-preserved g c =
       agrees = λ ok. held.agrees (taken.ensures.agrees ok);
       reached = λ ok.
           reached_next size _ _ _ (g.C.RecordsCalls.held c.loop-next.context) _ next (held.reached (taken.ensures.agrees ok)) (g.S.ListSource.right taken.new.lists) (g.C.RecordsCalls.held taken.new.context) _ (λ k n. ap (λ f. f k n) right ∙ c.requires.may.lists k n) c.in_default.ensures.accepted (c.in_default.ensures.taken ok) c.in_default.ensures.told;
+      traced = λ x y t ok.
+          traced_next size _ _ _ (g.C.RecordsCalls.held c.loop-next.context) c.loop-next.answers.items next (held.reached (taken.ensures.agrees ok)) g.C.RecordsCalls.traces (g.S.ListSource.right taken.new.lists) x y c.loop-next.context taken.new.context (λ k n. ap (λ f. f k n) right ∙ c.requires.may.lists k n) (c.in_default.ensures.traced ok) (held.traced x y t (taken.ensures.agrees ok));
     }
 
 pub returns-in-Err-run-clause-played : goal.returns-in-Err-run-clause-played

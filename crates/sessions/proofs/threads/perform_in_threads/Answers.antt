@@ -6,8 +6,11 @@ use Rattle.sessions.specs.Playing.{HasPlayed, missing_in}
 use Rattle.sessions.specs.Writing.{Writes, drawing, gathering}
 use Rattle.sessions.proofs.threads.perform_in_threads.Goals as goal
 
+pub returns-in-Err : goal.returns-in-Err
+returns-in-Err g c = subst (Writes c.args.text.items) (sym c.stopped.ensures) c.in-Err.ensures.stopped
+
 pub returns-in_default : goal.returns-in_default
-returns-in_default g c = subst (Writes c.args.text.items) (sym c.stopped.ensures) gathering
+returns-in_default g c = subst (Writes c.args.text.items) (sym c.stopped-in_default.ensures) gathering
 
 pub returns-in_default-open_ports : goal.returns-in_default-open_ports
 returns-in_default-open_ports g c = subst (Writes c.args.text.items) (sym c.stopped-in_default-open_ports.ensures) gathering
@@ -33,4 +36,4 @@ end-requires-clause-played g c =
     (subst (λ s. HasPlayed s c.in-Ok-deal.lines p) c.in-Ok.ensures.begun.size_is (round.ensures.played (c.settle-deferred.ensures.agrees _ round.ensures.results)))
 
 pub returns : goal.returns
-returns g c = drawing (scene_value c.in-Ok.begun.0) _ c.in-Ok.ensures.begun.spells c.end.ensures
+returns g c = drawing (scene_value c.in-Ok.begun.0) _ c.in-Ok.ensures.begun.spells c.end.ensures.draws

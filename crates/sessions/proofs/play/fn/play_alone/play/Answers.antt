@@ -1,5 +1,5 @@
 use Rattle.std.proofs.Common.{sym, subst, true, []}
-use Rattle.immediate.specs.Held.{Ran, Stays}
+use Rattle.immediate.specs.Held.{Ran}
 use Rattle.sessions.specs.declared.run.Running.{Running}
 use Rattle.sessions.specs.Taking.{RanBy, run_rows, HasRun}
 use Rattle.sessions.proofs.Ran.{run_is, enqueue_is, settle_is, list_taken}

@@ -1,0 +1,130 @@
+//! The history of a pixel over a script: which items of it touched the pixel, what each found and left there, and which tests
+//! it passed.
+
+ghost use Rattle.std.specs.Prelude.{◌≡◌, ◌&&◌, ℕ, List, [], true, not, nat_lt, IfOk, IfErr};
+ghost use Rattle.gfxspec.specs.declared.geometry.Size.{Size};
+ghost use Rattle.gfxspec.specs.Limits.{is_size};
+ghost use Rattle.meaning.specs.Standing.{IsNew};
+ghost use Rattle.pixelevents.specs.Sessions.{session_history};
+ghost use Rattle.scenetext.specs.SeenScene.{scene_value};
+ghost use Rattle.scenetext.specs.Scene.{Line};
+ghost use Rattle.scenetext.specs.Spelling.{IsScene, Spells};
+ghost use Rattle.immediate.specs.Held.{context_of};
+ghost use Rattle.sessions.specs.declared.outcome.Ended.TheVariants.{Done};
+ghost use Rattle.sessions.specs.Lists.{steps_of};
+ghost use Rattle.sessions.specs.Answers.{answers};
+ghost use Rattle.sessions.specs.Writing.{end_of};
+ghost use Rattle.sessions.specs.Playing.{HasPlayedBy, HasPlayed};
+ghost use Rattle.sessions.specs.Histories.{held_by, traces_beside, IsHistory, MayRefuse, Prevents};
+
+use crate::ending::end;
+use crate::perform::begin_from;
+use crate::play::{Played, play_traced};
+use crate::traced::TracedContext;
+use gfxspec::Size;
+use immediate::ImmediateContext;
+use pixelevents::Event;
+use pixelhistory::Trace;
+use recorders::{deal, record_alone};
+use scenetext::Scene;
+use std::alloc::Allocator;
+use thiserror::Error;
+
+/// Why there is no history of a pixel.
+#[derive(Clone, Copy, Debug, PartialEq, Eq, Error)]
+pub enum NoHistory {
+    /// A line of the script is refused or has a fault, as a session answers it: the line, counted from 1, and the number. Line
+    /// 0 stands for memory that was refused before the first line.
+    #[error("line {line} is refused for reason {number}")]
+    Refused { line: u64, number: u32 },
+    /// The target has no such pixel.
+    #[error("the pixel lies outside of the target")]
+    PixelRange,
+}
+
+/// Whether a target has no pixel at a place.
+fn lacks_pixel(size: Size, x: u32, y: u32) -> bool
+    ensures { result ≡ not (nat_lt x size.width && nat_lt y size.height) }
+{
+    !(x < size.width && y < size.height)
+}
+
+/// What was played, and the trace beside its context.
+fn apart<A: Allocator>(
+    traced: Played<TracedContext<A>, A>,
+) -> (Played<ImmediateContext<A>, A>, Trace<A>)
+    ensures played { (size : Size) (ls : List Line) → HasPlayedBy held_by size ls traced → HasPlayed size ls result.0 }
+    ensures interruption { result.0.interruption ≡ traced.interruption }
+    ensures trace { result.1 ≡ traced.context.trace }
+{
+    let Played {
+        context,
+        answers,
+        interruption,
+    } = traced;
+    let TracedContext {
+        context,
+        trace,
+        x: _,
+        y: _,
+    } = context;
+    let played = Played {
+        context,
+        answers,
+        interruption,
+    };
+    (played, trace)
+}
+
+/// The history of a pixel over a scene, by an immediate context that has taken none of its lines; or the refused line, counted
+/// from 1, and its number.
+fn trace_scene<A: Allocator + Copy + Send>(
+    alloc: A,
+    scene: &Scene<A>,
+    traced: TracedContext<A>,
+) -> Result<Vec<Event, A>, (u64, u32)>
+    requires sized { is_size scene.now.size ≡ true }
+    requires scene { IsScene (scene_value scene.now) }
+    requires size { traced.context.surface.size ≡ scene.now.size }
+    requires new { IsNew traced.context.surface.size (context_of traced.context) }
+    ensures history { (x y : ℕ) → traces_beside scene.now.size [] x y traced → IfOk result (λ events. (end_of (answers (scene_value scene.now)) ≡ Done) × (events.items ≡ session_history scene.now.size (steps_of scene.now.lines) x y)) }
+    ensures refused { (text : List ℕ) → Spells text (scene_value scene.now) → IfErr result (λ at. MayRefuse text at.0 at.1) }
+{
+    let Ok(lines) = deal(alloc, scene.lines.as_slice()) else {
+        return Err((0, 1)); // memory was refused before the first line
+    };
+    let mut recorded = record_alone(alloc, &lines);
+    let traced = play_traced(alloc, traced, &mut recorded, &lines);
+    let (played, trace) = apart(traced);
+    let performance = end(scene, recorded.first_refused(), played);
+    match performance.end {
+        Ok(_) => Ok(trace.events),
+        Err(refused) => Err(refused),
+    }
+}
+
+/// The history of a pixel over a script: of the items that its immediate context draws and clears, numbered from 0 in the order in
+/// which they run, those that touch the pixel. The script is taken line by line as `session_alone` takes it, and ends as it
+/// does where a line is refused.
+pub fn history<A: Allocator + Copy + Send>(
+    alloc: A,
+    script: &[u8],
+    x: u32,
+    y: u32,
+) -> Result<Vec<Event, A>, NoHistory>
+    ensures history { IfOk result (λ events. IsHistory script.now x y events.items) }
+    ensures refused { IfErr result (λ why. Prevents script.now x y why) }
+{
+    let (scene, context) = match begin_from(alloc, script) {
+        Ok(begun) => begun,
+        Err((line, number)) => return Err(NoHistory::Refused { line, number }),
+    };
+    if lacks_pixel(scene.size, x, y) {
+        return Err(NoHistory::PixelRange);
+    }
+    let traced = TracedContext::new(alloc, context, x, y);
+    match trace_scene(alloc, &scene, traced) {
+        Ok(events) => Ok(events),
+        Err((line, number)) => Err(NoHistory::Refused { line, number }),
+    }
+}
