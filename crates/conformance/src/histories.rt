@@ -1,5 +1,5 @@
-//! The history of a pixel over a script: a worked one, by the calls of the immediate context and by a list that it executes, and why
-//! there is none.
+//! The history of a pixel over a script: a worked one, by calls of the immediate context and by a list that it executes,
+//! and why there is none.
 
 use pixelevents::Event;
 use refusing::Refusing;
@@ -26,12 +26,12 @@ const SCRIPT: &str = concat!(
     "i pixel 1 1\n",
 );
 
-/// What is told of an event: its item, whether the stencil and the depth test passed, and the red, the depth and the stencil that it
-/// left.
+/// What is told of an event: its item, whether the stencil and the depth test passed, and the red, the depth and the
+/// stencil that it left.
 type Told = (u64, bool, bool, u8, u32, u8);
 
-/// The six events, worked by hand: the fourth triangle has depth 50 at (0, 0), 10 more in 8 pixels to the right and 20 more in 8
-/// downwards, so 55.625 at (1.5, 1.5).
+/// The six events, worked by hand: the fourth triangle has depth 50 at (0, 0), 10 more in 8 pixels to the right and 20 more
+/// in 8 downwards, so 55.625 at (1.5, 1.5).
 const EVENTS: [Told; 6] = [
     (0, true, true, 1, 16_777_215, 0),
     (1, true, true, 10, 100, 0),
@@ -71,9 +71,9 @@ fn why_there_is_none(rt: HostRuntime) {
     let rows = [
         ("target 8 8\n", 8, 0, NoHistory::PixelRange),
         ("target 8 8\n", 0, 8, NoHistory::PixelRange),
-        ("target 0 8\n", 0, 0, refused(1, 4)),
-        ("target 8 8\ni flush 1\n", 0, 0, refused(2, 104)),
-        ("target 8 8\ni flush\ni draw 3 0\n", 0, 0, refused(3, 12)),
+        ("target 0 8\n", 0, 0, refused(1, 2)),
+        ("target 8 8\ni flush 1\n", 0, 0, refused(2, 105)),
+        ("target 8 8\ni flush\ni pixel 8 0\n", 0, 0, refused(3, 15)),
         ("target 8 8\ni begin 0\n", 0, 0, refused(3, 9)),
     ];
     for (script, x, y, why) in rows {
