@@ -47,7 +47,7 @@ calls() (
     . python/environment.sh
     python=$cache/environment/bin/python
     [ -x "$python" ] || { echo "skipped calls: the environment of the package's tests isn't kept" && return; }
-    YUZURATCHET_LIBRARY=$room/prefix/lib/libyuzuratchet.so "$python" -B tools/compare_calls.py 1000
+    YUZURATCHET_LIBRARY=$room/prefix/lib/libyuzuratchet.so "$python" -B tools/compare_calls.py 400
 )
 
 # get_for_release PACKAGE ..: what a release is built and tested by, from Debian's packages
