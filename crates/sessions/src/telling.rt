@@ -1,5 +1,5 @@
-//! The history of a pixel over a script: which items of it touched the pixel, what each found and left there, and which tests
-//! it passed.
+//! The history of a pixel over a script: which items of it touched the pixel, what each found and left there, and
+//! which tests it passed.
 
 ghost use Rattle.std.specs.Prelude.{◌≡◌, ◌&&◌, ℕ, List, [], true, not, nat_lt, IfOk, IfErr};
 ghost use Rattle.gfxspec.specs.declared.geometry.Size.{Size};
@@ -33,8 +33,8 @@ use thiserror::Error;
 /// Why there is no history of a pixel.
 #[derive(Clone, Copy, Debug, PartialEq, Eq, Error)]
 pub enum NoHistory {
-    /// A line of the script is refused or has a fault, as a session answers it: the line, counted from 1, and the number. Line
-    /// 0 stands for memory that was refused before the first line.
+    /// A line of the script is refused or has a fault, as a session answers it: the line, counted from 1, and the
+    /// number. Line 0 stands for memory that was refused before the first line.
     #[error("line {line} is refused for reason {number}")]
     Refused { line: u64, number: u32 },
     /// The target has no such pixel.
@@ -76,8 +76,8 @@ fn apart<A: Allocator>(
     (played, trace)
 }
 
-/// The history of a pixel over a scene, by an immediate context that has taken none of its lines; or the refused line, counted
-/// from 1, and its number.
+/// The history of a pixel over a scene, by an immediate context that has taken none of its lines; or the refused
+/// line, counted from 1, and its number.
 fn trace_scene<A: Allocator + Copy + Send>(
     alloc: A,
     scene: &Scene<A>,
@@ -103,9 +103,9 @@ fn trace_scene<A: Allocator + Copy + Send>(
     }
 }
 
-/// The history of a pixel over a script: of the items that its immediate context draws and clears, numbered from 0 in the order in
-/// which they run, those that touch the pixel. The script is taken line by line as `session_alone` takes it, and ends as it
-/// does where a line is refused.
+/// The history of a pixel over a script: of the items that its immediate context draws and clears, numbered from 0 in
+/// the order in which they run, those that touch the pixel. The script is taken line by line as `session_alone` takes
+/// it, and ends as it does where a line is refused.
 pub fn history<A: Allocator + Copy + Send>(
     alloc: A,
     script: &[u8],

@@ -1,6 +1,7 @@
 //! The calls of an immediate context with the trace of a pixel beside it.
 //!
-//! The trace goes past each list before it runs, so it has the items of a whole session, though the context stores none.
+//! The trace goes past each list before it runs, so it has the items of a whole session, though the context stores
+//! none.
 
 ghost use Rattle.std.specs.Prelude.{◌≡◌, ◌<◌, ◌∷◌, [], true, OnOk};
 ghost use Rattle.gfxspec.specs.declared.geometry.Size.{Size};
