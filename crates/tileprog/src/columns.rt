@@ -10,7 +10,7 @@ use crate::brush::Brush;
 use crate::brushes::DepthBrush;
 use crate::column::Column;
 use crate::kind::MadeTests;
-use crate::rows::{depth_row, masked_row, open_row, pixels_left};
+use crate::rows::{depth_row, open_row, pixels_left};
 use crate::stencils::stencil_column;
 use depthplane::Walks;
 use edges::EdgeWalk;
@@ -136,38 +136,6 @@ fn sure_depth_rows<A: Allocator, W: Walks>(
     depth_rows(block, column, edges, walk, brush)
 }
 
-/// So many rows a column has at least, for its rows to be asked whether they have pixels.
-const TALL: u32 = 24;
-
-/// The rows of a column that has few, under a brush that tests depth alone, without a branch that depends on the pixels.
-#[inline(always)]
-fn masked_rows<A: Allocator, W: Walks>(
-    block: &mut TileBlock<A>,
-    column: &Column<'_>,
-    edges: &EdgeWalk<'_>,
-    walk: &W,
-    brush: DepthBrush,
-) -> u32
-    requires column { IsColumn column.now block.old.rect }
-    requires edges { EdgesAt edges.now column.now block.old.rect column.now.clip.top }
-    requires walk { WalksAt (W.place walk.now) column.now block.old.rect column.now.clip.top }
-    ensures { ColumnDrew (stroke_in brush.brush column.now) block.old block.new column.now.x result }
-{
-    let column = *column;
-    let mut edges = edges.copied();
-    let mut walk = walk.copied();
-    let rect = block.rect();
-    let mut passed = 0u32;
-    for row in column.clip.top - rect.top..column.clip.bottom - rect.top {
-        let pixels = pixels_left(block, &column, column.mask, row, &edges);
-        let more = masked_row(block, &column, pixels, &walk, &brush);
-        passed += more;
-        edges.down();
-        walk.next();
-    }
-    passed
-}
-
 /// A column under a brush that tests depth alone; the answer is how many pixels pass. Whether all depths are sure is known to each of
 /// the loops, so that they have no call to mend one where they are.
 #[inline(always)]
@@ -184,9 +152,6 @@ fn depth_column<A: Allocator, W: Walks>(
     ensures { ColumnDrew (stroke_in brush.brush column.now) block.old block.new column.now.x result }
 {
     if walk.is_sure() {
-        if column.mask != 0 && column.clip.bottom - column.clip.top < TALL {
-            return masked_rows(block, column, edges, walk, brush);
-        }
         sure_depth_rows(block, column, edges, walk, brush)
     } else {
         depth_rows(block, column, edges, walk, brush)

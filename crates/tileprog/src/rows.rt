@@ -14,8 +14,8 @@ use crate::brushes::{DepthBrush, StencilBrush};
 use crate::column::Column;
 use crate::pixels::SpanPixels;
 use crate::spans::{
-    KnownTests, all_lanes, draw_alike, draw_depths, draw_masked, draw_open, draw_stencils,
-    keep_alike, lanes_in, operate_rows,
+    KnownTests, all_lanes, draw_alike, draw_depths, draw_open, draw_stencils, keep_alike, lanes_in,
+    operate_rows,
 };
 use depthplane::Walks;
 use edges::EdgeWalk;
@@ -105,25 +105,6 @@ pub(crate) fn depth_row<A: Allocator, W: Walks>(
     }
     let depths = walk.depths();
     let bits = draw_depths(block, pixels, &depths, brush);
-    lanes_in(bits)
-}
-
-/// Pixels of a row under a brush that tests depth alone, without a branch that depends on them; the answer is how many pass.
-#[inline(always)]
-pub(crate) fn masked_row<A: Allocator, W: Walks>(
-    block: &mut TileBlock<A>,
-    column: &Column<'_>,
-    pixels: SpanPixels,
-    walk: &W,
-    brush: &DepthBrush,
-) -> u32
-    requires column { IsColumn column.now block.old.rect }
-    requires left { AreLeft column.now block.old.rect pixels }
-    requires walk { WalksAt (W.place walk.now) column.now block.old.rect (block.old.rect.top + pixels.row) }
-    ensures { RowDrew (stroke_in brush.now.brush column.now) block.old block.new column.now.x (block.old.rect.top + pixels.row) result }
-{
-    let depths = walk.depths();
-    let bits = draw_masked(block, pixels, &depths, brush);
     lanes_in(bits)
 }
 

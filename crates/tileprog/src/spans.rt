@@ -229,68 +229,6 @@ pub(crate) fn draw_depths<A: Allocator>(
     bits
 }
 
-/// Writes the colours of these pixels, whichever they are, without a branch.
-#[inline(always)]
-fn paint_masked<A: Allocator>(block: &mut TileBlock<A>, pixels: SpanPixels, brush: &Brush)
-    ensures { SpanStored block.old block.new pixels.span pixels.row (painted_lane brush.now pixels.bits) }
-{
-    let SpanPixels { span, row, bits } = pixels;
-    let old = block.color_span(span, row);
-    let new = write8(brush.write, &old);
-    block.set_color_lanes(span, row, bits, new);
-}
-
-/// Stores depths at these pixels, whichever they are, if depths are to be stored.
-#[inline(always)]
-fn keep_masked<A: Allocator>(
-    block: &mut TileBlock<A>,
-    pixels: SpanPixels,
-    new: &[u32; 8],
-    write: bool,
-)
-    ensures { SpanStored block.old block.new pixels.span pixels.row (kept_lane write pixels.bits new.now) }
-{
-    if write {
-        block.set_depth_lanes(pixels.span, pixels.row, pixels.bits, *new);
-    }
-}
-
-/// Stores the depths, if they are to be stored, and the colours of the pixels that pass, whichever they are.
-#[inline(always)]
-fn pass_masked<A: Allocator>(
-    block: &mut TileBlock<A>,
-    passed: SpanPixels,
-    new: &[u32; 8],
-    brush: &DepthBrush,
-)
-    ensures { SpanStored block.old block.new passed.span passed.row (λ j p. painted_lane brush.now.brush passed.bits j (kept_lane brush.now.write passed.bits new.now j p)) }
-{
-    keep_masked(block, passed, new, brush.write);
-    paint_masked(block, passed, &brush.brush);
-}
-
-/// What `draw_depths` does, with no branch that depends on the pixels: where each row has few, a wrong guess costs more than
-/// all that it would spare.
-#[inline(always)]
-pub(crate) fn draw_masked<A: Allocator>(
-    block: &mut TileBlock<A>,
-    pixels: SpanPixels,
-    new: &[u32; 8],
-    brush: &DepthBrush,
-) -> u8
-    ensures block { SpanStored block.old block.new pixels.span pixels.row (drawn_lane brush.now.brush pixels.bits new.now) }
-    ensures bits { ArePassed brush.now.brush block.old pixels.span pixels.row pixels.bits new.now result }
-{
-    let bits = passed_depths(block, pixels, new, brush);
-    let passed = SpanPixels {
-        span: pixels.span,
-        row: pixels.row,
-        bits,
-    };
-    pass_masked(block, passed, new, brush);
-    bits
-}
-
 /// Draws these pixels under a brush with a stencil test; the answer has a bit for each that passes.
 #[inline(always)]
 pub(crate) fn draw_stencils<A: Allocator>(
