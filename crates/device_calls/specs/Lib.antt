@@ -1,3 +1,4 @@
 pub mod Descriptions
 pub mod Answers
 pub mod Rows
+pub mod Playing

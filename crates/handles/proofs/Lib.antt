@@ -1,3 +1,4 @@
 mod DeviceSteps
 mod ContextSteps
 mod ListSteps
+mod PlayerSteps

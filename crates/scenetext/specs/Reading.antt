@@ -162,6 +162,12 @@ abbrev pub RefusesNext : List ℕ → List ℕ → ReadError → Type 0
 RefusesNext finished text errors.Memory = Unit {0}
 RefusesNext finished text (errors.Fault f) = (e : TextLine) (es : List TextLine) → Counts (e ∷ es) finished → first_fault (e ∷ es) (lines_of text) ≡ Some (length (e ∷ es) + 1, f)
 
+-- the number for which the line at the front of a text that follows other lines is refused
+pub record IsFaulty (finished text : List ℕ) (number : ℕ) : Type 0 where
+  pub error : ReadError
+  pub refuses : RefusesNext finished text error
+  pub numbered : number ≡ number_of_error error
+
 -- why a text could not be read: its fault, or want of memory in a line that was reached
 abbrev pub Refused : List ℕ → ℕ × ℕ → Type 0
 Refused text e = HasFault text e.0 e.1 ⊎ ((e.1 ≡ 1) × (1 ≤ e.0) × (e.0 ≤ last_read text))

@@ -21,5 +21,5 @@ mod verbs;
 mod words;
 
 pub use law::one_reading;
-pub use reader::read;
+pub use reader::{read, read_line};
 pub use scene::{Actor, Line, Lines, Scene, Verb};

@@ -4,7 +4,7 @@ ghost use Rattle.std.specs.Prelude.{◌≡◌, ◌≢◌, ◌<◌, ℕ, length, 
 ghost use Rattle.scenetext.specs.Seen.{actor_value, line_value};
 ghost use Rattle.scenetext.specs.SeenScene.{scene_value};
 ghost use Rattle.scenetext.specs.Spelling.{Spells, IsActor};
-ghost use Rattle.scenetext.specs.Reading.{number_of_error, counted_by, HasRoom, ReadsFirst, RefusesText, ReadsNext, RefusesNext, Refused};
+ghost use Rattle.scenetext.specs.Reading.{number_of_error, counted_by, HasRoom, ReadsFirst, RefusesText, ReadsNext, RefusesNext, IsFaulty, Refused};
 
 use crate::fault::{Fault, ReadError};
 use crate::lines::{line_of, size_of};
@@ -61,6 +61,23 @@ fn next_of<'a, A: Allocator + Copy>(
     Ok((line, rest))
 }
 
+/// The line at the front of a text, where earlier lines have each context finish so many lists, and the text behind it; or
+/// the number of its fault. Number 1 is want of memory. Line by line this reads what `read` does.
+pub fn read_line<'a, A: Allocator + Copy>(
+    alloc: A,
+    finished: &[u64; 8],
+    text: &'a [u8],
+) -> Result<(Line<A>, &'a [u8]), u32>
+    requires { 0 < length text.now }
+    ensures ok { IfOk result (λ next. ReadsNext finished.now text.now (line_value next.0) next.1.now) }
+    ensures err { IfErr result (IsFaulty finished.now text.now) }
+{
+    match next_of(alloc, finished, text) {
+        Ok(next) => Ok(next),
+        Err(error) => Err(number_of(&error)),
+    }
+}
+
 /// The scene that a text spells, or a line and the number of its fault. Number 1 is want of memory; the first line takes
 /// none.
 pub fn read<A: Allocator + Copy>(alloc: A, text: &[u8]) -> Result<Scene<A>, (u64, u32)>
@@ -79,9 +96,9 @@ pub fn read<A: Allocator + Copy>(alloc: A, text: &[u8]) -> Result<Scene<A>, (u64
     let mut finished = [0; 8];
     while !rest.is_empty() {
         let number = lines.len() as u64 + 2;
-        let (line, more) = match next_of(alloc, &finished, rest) {
+        let (line, more) = match read_line(alloc, &finished, rest) {
             Ok(next) => next,
-            Err(error) => return Err((number, number_of(&error))),
+            Err(fault) => return Err((number, fault)),
         };
         count_finish(&mut finished, &line);
         if lines.push(line).is_err() {

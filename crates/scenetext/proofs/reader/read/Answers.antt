@@ -20,12 +20,12 @@ loop-rest-init g c =
     let P : List Line → Type 0 = λ ls. SoFar c.args.text.now c.in-Ok.first.0 ls (replicate 8 0) c.in-Ok.first.1.now in
     subst P none (starts c.args.text.now c.in-Ok.first.1.now c.in-Ok.first.0 c.in-Ok.ensures.ok)
 
-pub returns-in-Err-next_of-clause-refused : goal.returns-in-Err-next_of-clause-refused
-returns-in-Err-next_of-clause-refused g c =
+pub returns-in-Err-read_line-clause-refused : goal.returns-in-Err-read_line-clause-refused
+returns-in-Err-read_line-clause-refused g c =
     let some : 0 < length c.loop-rest.rest.now = grind (arith, nat_tests) in
     let ls = map line_value c.loop-rest.lines.items in
     let count : c.len.result ≡ length ls = c.len.ensures ∙ c.loop-rest.lines.ok.0 ∙ sym (length-map c.loop-rest.lines.items line_value) in
-    rw (count, c.number_of-in-Err-next_of.ensures) (fails c.args.text.now c.in-Ok.first.0 ls c.loop-rest.finished c.loop-rest.rest.now c.in-Err-next_of.error c.loop-rest.invariant some c.in-Err-next_of.ensures.err)
+    rw (count, c.in-Err-read_line.ensures.err.numbered) (fails c.args.text.now c.in-Ok.first.0 ls c.loop-rest.finished c.loop-rest.rest.now c.in-Err-read_line.ensures.err.error c.loop-rest.invariant some c.in-Err-read_line.ensures.err.refuses)
 
 pub returns-then-is_err-clause-refused : goal.returns-then-is_err-clause-refused
 returns-then-is_err-clause-refused g c =
@@ -37,10 +37,10 @@ returns-then-is_err-clause-refused g c =
 pub loop-rest-preserved : goal.loop-rest-preserved
 loop-rest-preserved g c =
     let ls = map line_value c.loop-rest.lines.items in
-    let line = line_value c.in-Ok-next_of.next.0 in
-    let next = goes_on c.args.text.now c.in-Ok.first.0 ls c.loop-rest.finished c.in-Ok-next_of.next.1.now c.loop-rest.rest.now line c.loop-rest.invariant c.in-Ok-next_of.ensures.ok in
-    let seen = seen_more c.loop-rest.lines.items c.push.new.self.items c.in-Ok-next_of.next.0 _ _ c.push.ensures.items c.is_err.ensures.negation c.if-is_err.false in
-    let P : List Line → List ℕ → Type 0 = λ xs finished. SoFar c.args.text.now c.in-Ok.first.0 xs finished c.in-Ok-next_of.next.1.now in
+    let line = line_value c.in-Ok-read_line.next.0 in
+    let next = goes_on c.args.text.now c.in-Ok.first.0 ls c.loop-rest.finished c.in-Ok-read_line.next.1.now c.loop-rest.rest.now line c.loop-rest.invariant c.in-Ok-read_line.ensures.ok in
+    let seen = seen_more c.loop-rest.lines.items c.push.new.self.items c.in-Ok-read_line.next.0 _ _ c.push.ensures.items c.is_err.ensures.negation c.if-is_err.false in
+    let P : List Line → List ℕ → Type 0 = λ xs finished. SoFar c.args.text.now c.in-Ok.first.0 xs finished c.in-Ok-read_line.next.1.now in
     subst (λ xs. P xs c.count_finish.new.finished) seen (subst (P (ls ++ line ∷ [])) (sym c.count_finish.ensures) next)
 
 pub returns-clause-scene : goal.returns-clause-scene
@@ -78,17 +78,14 @@ is_empty-requires-in-loop-rest g c κs = search rules
 pub overflow_add-number : goal.overflow_add-number
 overflow_add-number g c = search rules
 
-pub next_of-requires : goal.next_of-requires
-next_of-requires g c = search rules
+pub read_line-requires : goal.read_line-requires
+read_line-requires g c = search rules
 
-pub number_of-requires-in-Err-next_of : goal.number_of-requires-in-Err-next_of
-number_of-requires-in-Err-next_of g c = search rules
+pub returns-in-Err-read_line-clause-scene : goal.returns-in-Err-read_line-clause-scene
+returns-in-Err-read_line-clause-scene g c = search rules
 
-pub returns-in-Err-next_of-clause-scene : goal.returns-in-Err-next_of-clause-scene
-returns-in-Err-next_of-clause-scene g c = search rules
-
-pub returns-in-Err-next_of-clause-first_line : goal.returns-in-Err-next_of-clause-first_line
-returns-in-Err-next_of-clause-first_line g c = search rules
+pub returns-in-Err-read_line-clause-first_line : goal.returns-in-Err-read_line-clause-first_line
+returns-in-Err-read_line-clause-first_line g c = search rules
 
 pub count_finish-requires-clause-actor : goal.count_finish-requires-clause-actor
 count_finish-requires-clause-actor g c = search rules
