@@ -5,6 +5,7 @@ use Rattle.gfxspec.specs.declared.error.GfxError.TheVariants.{OutOfMemory}
 use Rattle.gfxspec.specs.declared.pixel.Pixel.{Pixel}
 use Rattle.gfxspec.specs.Commands.{Command}
 use Rattle.gfxspec.specs.Items.{after_items}
+use Rattle.gfxspec.specs.Predication.{result_of}
 use Rattle.gfxspec.specs.Refusals.{Row, first_row, AnswersBy}
 use Rattle.tileblock.specs.Surface.{Surface, pixel_of}
 use Rattle.immediate.specs.Outputs.{Outputs, cut_over}
@@ -44,6 +45,10 @@ shown h x y = contexts.shown (context_of h) x y
 -- what a query answers, if anything: the count of its last issue among the pending commands, else the stored one
 abbrev pub answered : Held → ℕ → Option ℕ
 answered h q = contexts.answered h.surface.size (context_of h) q
+
+-- the result of each query before the pending commands
+abbrev pub result_told : Held → ℕ → Bool
+result_told h q = result_of (contexts.result_at h.results q)
 
 -- the context with one pending command more
 abbrev pub held_more : Held → Command → Held

@@ -5,7 +5,7 @@
 //! of a whole session is gathered by a trace that goes past each list before it runs. What waits was gone past when it was
 //! executed, and may run at any time.
 
-ghost use Rattle.std.specs.Prelude.{true, ◌≡◌, ◌<◌, ◌++◌, ◌∷◌, [], List, IfOk, IfErr, OnOk};
+ghost use Rattle.std.specs.Prelude.{true, if◌then◌else◌, ◌≡◌, ◌<◌, ◌++◌, ◌∷◌, [], List, IfOk, IfErr, OnOk};
 ghost use Rattle.gfxspec.specs.Limits.{side_bound};
 ghost use Rattle.gfxspec.specs.Recorded.{items, queries_open};
 ghost use Rattle.gfxspec.specs.Refusals.{AnswersBy, flush_rows, pixel_rows, pixel_rows_by, worker_rows};
@@ -15,17 +15,24 @@ ghost use Rattle.meaning.specs.Standing.{Stands};
 ghost use Rattle.pixelevents.specs.History.{history_from};
 ghost use Rattle.pixelevents.specs.Sessions.{session_history};
 ghost use Rattle.pixelhistory.specs.Standing.{Traces};
-ghost use Rattle.pixelhistory.specs.Tracing.{GoesPast};
+ghost use Rattle.pixelhistory.specs.declared.session.StepsOf.TheVariants as steps_of;
+ghost use Rattle.pixelhistory.specs.Passing.{PassesList};
 ghost use Rattle.tileblock.specs.Surface.{pixel_of};
-ghost use Rattle.immediate.specs.Outputs.{performed_over};
-ghost use Rattle.immediate.specs.Held.{context_of, outputs_of, stored, Stays, Runs, IsRefused, IsExamined};
+ghost use Rattle.immediate.specs.Held.{context_of, stored, result_told, Stays, Runs, IsRefused, IsExamined};
 
 use crate::context::ImmediateContext;
 use cmdlist::CommandList;
 use gfxspec::GfxError;
 use pixelevents::Event;
-use pixelhistory::{Trace, trace_finished, trace_recorded};
+use pixelhistory::{SessionTrace, Trace, trace_finished, trace_recorded};
 use std::alloc::{AllocError, Allocator};
+
+/// How many steps an execution is for which no kept state is pending behind it.
+fn steps_unkept(restore: bool) -> usize
+    ensures { result ≡ (if restore then 0 else 1) }
+{
+    if restore { 0 } else { 1 }
+}
 
 impl<A: Allocator + Copy> ImmediateContext<A> {
     /// Whether a pixel may be asked for. Refused with PixelRange, QueryOpen.
@@ -40,10 +47,10 @@ impl<A: Allocator + Copy> ImmediateContext<A> {
     }
 
     /// Goes past the pending commands with the trace of a pixel. It runs none.
-    fn trace_pending(&self, trace: &mut Trace<A>, x: u32, y: u32) -> Result<(), AllocError>
+    fn trace_pending(&self, trace: &mut SessionTrace<A>, x: u32, y: u32) -> Result<(), AllocError>
         requires x { x < side_bound }
         requires y { y < side_bound }
-        ensures { OnOk result (GoesPast (items (performed_pending (context_of self.now))) x y trace.old trace.new) }
+        ensures { OnOk result (PassesList (result_told self.now) self.now.pending steps_of.Each x y trace.old trace.new) }
     {
         let told = self.output.told();
         trace_recorded(trace, &self.pending, &told, x, y)
@@ -52,14 +59,14 @@ impl<A: Allocator + Copy> ImmediateContext<A> {
     /// Goes past a list with the trace of a pixel, where it is to be executed with nothing pending that draws. It runs none.
     fn trace_list(
         &self,
-        trace: &mut Trace<A>,
+        trace: &mut SessionTrace<A>,
         list: &CommandList<A>,
         x: u32,
         y: u32,
     ) -> Result<(), AllocError>
         requires x { x < side_bound }
         requires y { y < side_bound }
-        ensures { OnOk result (GoesPast (items (performed_over (outputs_of self.now) list.now)) x y trace.old trace.new) }
+        ensures { OnOk result (PassesList (result_told self.now) list.now steps_of.List x y trace.old trace.new) }
     {
         let told = self.output.told();
         trace_finished(trace, list, &told, x, y)
@@ -71,18 +78,27 @@ impl<A: Allocator + Copy> ImmediateContext<A> {
         requires small { (x < side_bound) × (y < side_bound) }
         ensures { IfOk result (λ events. events.items ≡ history_from 0 (items (performed_pending (context_of self.now))) x y (pixel_of self.now.surface x y)) }
     {
-        let mut trace = Trace {
-            pixel: self.stored_pixel(x, y),
-            items: 0,
-            events: Vec::new(self.alloc),
+        let mut trace = SessionTrace {
+            trace: Trace {
+                pixel: self.stored_pixel(x, y),
+                items: 0,
+                events: Vec::new(self.alloc),
+            },
+            origins: Vec::new(self.alloc),
+            step: 0,
         };
         self.trace_pending(&mut trace, x, y)?;
-        Ok(trace.events)
+        Ok(trace.trace.events)
     }
 
     /// The history of a pixel of the target over a whole session, by a trace that went along with its runs. It runs nothing.
     /// Refused with PixelRange, QueryOpen, OutOfMemory.
-    pub fn end_trace(&self, trace: Trace<A>, x: u32, y: u32) -> Result<Vec<Event, A>, GfxError>
+    pub fn end_trace(
+        &self,
+        trace: SessionTrace<A>,
+        x: u32,
+        y: u32,
+    ) -> Result<Vec<Event, A>, GfxError>
         ensures answer { AnswersBy (pixel_rows self.now.surface.size (queries_open self.now.pending) x y) result }
         ensures whole { (steps : List Step) → Stands self.now.surface.size steps (context_of self.now) → Traces self.now.surface.size steps x y trace
             → IfOk result (λ events. events.items ≡ session_history self.now.surface.size steps x y) }
@@ -90,7 +106,7 @@ impl<A: Allocator + Copy> ImmediateContext<A> {
         self.examine_traced(x, y)?;
         let mut trace = trace;
         self.trace_pending(&mut trace, x, y)?;
-        Ok(trace.events)
+        Ok(trace.trace.events)
     }
 }
 
@@ -110,7 +126,12 @@ impl<A: Allocator + Copy + Send> ImmediateContext<A> {
 
     /// `flush_alone` with the trace of a pixel of the target, which goes past what is pending. Where it is refused for want of
     /// memory, the trace is of no further use. Refused with QueryOpen, OutOfMemory.
-    pub fn flush_traced(&mut self, trace: &mut Trace<A>, x: u32, y: u32) -> Result<(), GfxError>
+    pub fn flush_traced(
+        &mut self,
+        trace: &mut SessionTrace<A>,
+        x: u32,
+        y: u32,
+    ) -> Result<(), GfxError>
         requires x { x < self.old.surface.size.width }
         requires y { y < self.old.surface.size.height }
         ensures traced { (steps : List Step) → Stands self.old.surface.size steps (context_of self.old) → Traces self.old.surface.size steps x y trace.old
@@ -121,6 +142,7 @@ impl<A: Allocator + Copy + Send> ImmediateContext<A> {
         self.examine_run(0)?;
         self.examine_traced(x, y)?;
         self.trace_pending(trace, x, y)?;
+        trace.go_on(self.pending.commands().len())?;
         self.flush_alone()
     }
 
@@ -130,7 +152,7 @@ impl<A: Allocator + Copy + Send> ImmediateContext<A> {
         &mut self,
         list: &CommandList<A>,
         restore: bool,
-        trace: &mut Trace<A>,
+        trace: &mut SessionTrace<A>,
         x: u32,
         y: u32,
     ) -> Result<(), GfxError>
@@ -143,6 +165,7 @@ impl<A: Allocator + Copy + Send> ImmediateContext<A> {
         let _commands = list.commands();
         self.flush_traced(trace, x, y)?;
         self.trace_list(trace, list, x, y)?;
+        trace.go_on(steps_unkept(restore))?;
         self.execute_alone(list, restore)
     }
 }

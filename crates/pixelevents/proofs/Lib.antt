@@ -1,3 +1,4 @@
 pub mod HistoryLaws
 pub mod PlaceLaws
 pub mod SessionLaws
+pub mod OriginLaws

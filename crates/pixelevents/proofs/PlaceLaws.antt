@@ -33,7 +33,7 @@ module _ {A : Type 0} where
 -- ---- places
 
 -- commands behind others add their own items
-items_more : (results : ℕ → Bool) (front back : List Command) → (more : List Item) × (items (performed results (front ++ back)) ≡ items (performed results front) ++ more)
+pub items_more : (results : ℕ → Bool) (front back : List Command) → (more : List Item) × (items (performed results (front ++ back)) ≡ items (performed results front) ++ more)
 items_more results front [] = ([], ap (λ cs. items (performed results cs)) (append-nil front) ∙ sym (append-nil (items (performed results front))))
 items_more results front (c ∷ cs) =
     let rest = items_more results (front ++ c ∷ []) cs in

@@ -1,6 +1,7 @@
 -- What each run of a session adds to the history of a pixel.
 use Rattle.std.proofs.Common.{◌≡◌, ◌∙◌, ap, sym, subst, refl, arith, ℕ, ◌+◌, ◌<◌, Bool, List, [], ◌∷◌, ◌++◌, length, map, length-append, append-nil}
 use Rattle.std.proofs.lemmas.List.{length-map}
+use Rattle.gfxspec.specs.declared.TheConstants.{QUERY_LIMIT}
 use Rattle.gfxspec.specs.declared.geometry.Size.{Size}
 use Rattle.gfxspec.specs.declared.pixel.Pixel.{Pixel}
 use Rattle.gfxspec.specs.Items.{Item, Drawn, ColorCleared, DepthStencilCleared, after_item, after_items, opening}
@@ -80,10 +81,33 @@ module _ (size : Size) (steps : List Step) (c : Context) (h : Stands size steps 
       ∙ ap (performed (results_behind size (performed_session size (settled steps)))) h.pending
       ∙ sym (pending_left size steps h.none_open (subst AreAccepted h.pending h.accepted))
 
+  -- how many items what is pending adds
+  pub pending_counts : length (performed_items size steps) ≡ length (performed_items size (settled steps)) + length (items (performed_pending c))
+  pending_counts =
+      many_more _ (items_of_session (settled done)) (session.pending done) (items_of_session done) (pending_follows done none_open_done)
+      ∙ ap (λ is. length is + length (items (session.pending done))) (ap items_of_session (settled_left size steps))
+      ∙ ap (λ l. length (performed_items size (settled steps)) + length (items l)) (sym list_is)
+
   pub pending_adds : (x y : ℕ) → x < size.width → y < size.height → GrowsBy size x y (settled steps) steps (items (performed_pending c)) (c.stored x y)
   pending_adds x y w v =
       grows size x y (settled steps) steps _ (items_of_session (settled done)) (session.pending done) (items_of_session done) (performed_pending c) (c.stored x y)
       (ap items_of_session (settled_left size steps)) refl list_is (h.pixels x y w v) (pending_follows done none_open_done)
+
+  none_open_now : queries_open c.pending ≡ [] → open_now steps ≡ []
+  none_open_now none = sym (queries_agree steps h.none_open) ∙ sym (ap queries_open h.pending) ∙ none
+
+  -- with no query open the results that are answered are those behind the steps
+  pub answers_told : (q : ℕ) → q < QUERY_LIMIT → queries_open c.pending ≡ [] → result_of (answered size c q) ≡ results_behind size done q
+  answers_told q l none = ap result_of ((shows size steps c h).answers q l) ∙ sym (result_settled size done q (open_left size steps ∙ none_open_now none))
+
+  -- how many items an execution adds
+  pub execution_counts : (list : List Command) (restore : Bool) → queries_open c.pending ≡ [] → AreAccepted list → length (performed_items size (steps ++ Executes list restore ∷ [])) ≡ length (performed_items size steps) + length (items (performed_next size c list))
+  execution_counts list restore none accepted =
+      let left : List Command = performed (results_behind size done) list in
+      let same : performed_next size c list ≡ left = performed_same (λ q. result_of (answered size c q)) (results_behind size done) list accepted (λ q l. answers_told q l none) in
+      ap (λ ss. length (items_of_session ss)) (performed_session-push size steps (Executes list restore))
+      ∙ many_more _ (items_of_session done) left (items_of_session (done ++ Executes left restore ∷ [])) (execution_follows done left restore (open_left size steps ∙ none_open_now none))
+      ∙ ap (λ l. length (performed_items size steps) + length (items l)) (sym same)
 
   pub execution_adds : (list : List Command) (restore : Bool) (x y : ℕ) → queries_open c.pending ≡ [] → AreAccepted list → x < size.width → y < size.height → GrowsBy size x y steps (steps ++ Executes list restore ∷ []) (items (performed_next size c list)) (shown c x y)
   execution_adds list restore x y none accepted w v =

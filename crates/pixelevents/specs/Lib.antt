@@ -2,3 +2,4 @@ pub mod History
 pub mod Laws
 pub mod Places
 pub mod Sessions
+pub mod Origins

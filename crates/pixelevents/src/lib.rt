@@ -6,6 +6,7 @@
 
 ghost use Rattle.pixelevents.specs.Laws.{LastIsWhatIsLeft, CountsAreOfIssues, EachFindsWhatWasLeft, HistoriesFollow, OpenIssuesChangeNothing, FailedWritesNoColor};
 ghost use Rattle.pixelevents.specs.Places.{PlacesName, PlacesNameTriangles};
+ghost use Rattle.pixelevents.specs.Origins.{PendingComes, ExecutedComes};
 ghost use Rattle.pixelevents.specs.Sessions.{SessionEndsShown, PendingAdds, ExecutionAdds, FlushAddsNothing};
 
 use gfxspec::Pixel;
@@ -36,6 +37,15 @@ pub struct Place {
     pub triangle: u32,
 }
 
+/// Which step of a session an item belongs to, and where it stands in the list that the step executes.
+#[derive(Clone, Copy, Debug, PartialEq, Eq)]
+pub struct Origin {
+    /// The number of the step, from 0 on.
+    pub step: u64,
+    /// Its place in the list. A step that records a command is as a list of this command alone.
+    pub place: Place,
+}
+
 /// What the history of a pixel says is what its items leave there and what they count.
 pub fn history_laws()
     ensures last { LastIsWhatIsLeft }
@@ -50,6 +60,13 @@ pub fn history_laws()
 pub fn place_laws()
     ensures items { PlacesName }
     ensures triangles { PlacesNameTriangles }
+{}
+
+/// The items of the pending commands of a context that stands behind the steps of a session come from the steps that
+/// recorded their commands, and the items of a list from the step that executes it.
+pub fn origin_laws()
+    ensures pending { PendingComes }
+    ensures executed { ExecutedComes }
 {}
 
 /// What each run of a session adds to the history of a pixel.

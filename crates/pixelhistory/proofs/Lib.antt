@@ -1,5 +1,5 @@
 pub mod Covering
 pub mod Taking
 pub mod Listing
-pub mod Placing
+pub mod Passing
 pub mod Standing

@@ -27,7 +27,7 @@ items_few s o (ClearColor rgba) = omega arith
 items_few s o (ClearDepthStencil depth stencil) = omega arith
 items_few s o c = omega arith
 
-performed_few : (results : ℕ → Bool) (s : Settings) (o : List ℕ) (c : Command) → length (performed_items results s o c) ≤ triangles_of s c + 1
+pub performed_few : (results : ℕ → Bool) (s : Settings) (o : List ℕ) (c : Command) → length (performed_items results s o c) ≤ triangles_of s c + 1
 performed_few results s o c = by (withholds results s.predicate)
   where
     by : (b : Bool) → length (cond b [] (items_at s o c)) ≤ triangles_of s c + 1

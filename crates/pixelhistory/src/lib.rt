@@ -4,15 +4,14 @@
 //! words of the definitions. So a history is slow where lists are long, and needs no memory but for its events.
 #![tactic(auto)]
 
-mod list;
-mod places;
+mod commands;
 mod recorded;
+mod session;
 mod tests_apart;
 mod trace;
 mod triangle;
 
-pub use list::{history_of, trace_list};
-pub use places::place_of;
 pub use recorded::{trace_finished, trace_recorded};
+pub use session::{SessionTrace, StepsOf, trace_list};
 pub use trace::Trace;
 pub use triangle::event_of;

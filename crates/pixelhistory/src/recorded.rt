@@ -2,19 +2,17 @@
 
 ghost use Rattle.std.specs.Prelude.{◌<◌, OnOk};
 ghost use Rattle.gfxspec.specs.Limits.{side_bound};
-ghost use Rattle.gfxspec.specs.Recorded.{items};
-ghost use Rattle.gfxspec.specs.Predication.{performed};
 ghost use Rattle.cmdlist.specs.Drawable.{told};
-ghost use Rattle.pixelhistory.specs.Tracing.{GoesPast};
+ghost use Rattle.pixelhistory.specs.declared.session.StepsOf.TheVariants.{Each, List};
+ghost use Rattle.pixelhistory.specs.Passing.{PassesList};
 
-use crate::list::trace_list;
-use crate::trace::Trace;
+use crate::session::{SessionTrace, StepsOf, trace_list};
 use cmdlist::{CommandList, DeferredContext};
 use std::alloc::{AllocError, Allocator};
 
-/// Goes past what a context has recorded so far, under the results of queries before it.
+/// Goes past what a context has recorded so far, each command a step of its own, under the results of queries before it.
 pub fn trace_recorded<A: Allocator + Copy>(
-    trace: &mut Trace<A>,
+    trace: &mut SessionTrace<A>,
     context: &DeferredContext<A>,
     results: &[bool; 64],
     x: u32,
@@ -22,14 +20,14 @@ pub fn trace_recorded<A: Allocator + Copy>(
 ) -> Result<(), AllocError>
     requires x { x < side_bound }
     requires y { y < side_bound }
-    ensures { OnOk result (GoesPast (items (performed (told results.now) context.now)) x y trace.old trace.new) }
+    ensures { OnOk result (PassesList (told results.now) context.now Each x y trace.old trace.new) }
 {
-    trace_list(trace, context.commands(), results, x, y)
+    trace_list(trace, context.commands(), results, StepsOf::Each, x, y)
 }
 
-/// Goes past a finished list, under the results of queries before it.
+/// Goes past a finished list, which one step executes, under the results of queries before it.
 pub fn trace_finished<A: Allocator + Copy>(
-    trace: &mut Trace<A>,
+    trace: &mut SessionTrace<A>,
     list: &CommandList<A>,
     results: &[bool; 64],
     x: u32,
@@ -37,7 +35,7 @@ pub fn trace_finished<A: Allocator + Copy>(
 ) -> Result<(), AllocError>
     requires x { x < side_bound }
     requires y { y < side_bound }
-    ensures { OnOk result (GoesPast (items (performed (told results.now) list.now)) x y trace.old trace.new) }
+    ensures { OnOk result (PassesList (told results.now) list.now List x y trace.old trace.new) }
 {
-    trace_list(trace, list.commands(), results, x, y)
+    trace_list(trace, list.commands(), results, StepsOf::List, x, y)
 }

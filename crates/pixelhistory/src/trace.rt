@@ -28,12 +28,11 @@ pub struct Trace<A: Allocator> {
 }
 
 impl<A: Allocator> Trace<A> {
-    ghost use Rattle.gfxspec.specs.declared.geometry.Size.{Size};
-    ghost use Rattle.pixelhistory.specs.Standing.{Traces};
+    ghost use Rattle.pixelhistory.specs.Tracing.{IsTraceOf};
 
     /// The trace of a pixel of a new target.
     pub fn new(alloc: A) -> Self
-        ensures { (size : Size) (x y : ℕ) → Traces size [] x y result }
+        ensures { (x y : ℕ) → IsTraceOf [] x y result }
     {
         Trace {
             pixel: Pixel {

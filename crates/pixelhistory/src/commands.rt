@@ -1,20 +1,15 @@
-//! The history of a pixel under a list.
+//! The history of a pixel under a command.
 
-ghost use Rattle.std.specs.Prelude.{◌≡◌, ◌<◌, ◌≤◌, ◌+◌, ◌^◌, [], ℕ, List, length, map, IfOk, OnOk};
+ghost use Rattle.std.specs.Prelude.{◌≡◌, ◌<◌, ◌≤◌, ◌+◌, ◌^◌, [], ℕ, List, length, OnOk};
 ghost use Rattle.gfxspec.specs.Limits.{side_bound};
-ghost use Rattle.gfxspec.specs.Recorded.{drawn_items, items, items_at};
-ghost use Rattle.gfxspec.specs.Accepted.{AreAccepted};
-ghost use Rattle.gfxspec.specs.Predication.{performed};
+ghost use Rattle.gfxspec.specs.Recorded.{drawn_items, items_at};
 ghost use Rattle.meaning.specs.OneMore.{triangles_of as count_of, performed_items};
 ghost use Rattle.command.specs.Seen.{state_value, command_value};
 ghost use Rattle.cmdlist.specs.Drawable.{IsDrawable, drawn_by, told};
-ghost use Rattle.pixelevents.specs.History.{history_from};
 ghost use Rattle.pixelhistory.specs.Tracing.{GoesPast};
 
 use crate::trace::{Trace, trace_color_clear, trace_depth_stencil_clear, trace_draw};
 use cmdlist::{Command, State, draw_of, is_withheld};
-use gfxspec::Pixel;
-use pixelevents::Event;
 use std::alloc::{AllocError, Allocator};
 
 /// Goes past what a command draws, if it is a draw.
@@ -63,7 +58,7 @@ fn trace_command<A: Allocator + Copy>(
 }
 
 /// Goes past what a command draws or clears under a state, unless the state's predicate withholds it.
-fn trace_performed<A: Allocator + Copy>(
+pub(crate) fn trace_performed<A: Allocator + Copy>(
     trace: &mut Trace<A>,
     command: &Command<A>,
     state: &State<'_>,
@@ -81,56 +76,4 @@ fn trace_performed<A: Allocator + Copy>(
         return Ok(());
     }
     trace_command(trace, command, state, x, y)
-}
-
-/// How many items a trace has room for before a list.
-const ITEM_ROOM: u64 = 1 << 62;
-
-/// Goes past what the commands of a list draw and clear, from the default state on and under the results before the list.
-/// A trace without room for their numbers counts as one without memory.
-pub fn trace_list<A: Allocator + Copy>(
-    trace: &mut Trace<A>,
-    commands: &[Command<A>],
-    results: &[bool; 64],
-    x: u32,
-    y: u32,
-) -> Result<(), AllocError>
-    requires accepted { AreAccepted (map command_value commands.now) }
-    requires x { x < side_bound }
-    requires y { y < side_bound }
-    ensures { OnOk result (GoesPast (items (performed (told results.now) (map command_value commands.now))) x y trace.old trace.new) }
-{
-    if trace.items >= ITEM_ROOM {
-        return Err(AllocError);
-    }
-    let mut state = State::new();
-    for command in commands {
-        trace_performed(trace, command, &state, results, x, y)?;
-        state.change(command);
-    }
-    Ok(())
-}
-
-/// The history of a pixel under the commands of a list, from what it held and from the default state on, under the results
-/// of queries before the list.
-pub fn history_of<A: Allocator + Copy>(
-    commands: &[Command<A>],
-    results: &[bool; 64],
-    x: u32,
-    y: u32,
-    old: Pixel,
-    alloc: A,
-) -> Result<Vec<Event, A>, AllocError>
-    requires accepted { AreAccepted (map command_value commands.now) }
-    requires x { x < side_bound }
-    requires y { y < side_bound }
-    ensures { IfOk result (λ events. events.items ≡ history_from 0 (items (performed (told results.now) (map command_value commands.now))) x y old) }
-{
-    let mut trace = Trace {
-        pixel: old,
-        items: 0,
-        events: Vec::new(alloc),
-    };
-    trace_list(&mut trace, commands, results, x, y)?;
-    Ok(trace.events)
 }

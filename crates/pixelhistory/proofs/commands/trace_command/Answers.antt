@@ -4,7 +4,7 @@ use Rattle.gfxspec.specs.Recorded.{drawn_items, items_at}
 use Rattle.command.specs.Seen.{state_value, command_value}
 use Rattle.cmdlist.specs.Drawable.{drawn_by}
 use Rattle.pixelhistory.specs.Tracing.{GoesPast}
-use Rattle.pixelhistory.proofs.list.trace_command.Goals as goal
+use Rattle.pixelhistory.proofs.commands.trace_command.Goals as goal
 
 pub returns-in-Draw : goal.returns-in-Draw
 returns-in-Draw g c opened =
