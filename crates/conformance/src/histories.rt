@@ -1,9 +1,8 @@
 //! The history of a pixel over a script: a worked one, by calls of the immediate context and by a list that it executes,
 //! and why there is none.
 
-use pixelevents::Event;
 use refusing::Refusing;
-use sessions::{NoHistory, history};
+use sessions::{NamedEvent, NoHistory, history};
 
 /// Seven items, of which all but one touch pixel (1, 1): a clear, four triangles of one draw, of which the third lies
 /// elsewhere and the second is hidden, and, in a list, a triangle that the stencil refuses and a clear.
@@ -30,6 +29,50 @@ const SCRIPT: &str = concat!(
 /// stencil that it left.
 type Told = (u64, bool, bool, u8, u32, u8);
 
+/// What an event is named by: its item and its line, and the command and the triangle of its place.
+type Named = (u64, u64, u32, u32);
+
+/// Calls that are pending, among them one that a predicate withholds, and a list that is executed twice: behind it the
+/// state is lost once, and kept once.
+const EXECUTED_TWICE: &str = concat!(
+    "target 8 8\n",
+    "i clearc 1 0 0 0\n",
+    "i begin 0\n",
+    "i end 0\n",
+    "d0 clearc 2 0 0 0\n",
+    "d0 topology 4\n",
+    "d0 vb 6553600 0 0 9 9 9 9 7077888 0 0 9 9 9 9 6553600 524288 0 9 9 9 9",
+    " 0 0 100 10 10 10 10 524288 0 100 0 0 0 0 0 524288 100 0 0 0 0\n",
+    "d0 draw 6 0\n",
+    "d0 finish 0\n",
+    "i exec d0 0 0\n",
+    "i clearc 3 0 0 0\n",
+    "i topology 4\n",
+    "i cleards 16777215 0\n",
+    "d1 clearc 9 9 9 9\n",
+    "i exec d0 0 1\n",
+    "i predicate 0 0\n",
+    "i clearc 4 0 0 0\n",
+    "i predicate\n",
+    "i clearc 5 0 0 0\n",
+    "i pixel 1 1\n",
+    "i predicate 0 1\n",
+    "i cleards 9 1\n",
+);
+
+/// The names of its events at (1, 1), counted by hand.
+const NAMES: [Named; 9] = [
+    (0, 2, 0, 0),
+    (1, 10, 0, 0),
+    (3, 10, 3, 1),
+    (4, 11, 0, 0),
+    (5, 13, 0, 0),
+    (6, 15, 0, 0),
+    (8, 15, 3, 1),
+    (9, 19, 0, 0),
+    (10, 22, 0, 0),
+];
+
 /// The six events, worked by hand: the fourth triangle has depth 50 at (0, 0), 10 more in 8 pixels to the right and 20 more
 /// in 8 downwards, so 55.625 at (1.5, 1.5).
 const EVENTS: [Told; 6] = [
@@ -41,7 +84,18 @@ const EVENTS: [Told; 6] = [
     (6, true, true, 40, 5, 6),
 ];
 
-fn told(event: &Event) -> Told {
+/// The names of the same six.
+const WORKED_NAMES: [Named; 6] = [
+    (0, 2, 0, 0),
+    (1, 5, 0, 0),
+    (2, 5, 0, 1),
+    (4, 5, 0, 3),
+    (5, 12, 3, 0),
+    (6, 12, 4, 0),
+];
+
+fn told(named: &NamedEvent) -> Told {
+    let event = named.event;
     let after = event.after;
     (
         event.item,
@@ -62,6 +116,27 @@ fn a_worked_history(rt: HostRuntime) {
     assert!(rt; events.len() == EVENTS.len());
     for (event, expected) in events.iter().zip(&EVENTS) {
         assert!(rt; told(event) == *expected);
+    }
+}
+
+fn names(named: &NamedEvent) -> Named {
+    let place = named.place;
+    (named.event.item, named.line, place.command, place.triangle)
+}
+
+#[test]
+fn names_of_a_worked_history(rt: HostRuntime) {
+    let scripts = [SCRIPT, EXECUTED_TWICE];
+    let rows = [WORKED_NAMES.as_slice(), NAMES.as_slice()];
+    for (script, expected) in scripts.into_iter().zip(rows) {
+        let events = match history(rt.alloc(), script.as_bytes(), 1, 1) {
+            Ok(events) => events,
+            Err(_) => Vec::new(rt.alloc()),
+        };
+        assert!(rt; events.len() == expected.len());
+        for (event, name) in events.iter().zip(expected) {
+            assert!(rt; names(event) == *name, "{event:?}");
+        }
     }
 }
 

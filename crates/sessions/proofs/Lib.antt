@@ -4,3 +4,4 @@ pub mod Endings
 pub mod Ran
 pub mod Called
 pub mod Beside
+pub mod Naming

@@ -15,7 +15,7 @@ use Rattle.recorders.specs.Recording.{recording_of, listed}
 use Rattle.recorders.specs.Apart.{a_line, line_at, Cause}
 use Rattle.recorders.proofs.Recordings.{lists_counted}
 use Rattle.recorders.proofs.Growing.{listed_early}
-use Rattle.recorders.specs.Dealing.{taker_of}
+use Rattle.recorders.specs.Dealing.{taker_of, places_of}
 use Rattle.recorders.proofs.Places.{IsFirst, first, next_place, kept_on}
 use Rattle.immediate.specs.Held.{Held, context_of}
 use Rattle.sessions.specs.declared.play.Interruption.{Interruption}
@@ -277,10 +277,17 @@ last_interrupted size ls c text why e h cause is = record {
 pub more_inside : (i n : ℕ) → i < n → i + 1 ≤ n
 more_inside i n p = omega (arith, p)
 
+-- before its first line no step was taken, and behind its last there is no line
+pub none_steps : (size : Size) (ls : List Line) → AreLines [] ls → [] ≡ steps_of (take (own_place ls 0) ls)
+none_steps size ls sound = (passed size ls sound 0 _ (first ls 4 ls 0 refl (omega arith))).steps
+
+pub all_own : (ls : List Line) → own_place ls (own_count ls) ≡ length ls
+all_own ls = get_or_past (places_of 4 0 ls) (own_count ls) (length ls) (omega arith)
+
 -- what is traced beside a new context, before its first line
 pub none_traced : (size : Size) (ls : List Line) → AreLines [] ls → {C : Type 0} (traces : Size → List Step → ℕ → ℕ → C → Type 0) (x y : ℕ) (c : C) → traces size [] x y c → traces size (steps_of (take (own_place ls 0) ls)) x y c
 none_traced size ls sound traces x y c t =
-    subst (λ ss. traces size ss x y c) (passed size ls sound 0 _ (first ls 4 ls 0 refl (omega arith))).steps t
+    subst (λ ss. traces size ss x y c) (none_steps size ls sound) t
 
 -- and behind the last run
 pub last_traced : (size : Size) (ls : List Line) (n : ℕ) (c : Held) (text : List ℕ) → n ≡ length ls → HasReached size ls n c text → {C : Type 0} (traces : Size → List Step → ℕ → ℕ → C → Type 0) (x y : ℕ) (old new : C) → TracesOn traces c (Flushes ∷ []) old new → traces size (steps_of (take n ls)) x y old → traces size (steps_of ls ++ Flushes ∷ []) x y new

@@ -49,7 +49,7 @@ fn refused_line(interruption: Option<(usize, Interruption)>) -> Option<RefusedLi
 }
 
 /// The number of the line behind these. The target is line 1.
-fn line_behind<A: Allocator>(before: &[Line<A>]) -> u64
+pub(crate) fn line_behind<A: Allocator>(before: &[Line<A>]) -> u64
     ensures { result ≡ length before.now + 2 }
 {
     before.len() as u64 + 2

@@ -1,33 +1,33 @@
 //! The history of a pixel over a script: which items of it touched the pixel, what each found and left there, and
 //! which tests it passed.
 
-ghost use Rattle.std.specs.Prelude.{◌≡◌, ◌&&◌, ℕ, List, [], true, not, nat_lt, IfOk, IfErr};
+ghost use Rattle.std.specs.Prelude.{◌≡◌, ◌<◌, ◌&&◌, map, ℕ, List, [], true, not, nat_lt, IfOk, IfErr};
 ghost use Rattle.gfxspec.specs.declared.geometry.Size.{Size};
 ghost use Rattle.gfxspec.specs.Limits.{is_size};
 ghost use Rattle.meaning.specs.Standing.{IsNew};
-ghost use Rattle.pixelevents.specs.Sessions.{session_history};
+ghost use Rattle.pixelevents.specs.Origins.{AreNamed};
 ghost use Rattle.scenetext.specs.SeenScene.{scene_value};
-ghost use Rattle.scenetext.specs.Scene.{Line};
+ghost use Rattle.scenetext.specs.Seen.{line_value};
+ghost use Rattle.scenetext.specs.Scene.{Line as LineValue};
 ghost use Rattle.scenetext.specs.Spelling.{IsScene, Spells};
 ghost use Rattle.immediate.specs.Held.{context_of};
 ghost use Rattle.sessions.specs.declared.outcome.Ended.TheVariants.{Done};
-ghost use Rattle.sessions.specs.Lists.{steps_of};
 ghost use Rattle.sessions.specs.Answers.{answers};
 ghost use Rattle.sessions.specs.Writing.{end_of};
-ghost use Rattle.sessions.specs.Playing.{HasPlayedBy, HasPlayed};
-ghost use Rattle.sessions.specs.Histories.{held_by, traces_beside, IsHistory, MayRefuse, Prevents};
+ghost use Rattle.sessions.specs.Playing.{HasPlayedBy, HasPlayed, own_count};
+ghost use Rattle.sessions.specs.Histories.{held_by, traces_beside, named_event, named_events, IsNamedHistory, IsHistory, MayRefuse, Prevents};
 
-use crate::ending::end;
+use crate::ending::{end, line_behind};
 use crate::perform::begin_from;
 use crate::play::{Played, play_traced};
 use crate::traced::TracedContext;
 use gfxspec::Size;
 use immediate::ImmediateContext;
-use pixelevents::Event;
-use pixelhistory::Trace;
-use recorders::{deal, record_alone};
-use scenetext::Scene;
-use std::alloc::Allocator;
+use pixelevents::{Event, Origin, Place};
+use pixelhistory::SessionTrace;
+use recorders::{CALLER, DealtLines, deal, record_alone};
+use scenetext::{Line, Scene};
+use std::alloc::{AllocError, Allocator};
 use thiserror::Error;
 
 /// Why there is no history of a pixel.
@@ -42,6 +42,16 @@ pub enum NoHistory {
     PixelRange,
 }
 
+/// An event of the history of a script, and what of the script it comes from.
+#[derive(Clone, Copy, Debug, PartialEq, Eq)]
+pub struct NamedEvent {
+    pub event: Event,
+    /// The line of the immediate context that recorded or executed it, counted from 1.
+    pub line: u64,
+    /// Its place in the list that the line executes. A line that records a command is as a list of this command alone.
+    pub place: Place,
+}
+
 /// Whether a target has no pixel at a place.
 fn lacks_pixel(size: Size, x: u32, y: u32) -> bool
     ensures { result ≡ not (nat_lt x size.width && nat_lt y size.height) }
@@ -52,8 +62,8 @@ fn lacks_pixel(size: Size, x: u32, y: u32) -> bool
 /// What was played, and the trace beside its context.
 fn apart<A: Allocator>(
     traced: Played<TracedContext<A>, A>,
-) -> (Played<ImmediateContext<A>, A>, Trace<A>)
-    ensures played { (size : Size) (ls : List Line) → HasPlayedBy held_by size ls traced → HasPlayed size ls result.0 }
+) -> (Played<ImmediateContext<A>, A>, SessionTrace<A>)
+    ensures played { (size : Size) (ls : List LineValue) → HasPlayedBy held_by size ls traced → HasPlayed size ls result.0 }
     ensures interruption { result.0.interruption ≡ traced.interruption }
     ensures trace { result.1 ≡ traced.context.trace }
 {
@@ -76,18 +86,57 @@ fn apart<A: Allocator>(
     (played, trace)
 }
 
+/// An event with the line that it comes from.
+fn named<A: Allocator>(
+    event: Event,
+    origin: Origin,
+    lines: &[Line<A>],
+    dealt: &DealtLines<'_, A>,
+) -> NamedEvent
+    requires same { dealt.now ≡ map line_value lines.now }
+    requires below { origin.step < own_count dealt.now }
+    ensures { result ≡ named_event dealt.now event origin }
+{
+    let (place, _) = dealt.line(CALLER, origin.step as usize);
+    NamedEvent {
+        event,
+        line: line_behind(&lines[..place]),
+        place: origin.place,
+    }
+}
+
+/// The events of a trace with the lines that they come from.
+fn all_named<A: Allocator + Copy>(
+    alloc: A,
+    lines: &[Line<A>],
+    dealt: &DealtLines<'_, A>,
+    trace: &SessionTrace<A>,
+) -> Result<Vec<NamedEvent, A>, AllocError>
+    requires same { dealt.now ≡ map line_value lines.now }
+    requires below { AreNamed (λ k origin. origin.step < own_count dealt.now) trace.now.trace.events.items trace.now.origins.items }
+    ensures { IfOk result (λ events. events.items ≡ named_events dealt.now trace.now.trace.events.items trace.now.origins.items) }
+{
+    let mut events = Vec::new(alloc);
+    for number in 0..trace.trace.events.len() {
+        let event = trace.trace.events[number];
+        events.push(named(event, trace.origins[number], lines, dealt))?;
+    }
+    Ok(events)
+}
+
 /// The history of a pixel over a scene, by an immediate context that has taken none of its lines; or the refused
 /// line, counted from 1, and its number.
 fn trace_scene<A: Allocator + Copy + Send>(
     alloc: A,
     scene: &Scene<A>,
     traced: TracedContext<A>,
-) -> Result<Vec<Event, A>, (u64, u32)>
+) -> Result<Vec<NamedEvent, A>, (u64, u32)>
     requires sized { is_size scene.now.size ≡ true }
     requires scene { IsScene (scene_value scene.now) }
     requires size { traced.context.surface.size ≡ scene.now.size }
     requires new { IsNew traced.context.surface.size (context_of traced.context) }
-    ensures history { (x y : ℕ) → traces_beside scene.now.size [] x y traced → IfOk result (λ events. (end_of (answers (scene_value scene.now)) ≡ Done) × (events.items ≡ session_history scene.now.size (steps_of scene.now.lines) x y)) }
+    requires traced { traces_beside scene.now.size [] traced.x traced.y traced }
+    ensures history { IfOk result (λ events. (end_of (answers (scene_value scene.now)) ≡ Done) × IsNamedHistory scene.now.size scene.now.lines traced.x traced.y events.items) }
     ensures refused { (text : List ℕ) → Spells text (scene_value scene.now) → IfErr result (λ at. MayRefuse text at.0 at.1) }
 {
     let Ok(lines) = deal(alloc, scene.lines.as_slice()) else {
@@ -98,20 +147,23 @@ fn trace_scene<A: Allocator + Copy + Send>(
     let (played, trace) = apart(traced);
     let performance = end(scene, recorded.first_refused(), played);
     match performance.end {
-        Ok(_) => Ok(trace.events),
+        Ok(_) => match all_named(alloc, scene.lines.as_slice(), &lines, &trace) {
+            Ok(events) => Ok(events),
+            Err(_) => Err((0, 1)), // as if memory was refused before the first line
+        },
         Err(refused) => Err(refused),
     }
 }
 
 /// The history of a pixel over a script: of the items that its immediate context draws and clears, numbered from 0 in
-/// the order in which they run, those that touch the pixel. The script is taken line by line as `session_alone` takes
-/// it, and ends as it does where a line is refused.
+/// the order in which they run, those that touch the pixel, each with its line. The script is taken line by line as
+/// `session_alone` takes it, and ends as it does where a line is refused.
 pub fn history<A: Allocator + Copy + Send>(
     alloc: A,
     script: &[u8],
     x: u32,
     y: u32,
-) -> Result<Vec<Event, A>, NoHistory>
+) -> Result<Vec<NamedEvent, A>, NoHistory>
     ensures history { IfOk result (λ events. IsHistory script.now x y events.items) }
     ensures refused { IfErr result (λ why. Prevents script.now x y why) }
 {

@@ -18,7 +18,7 @@ use answers::Answer;
 use cmdlist::{Command, CommandList, DeviceContext};
 use gfxspec::GfxError;
 use immediate::ImmediateContext;
-use pixelhistory::Trace;
+use pixelhistory::SessionTrace;
 use recorders::ListSource;
 use std::alloc::Allocator;
 
@@ -53,7 +53,7 @@ impl<A: Allocator + Copy + Send> TracedContext<A> {
     {
         TracedContext {
             context,
-            trace: Trace::new(alloc),
+            trace: SessionTrace::new(alloc),
             x,
             y,
         }

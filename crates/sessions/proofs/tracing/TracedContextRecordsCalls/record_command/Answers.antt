@@ -1,6 +1,6 @@
 use Rattle.command.specs.Seen.{command_value}
 use Rattle.sessions.proofs.Ran.{anyway, record_size, still_inside}
-use Rattle.sessions.proofs.Beside.{traced_record}
+use Rattle.pixelhistory.proofs.Standing.{traced_record}
 use Rattle.sessions.proofs.tracing.TracedContextRecordsCalls.record_command.Goals as goal
 
 pub invariant_of-self : goal.invariant_of-self
