@@ -27,6 +27,11 @@ struct blend {
     uint32_t logic, op, mask;
 };
 
+/* How many bytes a line has that was played, and its answer line. */
+struct line_told {
+    uint64_t taken, answer;
+};
+
 /* All of them: CALL(what it returns, its name, its parameters, the arguments that hand these on). */
 #define RECORDING_CALLS(CALL, NAME)                                                                                    \
     CALL(uint32_t, NAME##_set_vertices, (struct handle *on, const yz_vertex *vertices, size_t count),                  \
@@ -72,7 +77,13 @@ struct blend {
     CALL(uint32_t, yz_handle_context_create, (struct handle *on), (on))                                                \
     CALL(void, yz_handle_context_destroy, (struct handle *on), (on))                                                   \
     CALL(uint32_t, yz_handle_context_finish, (struct handle *on, bool keep, struct handle *list), (on, keep, list))    \
-    CALL(void, yz_handle_list_destroy, (struct handle *on), (on))
+    CALL(void, yz_handle_list_destroy, (struct handle *on), (on))                                                      \
+    CALL(uint32_t, yz_handle_player_create, (struct handle *on), (on))                                                 \
+    CALL(void, yz_handle_player_destroy, (struct handle *on), (on))                                                    \
+    CALL(uint32_t, yz_handle_play_line,                                                                                \
+         (struct handle *on, struct handle *device, const char *text, size_t size, struct line_told *told,             \
+          char *answer, size_t room),                                                                                  \
+         (on, device, text, size, told, answer, room))
 
 #define ALL_CALLS(CALL)                       \
     RECORDING_CALLS(CALL, yz_handle_device)   \

@@ -15,10 +15,7 @@ struct object {
     enum kind kind;
     struct object *next;
 };
-#define STRUCT(name) \
-    struct name {    \
-        struct object object; \
-    }
+#define OBJECT_PART struct object object
 #define HANDLE(it) (&(it)->object.handle)
 
 /* Notes an object that was made; forgets one that is given back; wants one of a kind, for a call of a name. */
@@ -29,19 +26,24 @@ void yz_want(const void *object, enum kind kind, const char *call);
 #define FORGET(it, kind) yz_forget((struct object *)(void *)(it), kind, __func__)
 #define WANT(it, kind) yz_want(it, kind, __func__)
 #else
-#define STRUCT(name) \
-    struct name {    \
-        struct handle handle; \
-    }
+#define OBJECT_PART struct handle handle
 #define HANDLE(it) (&(it)->handle)
 #define NOTE(it, kind) ((void)0)
 #define FORGET(it, kind) ((void)0)
 #define WANT(it, kind) ((void)0)
 #endif
 
-STRUCT(yz_device);
-STRUCT(yz_context);
-STRUCT(yz_list);
+/* A device has a player of scripts once it was asked to play a line; before, that handle holds nothing. */
+struct yz_device {
+    OBJECT_PART;
+    struct handle player;
+};
+struct yz_context {
+    OBJECT_PART;
+};
+struct yz_list {
+    OBJECT_PART;
+};
 
 /* A call with an object: null is its result. */
 #define ENTER(it, kind)                              \

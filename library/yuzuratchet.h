@@ -63,8 +63,13 @@ enum yuzuratchet_status {
     YUZURATCHET_SIZE_TOO_LARGE = 7,
     /* Two areas overlap. */
     YUZURATCHET_OVERLAP = 8,
-    /* The report's address is none of a struct yuzuratchet_report: no multiple of 8. */
-    YUZURATCHET_MISALIGNED = 9
+    /* The address of a report, or of events, is none of such a struct: no multiple of 8. */
+    YUZURATCHET_MISALIGNED = 9,
+    /* Of yuzuratchet_history alone: the area for events is too small. The report tells how many there are. The area is
+     * as it was. */
+    YUZURATCHET_EVENTS_TOO_SMALL = 10,
+    /* Of yuzuratchet_history alone: the target has no such pixel. The area is as it was. */
+    YUZURATCHET_PIXEL_RANGE = 11
 };
 
 /* What a call tells: 32 bytes, with no gaps. */
@@ -105,6 +110,46 @@ uint64_t yuzuratchet_image_bound(const uint8_t *script, size_t script_size);
  * bounds above. Returns the status: done, refused or no memory, or why an area doesn't fit.
  */
 uint32_t yuzuratchet_sizes(const uint8_t *script, size_t script_size, struct yuzuratchet_report *report);
+
+/* What an item of a script, a clear or a triangle, did to a pixel that it touched: 48 bytes, with no gaps. A flag is 1
+ * or 0; a clear has no test to fail. Colours are red, green, blue, alpha. */
+struct yuzuratchet_event {
+    /* Its number among the items of the script in the order in which they run, from 0 on. */
+    uint64_t item;
+    /* The line of the script that recorded or executed it on the immediate context, counted from 1. */
+    uint64_t line;
+    /* The number of its command in the list that the line executes, from 0 on, or 0 where the line is the command. */
+    uint32_t command;
+    /* The number of the triangle in its draw, from 0 on, as the draw assembles them; 0 for a clear. */
+    uint32_t triangle;
+    uint32_t depth_before, depth_after;
+    uint8_t color_before[4], color_after[4];
+    uint8_t stencil_before, stencil_after;
+    uint8_t stencil_passed, depth_passed;
+    /* Whether both tests passed. */
+    uint32_t passed;
+};
+
+/* What yuzuratchet_history tells: 24 bytes, with no gaps. */
+struct yuzuratchet_history_report {
+    /* How many events the pixel has; 0 where there is no history. */
+    uint64_t count;
+    /* As in struct yuzuratchet_report. */
+    uint64_t refused_line;
+    uint32_t refusal;
+    /* One of enum yuzuratchet_status: the value that the call returned. */
+    uint32_t status;
+};
+
+/*
+ * Tells the history of a pixel of a script: of the items that the immediate context draws and clears those that touch
+ * the pixel, in their order, each with what it found and left there. They go to the front of `events`, which has room
+ * for so many; what lies behind them is as it was. Where a line is refused or has a fault, as yuzuratchet_draw takes
+ * the script, there is no history. Returns the status: done, refused, events too small, pixel range, or why an area
+ * doesn't fit, and then nothing was written, the report included.
+ */
+uint32_t yuzuratchet_history(const uint8_t *script, size_t script_size, uint32_t x, uint32_t y,
+                             struct yuzuratchet_event *events, size_t room, struct yuzuratchet_history_report *report);
 
 /*
  * What a status means, when a line is refused with a number, and what to do about that: texts for people, in English,

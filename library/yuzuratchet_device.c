@@ -46,6 +46,7 @@ yz_result yz_device_create(const yz_device_desc *desc, yz_device **out) {
     if (made == NULL) return YZ_OUT_OF_MEMORY;
     const yz_result result = yz_handle_device_create(HANDLE(made), desc->width, desc->height);
     if (result != YZ_OK) return rattle_dealloc(made), result;
+    made->player.at = NULL;
     NOTE(made, DEVICE);
     *out = made;
     return YZ_OK;
@@ -78,6 +79,7 @@ void yz_device_destroy(yz_device *device) {
     if (device == NULL) return;
     FORGET(device, DEVICE);
     yz_handle_device_destroy(HANDLE(device));
+    if (device->player.at != NULL) yz_handle_player_destroy(&device->player);
     rattle_dealloc(device);
 }
 
@@ -150,6 +152,27 @@ yz_result yz_device_read(yz_device *device, enum yz_plane plane, const yz_rect *
     return YZ_OK;
 }
 
+/* ---- a script, line by line */
+
+yz_result yz_play(yz_device *device, const char *lines, size_t size, yz_played *played) {
+    ENTER(device, DEVICE);
+    if (played == NULL || (lines == NULL && size != 0)) return YZ_NULL_POINTER;
+    if (!is_area(lines, size, 1, 1)) return YZ_BAD_AREA;
+    played->size = played->lines = played->answer_size = 0;
+    if (device->player.at == NULL) {
+        const yz_result made = yz_handle_player_create(&device->player);
+        if (made != YZ_OK) return made;
+    }
+    while (played->size < size && played->answer_size == 0) {
+        struct line_told told;
+        const yz_result result = yz_handle_play_line(&device->player, HANDLE(device), lines + played->size,
+                                                     size - played->size, &told, played->answer, YZ_ANSWER_ROOM);
+        if (result != YZ_OK) return result;
+        played->size += told.taken, played->lines++, played->answer_size = told.answer;
+    }
+    return YZ_OK;
+}
+
 /* ---- calls that record */
 
 #define OBJECT yz_device
@@ -177,7 +200,8 @@ const char *yz_result_name(yz_result result) {
         NAME(YZ_DRAW_RANGE), NAME(YZ_INDEX_RANGE), NAME(YZ_TOPOLOGY_UNSET), NAME(YZ_SCISSOR_RECT), NAME(YZ_QUERY_OPEN),
         NAME(YZ_QUERY_NOT_OPEN), NAME(YZ_QUERY_NUMBER), NAME(YZ_QUERY_LEFT_OPEN), NAME(YZ_LIST_TOO_LONG),
         NAME(YZ_TOO_MANY_ISSUES), NAME(YZ_PIXEL_RANGE), NAME(YZ_NOT_ISSUED), NAME(YZ_PREDICATE_IN_LIST),
-        NAME(YZ_BAD_DESCRIPTION), NAME(YZ_NULL_POINTER), NAME(YZ_BAD_AREA)
+        NAME(YZ_BAD_DESCRIPTION), NAME(YZ_NULL_POINTER), NAME(YZ_BAD_AREA), NAME(YZ_LINE_FORM), NAME(YZ_ACTOR),
+        NAME(YZ_COMMAND), NAME(YZ_ARGUMENT_COUNT), NAME(YZ_ARGUMENT), NAME(YZ_NO_SUCH_LIST)
 #undef NAME
     };
     const char *const name = result < sizeof names / sizeof *names ? names[result] : NULL;

@@ -78,7 +78,14 @@ enum yz_results {
     /* A pointer is null. */
     YZ_NULL_POINTER = 33,
     /* An area is misaligned, is 2^63 bytes or more, runs past the last address, or has no room for the rows. */
-    YZ_BAD_AREA = 34
+    YZ_BAD_AREA = 34,
+    /* What is wrong with a line of a script (docs/SCRIPT.md). */
+    YZ_LINE_FORM = 101,
+    YZ_ACTOR = 103,
+    YZ_COMMAND = 104,
+    YZ_ARGUMENT_COUNT = 105,
+    YZ_ARGUMENT = 106,
+    YZ_NO_SUCH_LIST = 107
 };
 
 /* The name of a result, as "YZ_DRAW_RANGE", and a text for people. Neither is ever null. */
@@ -230,6 +237,22 @@ YZ_MUST_USE yz_result yz_device_pixel(yz_device *device, uint32_t x, uint32_t y,
  * BAD_AREA, PIXEL_RANGE, QUERY_OPEN, OUT_OF_MEMORY. An empty rectangle is a flush. */
 YZ_MUST_USE yz_result yz_device_read(yz_device *device, enum yz_plane plane, const yz_rect *rect, void *bytes,
                                      size_t size, size_t stride);
+
+/* ---- a script, line by line */
+
+/* What was played: so many bytes and lines, and the last one's answer line, if it asked, with its line feed. */
+enum { YZ_ANSWER_ROOM = 176 };
+typedef struct yz_played {
+    size_t size, lines;
+    size_t answer_size;
+    char answer[YZ_ANSWER_ROOM];
+} yz_played;
+
+/* Plays lines of a script, as they stand behind its `target` line, up to the first that answers: go on behind these.
+ * Lines of `i` are calls of the device, those of `d0` to `d7` of contexts that the device keeps for scripts, with the
+ * lists that they finish. A line that has a fault or is refused ends the call with its number: `played` has the lines
+ * before it, it changed nothing, and the next ones may be played. */
+YZ_MUST_USE yz_result yz_play(yz_device *device, const char *lines, size_t size, yz_played *played);
 
 /* ---- calls that record, on a device's immediate context. Each may be refused with LIST_TOO_LONG, OUT_OF_MEMORY. */
 

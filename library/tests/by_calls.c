@@ -1,7 +1,8 @@
 /*
- * Plays scripts by calls, and holds answers and image against yuzuratchet_draw byte for byte: `by_calls SCRIPT..`. Of a
- * script whose text has a fault nothing is played. Before each line stand calls that no script has, which are refused
- * and leave all as it was. It prints how many are the same, differ, or have a fault.
+ * Plays scripts by calls, and by lines on a device that stays, and holds answers and image against yuzuratchet_draw
+ * byte for byte: `by_calls SCRIPT..`. Of a script whose text has a fault nothing is played by calls. Before each line
+ * stand calls or lines that no script has, which are refused and leave all as it was. It prints how many are the same,
+ * differ, or have a fault.
  */
 #include "check.h"
 #include "yuzuratchet_device.h"
@@ -190,6 +191,55 @@ static bool is_same(char *script, const struct drawn *drawn) {
     return same;
 }
 
+/* ---- by lines */
+
+/* Lines that are refused, and calls of nothing. */
+static void disturb_lines(void) {
+    static const char *const refused[] = {"", "i finish 1\n", "d8 draw 3 0\n", "d0 vb 1 2 3\n", "i exec d0 65535 0\n",
+                                          "i draw 1 2 3\n", "target 1 1\n", "d7  draw 3 0\n", "i flush", "d3 end 64\n"};
+    static const yz_result why[] = {YZ_OK, YZ_COMMAND, YZ_ACTOR, YZ_ARGUMENT_COUNT, YZ_NO_SUCH_LIST,
+                                    YZ_ARGUMENT_COUNT, YZ_ACTOR, YZ_LINE_FORM, YZ_LINE_FORM, YZ_QUERY_NUMBER};
+    yz_played played;
+    for (size_t i = 0; i < sizeof why / sizeof *why; i++) {
+        CHECK(yz_play(play.device, refused[i], strlen(refused[i]), &played) == why[i]);
+        CHECK(played.size == 0 && played.lines == 0 && played.answer_size == 0);
+    }
+}
+
+/* Plays the lines behind the first, one or as many in a call as answer nothing; gives the result of the last. */
+static yz_result played_by_lines(const char *lines, bool one_by_one, uint64_t *number) {
+    yz_result result = YZ_OK;
+    for (*number = 2; result == YZ_OK && *lines != '\0';) {
+        yz_played played;
+        const size_t end = strcspn(lines, "\n"), size = one_by_one && lines[end] != '\0' ? end + 1 : strlen(lines);
+        if (one_by_one) disturb_lines();
+        result = yz_play(play.device, lines, size, &played);
+        memcpy(play.answers + play.answers_size, played.answer, played.answer_size);
+        lines += played.size, *number += played.lines, play.answers_size += played.answer_size;
+    }
+    return result == YZ_OK ? yz_device_flush(play.device) : result;
+}
+
+/* Whether a script says by lines what it says to yuzuratchet_draw. One with a fault says there nothing else. */
+static bool is_same_by_lines(const char *script, const struct drawn *drawn, bool one_by_one) {
+    uint64_t number;
+    char last[80];
+    if (sscanf(script, "target %" PRIu32 " %" PRIu32, &play.width, &play.height) != 2) return true;
+    const yz_device_desc desc = YZ_DEVICE_DESC(play.width, play.height);
+    if (drawn->report.refused_line == 1 || yz_device_create(&desc, &play.device) != YZ_OK) return true;
+    play.answers = taken(strlen(script) * 16 + 1000);
+    const yz_result result = played_by_lines(strchr(script, '\n') + 1, one_by_one, &number);
+    bool same = drawn->report.status == (result == YZ_OK ? YUZURATCHET_DONE : YUZURATCHET_REFUSED);
+    if (same && result == YZ_OK) same = is_same_image(drawn);
+    if (drawn->report.refusal > LAST_REFUSAL) play.answers_size = 0;
+    snprintf(last, sizeof last, "refused %" PRIu64 " %" PRIu32 "\n", number, result);
+    if (result != YZ_OK) answer(last);
+    same = same && play.answers_size == drawn->report.lines_size;
+    same = same && memcmp(play.answers, drawn->lines, play.answers_size) == 0;
+    end_play();
+    return same;
+}
+
 static char *script_of(const char *name, size_t *size) {
     FILE *const file = fopen(name, "rb");
     CHECK(file != NULL && fseek(file, 0, SEEK_END) == 0);
@@ -207,7 +257,10 @@ int main(int count, char **names) {
         size_t size;
         char *const script = script_of(names[i], &size);
         struct drawn drawn = drawn_of(script, size);
-        if (drawn.report.refusal > LAST_REFUSAL) {
+        if (!is_same_by_lines(script, &drawn, true) || !is_same_by_lines(script, &drawn, false)) {
+            other++;
+            printf("differs by lines: %s\n", names[i]);
+        } else if (drawn.report.refusal > LAST_REFUSAL) {
             faults++;
         } else if (is_same(script, &drawn)) {
             same++;

@@ -129,6 +129,44 @@ static void refusals(void) {
     yz_list_destroy(list), yz_context_destroy(context), yz_device_destroy(device);
 }
 
+/* ---- lines of a script */
+
+static yz_played played;
+
+/* Plays some lines; whether the last call ended with this result, behind so many lines. */
+static bool plays(yz_device *device, const char *lines, yz_result wanted, size_t count) {
+    const yz_result result = yz_play(device, lines, strlen(lines), &played);
+    return result == wanted && played.lines == count;
+}
+
+static bool answers(const char *line) {
+    return played.answer_size == strlen(line) && memcmp(played.answer, line, played.answer_size) == 0;
+}
+
+/* Contexts and lists stay from call to call, and refused lines leave them as they were. */
+static void lines_stay(void) {
+    yz_device *const device = created();
+    CHECK(plays(device, "d3 clearc 9 8 7 6\n", YZ_OK, 1) && plays(device, "d3 begin 5\nd3 finish 0\n", 12, 1));
+    CHECK(plays(device, "d3 end 5\nd3 finish 1\nd3 end 5\n", YZ_QUERY_NOT_OPEN, 2));
+    CHECK(plays(device, "i exec d4 0 0\n", YZ_NO_SUCH_LIST, 0) && plays(device, "i exec d3 1 0\n", YZ_NO_SUCH_LIST, 0));
+    CHECK(plays(device, "i exec d3 0 1\ni exec d3 0 0\ni pixel 1 2\ni pixel 3 4\n", YZ_OK, 3));
+    CHECK(answers("pixel 1 2 9 8 7 6 16777215 0\n"));
+    CHECK(plays(device, "i begin 1\ni pixel 1 2\n", YZ_QUERY_OPEN, 1) && answers(""));
+    CHECK(yz_device_clear_color(device, 1, 1, 1, 1) == YZ_OK && plays(device, "i end 1\ni query 1\n", YZ_OK, 2));
+    CHECK(answers("query 1 0\n") && plays(device, "i pixel 0 0\n", YZ_OK, 1));
+    CHECK(answers("pixel 0 0 1 1 1 1 16777215 0\n"));
+    yz_device_destroy(device);
+}
+
+static void lines_of_nothing(void) {
+    yz_device *const device = created();
+    CHECK(yz_play(NULL, "", 0, &played) == YZ_NULL_POINTER && yz_play(device, NULL, 1, &played) == YZ_NULL_POINTER);
+    CHECK(yz_play(device, "", 0, NULL) == YZ_NULL_POINTER && yz_play(device, "i", SIZE_MAX, &played) == YZ_BAD_AREA);
+    CHECK(yz_play(device, NULL, 0, &played) == YZ_OK && played.size == 0 && plays(device, "\n", YZ_LINE_FORM, 0));
+    CHECK(strcmp(yz_result_name(YZ_NO_SUCH_LIST), "YZ_NO_SUCH_LIST") == 0);
+    yz_device_destroy(device);
+}
+
 static void results(void) {
     CHECK(strcmp(yz_result_name(YZ_OK), "YZ_OK") == 0 && strcmp(yz_result_name(YZ_BAD_AREA), "YZ_BAD_AREA") == 0);
     CHECK(strcmp(yz_result_name(16), "YZ_UNKNOWN") == 0 && strcmp(yz_result_name(UINT32_MAX), "YZ_UNKNOWN") == 0);
@@ -177,12 +215,31 @@ static bool is_pictured(void) {
     return all;
 }
 
-static void memory(void) {
+/* The same by lines of a script: one that memory is refused for is played once more, and goes on from what was. */
+static bool is_played(void) {
+    static const char script[] =
+        "d2 vb 0 0 0 200 30 40 255 4194304 0 0 200 30 40 255 0 4194304 0 200 30 40 255\nd2 topology 4\nd2 begin 1\n"
+        "d2 draw 3 0\nd2 end 1\nd2 finish 1\nd2 draw 3 0\ni clearc 0 0 9 255\ni exec d2 0 1\ni query 1\n"
+        "d2 finish 0\ni exec d2 1 0\ni pixel 5 5\n";
+    yz_device *device = NULL;
+    bool all = yz_device_create(&DESC, &device) == YZ_OK, counted = false;
+    for (const char *at = script; device != NULL && *at != '\0'; at += played.size) {
+        const yz_result result = yz_play(device, at, strlen(at), &played);
+        all = all && result == YZ_OK;
+        CHECK(result == YZ_OK || (result == YZ_OUT_OF_MEMORY && played.answer_size == 0));
+        counted = counted || answers("query 1 2016\n");
+    }
+    CHECK(device == NULL || (counted && answers("pixel 5 5 200 30 40 255 0 0\n")));
+    yz_device_destroy(device);
+    return all;
+}
+
+static void memory(bool (*draws)(void)) {
     yuzuratchet_use_memory(&(struct yuzuratchet_memory){take, resize, give});
     size_t refusals = 0;
     for (bool done = false; !done; refusals++) {
         asked = 0, refused_at = refusals;
-        const bool all = is_pictured();
+        const bool all = draws();
         done = all && asked <= refused_at; /* some requests are for room that may be done without */
         CHECK(held == 0 && refusals < 1000);
     }
@@ -233,8 +290,11 @@ int main(void) {
     colours();
     depths();
     refusals();
+    lines_stay();
+    lines_of_nothing();
     results();
-    memory();
+    memory(is_pictured);
+    memory(is_played);
     threads();
     return 0;
 }

@@ -9,5 +9,7 @@ mod areas;
 mod kept;
 mod play;
 mod script;
+mod telling;
 
 pub use areas::{Report, Status, draw, sizes};
+pub use telling::{EventTold, HistoryEnd, HistoryReport, history};

@@ -7,15 +7,16 @@
 
 ghost use Rattle.std.specs.Prelude.{◌≡◌};
 ghost use Rattle.yuzuratchet.specs.Areas.{misfit_of};
-ghost use Rattle.yuzuratchet.specs.Telling.{DrewInC, SizedInC, misfit_number};
+ghost use Rattle.yuzuratchet.specs.Telling.{DrewInC, SizedInC, HistoryInC, misfit_number};
 
 mod areas;
 mod report;
 
 use crate::areas::misfit_of;
-use crate::report::told;
+use crate::report::{history_told, told};
 pub use areas::Area;
-pub use report::Report;
+pub use inmemory::EventTold;
+pub use report::{HistoryReport, Report};
 use std::alloc::Global;
 
 /// The version: 10,000 times the first number, 100 times the second and the third.
@@ -54,4 +55,19 @@ pub extern "C" fn yuzuratchet_sizes_fitting(alloc: Global, script: &[u8], report
     ensures { SizedInC script.now report.new }
 {
     *report = told(inmemory::sizes(alloc, script));
+}
+
+/// Tells the history of a pixel of a script into an area that fits.
+#[unsafe(no_mangle)]
+pub extern "C" fn yuzuratchet_history_fitting(
+    alloc: Global,
+    script: &[u8],
+    x: u32,
+    y: u32,
+    events: &mut [EventTold],
+    report: &mut HistoryReport,
+)
+    ensures { HistoryInC script.now x y events.old events.new report.new }
+{
+    *report = history_told(inmemory::history(alloc, script, x, y, events));
 }
