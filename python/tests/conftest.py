@@ -15,7 +15,8 @@ import pytest
 
 import yuzuratchet.program
 from yuzuratchet.cli import main
-from yuzuratchet.errors import ProgramMissing
+from yuzuratchet.errors import LibraryMissing, ProgramMissing
+from yuzuratchet.library import find_library, load_library, tells_histories
 from yuzuratchet.program import CHECKED, Running, find_program
 from yuzuratchet.suite import Expected, parse_expected
 
@@ -76,6 +77,25 @@ def fast_program() -> Path:
     if built is None:
         pytest.skip("the program isn't built")
     return built
+
+
+@pytest.fixture(scope="session")
+def library() -> Path | str:
+    """The built library; a test that wants it is skipped where there is none."""
+    try:
+        found = find_library()
+        load_library(found)
+    except LibraryMissing as error:
+        pytest.skip(str(error).splitlines()[0])
+    return found
+
+
+@pytest.fixture(scope="session")
+def history_library(library: Path | str) -> Path | str:
+    """The same, where it tells the history of a pixel."""
+    if not tells_histories(library):
+        pytest.skip(f"{library} is an older one: it has no history of a pixel")
+    return library
 
 
 @pytest.fixture(scope="session")

@@ -66,6 +66,51 @@ def test_the_gallery_by_calls(name: str) -> None:
     assert np.array_equal(device.image, result.image)
 
 
+@pytest.mark.parametrize("name", [it for it in gallery_names() if not it.startswith(SLOW)])
+def test_the_gallery_by_lines(name: str) -> None:
+    script = (DATA / name).read_bytes()
+    result = Result(run_library(script), script)
+    scene = load_script(DATA / name, strict=False)
+    lines = script.decode().split("\n", 1)[1]
+    if result.refused:
+        with pytest.raises(CallRefused) as refused:
+            device = Device(scene.width, scene.height)
+            list(device.play(lines))
+            device.immediate.flush()
+        assert refused.value.number == result.refused.number
+        if refused.value.line is not None:
+            assert refused.value.line + 1 == result.refused.line
+        return
+    device = Device(scene.width, scene.height)
+    told = [it.count if isinstance(it, QueryAnswer) else it for it in result.answers]
+    assert list(device.play(lines)) == told
+    assert np.array_equal(device.image, result.image)
+
+
+def test_lines_go_on_behind_a_refused_one() -> None:
+    device = Device(8, 4)
+    answers = device.play("d0 clearc 1 2 3 4\nd0 finish 0\ni exec d0 0 1\ni pixel 7 3\ni draw 3\n")
+    assert next(answers) == PixelAnswer(7, 3, (1, 2, 3, 4), 16_777_215, 0)
+    with pytest.raises(CallRefused, match="refusal 105") as refused:
+        next(answers)
+    assert refused.value.line == 5
+    for line, number in (
+        ("i exec d0 1 1\n", 107),
+        ("d1 end 3\n", 10),
+        ("i flush", 101),
+        ("ü\n", 101),
+    ):
+        with pytest.raises(CallRefused, match=f"refusal {number}"):
+            list(device.play(line))
+    assert not list(device.play("d0 clearc 9 9 9 9\nd0 finish 0\ni exec d0 0 1\n"))
+    device.immediate.clear_depth_stencil(7, 5)
+    assert list(device.play("i pixel 0 0\n")) == [PixelAnswer(0, 0, (1, 2, 3, 4), 7, 5)]
+    recorded = Device(8, 4)
+    recorded.record()
+    with pytest.raises(ProgramFailed, match="scene of calls"):
+        list(recorded.play("i flush\n"))
+
+
 def draw(context: Context, immediate: Context) -> None:
     count_overlaps(context)
     for at in (8, 24, 40):

@@ -311,13 +311,15 @@ def test_the_statuses_are_those_of_the_header() -> None:
     assert len({it["text"] for it in statuses.values()}) == len(said)
 
 
-def test_the_report_is_that_of_the_header() -> None:
-    struct = header().split("struct yuzuratchet_report {", 1)[1].split("};", 1)[0]
+@pytest.mark.parametrize("name", ["report", "event", "history_report"])
+def test_structs_are_those_of_the_header(name: str) -> None:
+    struct = header().split(f"struct yuzuratchet_{name} {{", 1)[1].split("};", 1)[0]
     places, at = {}, 0
-    for bits, name in re.findall(r"uint(\d+)_t (\w+);", struct):
-        places[name] = at
-        at += int(bits) // 8
-    assert DEVICE["library"]["report"] == {"size": at, **places}
+    for bits, fields in re.findall(r"uint(\d+)_t ([^;]+);", struct):
+        for field, count in re.findall(r"(\w+)(?:\[(\d+)\])?", fields):
+            places[field] = at
+            at += int(bits) // 8 * int(count or 1)
+    assert DEVICE["library"][name] == {"size": at, **places}
 
 
 def test_the_longest_answer_line() -> None:

@@ -8,15 +8,18 @@ import re
 import time
 from dataclasses import replace
 from pathlib import Path
+from typing import Any
 
 import compare_explained
 import pytest
 import random_scenes
 from conftest import DATA, STAND_IN
 
+import yuzuratchet.explain
 from yuzuratchet import ArgumentError, Scene, ScriptRefused, load_script, read_script
 from yuzuratchet.cli import main
-from yuzuratchet.explain import explain
+from yuzuratchet.errors import YuzuratchetError
+from yuzuratchet.explain import Explainer, explain
 from yuzuratchet.explanation import (
     Content,
     Outcome,
@@ -27,6 +30,7 @@ from yuzuratchet.explanation import (
     table,
     written_text,
 )
+from yuzuratchet.history import history
 from yuzuratchet.labels import Labels
 from yuzuratchet.shapes import draw_triangles, rectangle
 from yuzuratchet.states import (
@@ -42,29 +46,49 @@ from yuzuratchet.states import (
 )
 
 
-def outcomes(scene: Scene, x: int, y: int, program: Path) -> list[Outcome]:
-    return [step.outcome for step in explain(scene, x, y, program=program).steps]
+How = dict[str, Any]
+"""What draws."""
+
+
+@pytest.fixture(params=["by the library's history", "by the program"])
+def how(request: pytest.FixtureRequest) -> How:
+    if "program" in request.param:
+        return {"program": request.getfixturevalue("program")}
+    request.getfixturevalue("history_library")
+    return {}
+
+
+@pytest.fixture
+def fast(how: How) -> How:
+    """The same, without what stands in for the program."""
+    if how.get("program") == STAND_IN:
+        pytest.skip("the program isn't built")
+    return how
+
+
+def outcomes(scene: Scene, x: int, y: int, how: How) -> list[Outcome]:
+    return [step.outcome for step in explain(scene, x, y, **how).steps]
 
 
 def triangle_of(step: Step) -> int | None:
     return step.covering.triangle if step.covering else None
 
 
-def test_random_scenes(program: Path) -> None:
+def test_random_scenes(how: How) -> None:
     """A sample; tools/compare_explained.py looks at as many pixels as one likes."""
     chance, pixels, number = random.Random(3), 0, 0
-    wanted = 10 if program == STAND_IN else 100
+    wanted = 10 if how.get("program") == STAND_IN else 100
     while pixels < wanted:
         scene = random_scenes.random_scene(chance, number, asked=0)
-        found = compare_explained.compare_scene(chance, scene, program)
+        found = compare_explained.compare_scene(chance, scene, how.get("program"))
         number += 1
         pixels += found[0] if found else 0
 
 
-def test_a_list_that_is_executed_round_a_change(program: Path) -> None:
+def test_a_list_that_is_executed_round_a_change(how: How) -> None:
     """Executed three times, and left out once; by the worked row of that name."""
     scene = load_script(DATA / "rows" / "list-executed-round-a-change.txt")
-    found = explain(scene, 0, 0, program=program)
+    found = explain(scene, 0, 0, **how)
     assert [(it.item.number, it.executed_by, it.outcome) for it in found.steps] == [
         (3, 5, Outcome.CLEARED),
         (10, None, Outcome.DRAWN),
@@ -78,24 +102,24 @@ def test_a_list_that_is_executed_round_a_change(program: Path) -> None:
     assert found.content == Content((7, 7, 7, 7), 0, 0)
 
 
-def test_what_refuses(program: Path) -> None:
+def test_what_refuses(how: How) -> None:
     scene = Scene(4, 4)
     context = scene.immediate
     draw_triangles(context, reversed(rectangle(0, 0, 4, 4)))
     context.rs_set_state(RasterizerState(scissor_enable=True))
     context.rs_set_scissor(1, 0, 4, 4)
     draw_triangles(context, rectangle(0, 0, 4, 4, depth=0.5))
-    assert outcomes(scene, 0, 3, program) == [Outcome.CULLED, Outcome.OUTSIDE_SCISSOR]
-    assert outcomes(scene, 1, 3, program) == [Outcome.CULLED, Outcome.DRAWN]
+    assert outcomes(scene, 0, 3, how) == [Outcome.CULLED, Outcome.OUTSIDE_SCISSOR]
+    assert outcomes(scene, 1, 3, how) == [Outcome.CULLED, Outcome.DRAWN]
     context.rs_set_state(RasterizerState(cull_mode=CullMode.NONE))
     draw_triangles(context, rectangle(0, 0, 4, 4, depth=0.6))
-    assert outcomes(scene, 1, 3, program)[-1] is Outcome.DEPTH_FAILED
-    assert outcomes(scene, 0, 3, program)[-1] is Outcome.DRAWN
+    assert outcomes(scene, 1, 3, how)[-1] is Outcome.DEPTH_FAILED
+    assert outcomes(scene, 0, 3, how)[-1] is Outcome.DRAWN
 
 
-def test_strips_and_cuts(program: Path) -> None:
+def test_strips_and_cuts(how: How) -> None:
     text = (DATA / "rows" / "cut-strip.txt").read_bytes()
-    found = explain(read_script(text), 3, 0, program=program)
+    found = explain(read_script(text), 3, 0, **how)
     assert [(triangle_of(it), it.outcome) for it in found.steps] == [(1, Outcome.DRAWN)]
 
 
@@ -113,9 +137,9 @@ def marked_scene() -> Scene:
     return scene
 
 
-def test_the_table(program: Path) -> None:
+def test_the_table(how: How) -> None:
     scene = marked_scene()
-    found = explain(scene, 0, 0, program=program)
+    found = explain(scene, 0, 0, **how)
     assert heading(found) == "pixel (0, 0) holds colour 254 2 252 4, depth 1 (0.0000), stencil 0"
     lines = table(found, scene.labels).splitlines()
     assert [re.split(" {2,}", line.strip()) for line in lines] == [
@@ -136,14 +160,14 @@ def test_the_table(program: Path) -> None:
     ]
 
 
-def test_only_what_changed_it(program: Path) -> None:
-    found = changing(explain(marked_scene(), 0, 0, program=program))
+def test_only_what_changed_it(how: How) -> None:
+    found = changing(explain(marked_scene(), 0, 0, **how))
     assert [it.item.number for it in found.steps] == [2, 10]
 
 
-def test_json(program: Path) -> None:
+def test_json(how: How) -> None:
     scene = marked_scene()
-    told = as_json(explain(scene, 0, 0, program=program), scene.labels)
+    told = as_json(explain(scene, 0, 0, **how), scene.labels)
     assert json.loads(json.dumps(told)) == json.loads(json.dumps(told))
     assert told["opening"] == {"colour": (0, 0, 0, 0), "depth": 16_777_215, "stencil": 0}
     clear, refused, drawn = told["steps"]
@@ -169,9 +193,9 @@ def test_what_is_written_is_named(blend: BlendState, text: str) -> None:
     assert written_text(blend) == text
 
 
-def test_a_table_has_120_columns(program: Path) -> None:
+def test_a_table_has_120_columns(how: How) -> None:
     """Whatever numbers stand in it: a line of six digits, executed by one of six, and a long label."""
-    found = explain(marked_scene(), 0, 0, program=program)
+    found = explain(marked_scene(), 0, 0, **how)
     step = found.steps[-1]
     wide = replace(
         step,
@@ -185,10 +209,39 @@ def test_a_table_has_120_columns(program: Path) -> None:
     assert max(map(len, lines)) <= 120 and any(it.endswith("stencil 255 -> 254") for it in lines)
 
 
-def test_what_is_asked_is_told(program: Path) -> None:
+def test_what_is_asked_is_told(how: How) -> None:
     told: list[str] = []
-    explain(marked_scene(), 0, 0, program=program, told=told.append)
-    assert told[0] == "draws the scene" and len(told) == 4
+    explain(marked_scene(), 0, 0, **how, told=told.append)
+    wanted = "draws 3 steps" if how else "asks for the history of 3 steps"
+    assert told == [wanted]
+
+
+def test_an_older_library_draws_step_by_step(
+    history_library: Path, monkeypatch: pytest.MonkeyPatch
+) -> None:
+    wanted = explain(marked_scene(), 0, 0)
+    monkeypatch.setattr(yuzuratchet.explain, "tells_histories", lambda **_: False)
+    told: list[str] = []
+    found = explain(marked_scene(), 0, 0, told=told.append)
+    assert as_json(found) == as_json(wanted) and told == ["draws 3 steps"]
+
+
+@pytest.mark.parametrize("left", [0, 2])
+def test_a_history_that_has_other_steps_is_told(
+    left: int, history_library: Path, monkeypatch: pytest.MonkeyPatch
+) -> None:
+    monkeypatch.setattr(
+        yuzuratchet.explain, "history", lambda *given, **how: history(*given, **how)[:left]
+    )
+    with pytest.raises(YuzuratchetError, match="has other steps"):
+        explain(marked_scene(), 0, 0)
+
+
+def test_many_pixels_of_a_scene(how: How) -> None:
+    explainer = Explainer(marked_scene(), **how)
+    assert explainer.explain(0, 0) == explainer.explain(0, 0)
+    with pytest.raises(ArgumentError):
+        explainer.explain(1, 0)
 
 
 def test_the_command_tells_it_for_machines_too(
@@ -207,8 +260,8 @@ def test_the_command_tells_it_for_machines_too(
     assert "the list: draw, triangle 1 of 2:" in out and "stencil test" not in out
 
 
-def test_scissors_that_hold_the_pixel_and_that_do_not(program: Path) -> None:
-    """Each rectangle round the pixel is asked of the device."""
+def test_scissors_that_hold_the_pixel_and_that_do_not(how: How) -> None:
+    """Rectangles of three by two pixels, at each place."""
     scene = Scene(8, 8)
     context = scene.immediate
     rectangles = [(left, top, left + 3, top + 2) for left in range(5) for top in range(6)]
@@ -216,13 +269,13 @@ def test_scissors_that_hold_the_pixel_and_that_do_not(program: Path) -> None:
     for rectangle_of in rectangles:
         context.rs_set_scissor(*rectangle_of)
         draw_triangles(context, rectangle(0, 0, 8, 8))
-    found = explain(scene, 4, 3, program=program)
+    found = explain(scene, 4, 3, **how)
     held = [it.outcome is not Outcome.OUTSIDE_SCISSOR for it in found.steps]
     inside = [left <= 4 < right and top <= 3 < bottom for left, top, right, bottom in rectangles]
     assert held == inside and any(held)
 
 
-def test_stencils_at_both_ends(program: Path) -> None:
+def test_stencils_at_both_ends(how: How) -> None:
     """What a test did is told by 1 more or 1 less, which goes round behind 0 and 255."""
     for stencil in (0, 1, 127, 128, 254, 255):
         scene = Scene(1, 1)
@@ -234,10 +287,10 @@ def test_stencils_at_both_ends(program: Path) -> None:
             context.om_set_depth_stencil(state, reference)
             draw_triangles(context, rectangle(0, 0, 1, 1, depth=depth))
         wanted = [Outcome.STENCIL_FAILED, Outcome.DEPTH_FAILED, Outcome.DRAWN]
-        assert outcomes(scene, 0, 0, program)[1:] == wanted
+        assert outcomes(scene, 0, 0, how)[1:] == wanted
 
 
-def test_a_long_list_takes_seconds_at_most(fast_program: Path) -> None:
+def test_a_long_list_takes_seconds_at_most(fast: How) -> None:
     """65,536 triangles on the pixel, each of which changes it or is refused."""
     scene = Scene(4, 4)
     corners = [corner for n in range(65_535 // 3) for corner in rectangle(0, 0, 4, 4, depth=n)[:3]]
@@ -245,29 +298,29 @@ def test_a_long_list_takes_seconds_at_most(fast_program: Path) -> None:
         draw_triangles(context, corners)
         scene.immediate.execute(context.finish_command_list())
     begun = time.process_time()
-    found = explain(scene, 0, 0, program=fast_program)
+    found = explain(scene, 0, 0, **fast)
     assert len(found.steps) == 65_535 and time.process_time() - begun < 30
 
 
-def test_a_pixel_that_nothing_touched(program: Path) -> None:
-    found = explain(Scene(2, 2), 1, 1, program=program)
+def test_a_pixel_that_nothing_touched(how: How) -> None:
+    found = explain(Scene(2, 2), 1, 1, **how)
     assert found.steps == () and found.content == found.opening
 
 
 @pytest.mark.parametrize(("x", "y", "argument"), [(2, 0, "x"), (0, 2, "y"), (-1, 0, "x")])
-def test_pixels_outside(x: int, y: int, argument: str, program: Path) -> None:
+def test_pixels_outside(x: int, y: int, argument: str, how: How) -> None:
     with pytest.raises(ArgumentError) as raised:
-        explain(Scene(2, 2), x, y, program=program)
+        explain(Scene(2, 2), x, y, **how)
     assert raised.value.argument == argument
 
 
-def test_a_refused_scene(program: Path) -> None:
+def test_a_refused_scene(how: How) -> None:
     with pytest.raises(ScriptRefused) as raised:
-        explain(read_script("target 2 2\ni draw 3 0\n"), 0, 0, program=program)
+        explain(read_script("target 2 2\ni draw 3 0\n"), 0, 0, **how)
     assert (raised.value.line, raised.value.number) == (2, 7)
 
 
-def test_more_triangles_than_a_buffer_takes(fast_program: Path) -> None:
+def test_more_triangles_than_a_buffer_takes(fast: How) -> None:
     """Two draws of a strip of 65,000 triangles, of which two cover the pixel."""
     scene = Scene(8, 8)
     for context in scene.deferred[:2]:
@@ -277,7 +330,7 @@ def test_more_triangles_than_a_buffer_takes(fast_program: Path) -> None:
         context.rs_set_state(RasterizerState(cull_mode=CullMode.NONE))
         context.draw(60_006)
         scene.immediate.execute(context.finish_command_list())
-    found = explain(scene, 1, 6, program=fast_program)
+    found = explain(scene, 1, 6, **fast)
     assert [(triangle_of(it), it.executed_by, it.outcome) for it in found.steps] == [
         (10_001, 7, Outcome.DRAWN),
         (10_001, 13, Outcome.DEPTH_FAILED),

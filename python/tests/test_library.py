@@ -24,17 +24,6 @@ TEXT = "target 2 1\ni clearc 1 2 3 4\ni pixel 1 0\n"
 SLOW = ("large", "largest-target")
 
 
-@pytest.fixture(scope="session")
-def library() -> Path | str:
-    """The built library; a test that wants it is skipped where there is none."""
-    try:
-        found = find_library()
-        load_library(found)
-    except LibraryMissing as error:
-        pytest.skip(str(error).splitlines()[0])
-    return found
-
-
 @pytest.fixture
 def nothing_named(monkeypatch: pytest.MonkeyPatch) -> None:
     """An environment that names neither a library nor a program."""

@@ -174,7 +174,7 @@ def test_the_javascript_package_names_files_that_it_has() -> None:
         for name, file in files.items()
         if name.endswith(".js")
         for it in file.data.decode().splitlines()
-        if it.startswith("import ") or it.startswith("} from ")
+        if it.startswith(("import ", "} from ")) and '"node:' not in it
     ]
     assert "package/engine/device.js" in imported and {*imported} <= {*files}
 

@@ -55,6 +55,12 @@ def draw(
     return programs.run_program(script, workers=workers, program=program, seconds=seconds)
 
 
+def tells_histories(*, program: str | Path | None = None, workers: int | None = None) -> bool:
+    """Whether what draws a scene tells the history of its pixels: the library does."""
+    wish = next((name for name, it in (("program", program), ("workers", workers)) if it), None)
+    return chosen(wish, None) == "library" and libraries.tells_histories()
+
+
 def chosen(wish: str | None, library: str | Path | None) -> Backend:
     """The backend that fits, where none is named; ``wish`` is the argument that asks for a process.
 

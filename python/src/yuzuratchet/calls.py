@@ -19,7 +19,18 @@ from __future__ import annotations
 import ctypes
 import threading
 import weakref
-from ctypes import POINTER, byref, c_int, c_int32, c_size_t, c_uint8, c_uint32, c_uint64, c_void_p
+from ctypes import (
+    POINTER,
+    byref,
+    c_char,
+    c_int,
+    c_int32,
+    c_size_t,
+    c_uint8,
+    c_uint32,
+    c_uint64,
+    c_void_p,
+)
 from contextlib import contextmanager
 from functools import lru_cache
 from pathlib import Path
@@ -33,9 +44,9 @@ from .errors import ArgumentError, CallRefused, LibraryMissing, ProgramFailed, W
 from .images import Picture, Pixels, save
 from .library import HOW_TO_BUILD, find_library, load_library
 from .line import Line, Row, whole_numbers
-from .messages import message_of
+from .messages import FAULTS, message_of
 from .planes import Planes
-from .results import PixelAnswer
+from .results import PixelAnswer, QueryAnswer, parse_answer
 from .scene import CommandList, Context, Scene
 from .vertices import Vertex, Vertices, can_be_spelled, vertex_line
 from .words import DEFERRED, IMMEDIATE, TARGET, WORDS
@@ -86,6 +97,15 @@ class _Pixel(ctypes.Structure):
     _fields_ = (("depth", c_uint32), ("colour", c_uint8 * 4), ("stencil", c_uint8))
 
 
+class _Played(ctypes.Structure):
+    _fields_ = (
+        ("size", c_size_t),
+        ("lines", c_size_t),
+        ("answer_size", c_size_t),
+        ("answer", c_char * 176),
+    )
+
+
 _U32: Final = [c_uint32]
 # what the calls take behind their object
 _RECORDING: Final[dict[str, list[Any]]] = {
@@ -130,6 +150,8 @@ def _calls(path: Path | str) -> ctypes.CDLL:
             destroy.argtypes, destroy.restype = [c_void_p], None
         loaded.yz_device_create.argtypes = [POINTER(_DeviceDesc), POINTER(c_void_p)]
         loaded.yz_context_create.argtypes = [POINTER(c_void_p)]
+        setattr(loaded, "yz_device_play", loaded.yz_play)
+        loaded.yz_play.argtypes = [c_void_p, c_void_p, c_size_t, POINTER(_Played)]
     except AttributeError as error:
         raise LibraryMissing(
             f"{path} is older than the calls of a device: {error}\n{HOW_TO_BUILD}"
@@ -163,7 +185,7 @@ def _look_at(result: int, name: str) -> None:
     """Raises where a call was refused."""
     if result == OUT_OF_MEMORY:
         raise MemoryError(name)
-    if result > max(_REFUSALS):
+    if result > max(_REFUSALS) and result not in FAULTS:
         raise ProgramFailed(f"the library refuses {name} with {result}")
     if result:
         raise CallRefused(result, name, message_of(result).when)
@@ -469,6 +491,30 @@ class Device:
         for context in contexts:
             context._recording = recording
         return recording.scene
+
+    def play(self, lines: str) -> Iterator[int | PixelAnswer]:
+        """Plays lines of a script, as they stand behind its target; yields each answer as it comes.
+
+        Its deferred contexts, with the lists that they finish, are others than ``deferred``: the
+        device keeps them for scripts. A line that has a fault or is refused raises
+        :class:`~yuzuratchet.errors.CallRefused` with its ``line``, counted from 1 here, and changes
+        nothing.
+        """
+        if self.immediate._recording is not None:
+            raise ProgramFailed("lines that are played can't be added to a scene of calls")
+        text = ctypes.create_string_buffer(lines.encode())
+        played, at, line = _Played(), 0, 1
+        while at < len(text) - 1:
+            rest = ctypes.addressof(text) + at, len(text) - 1 - at
+            try:
+                self._held.call("play", *rest, byref(played))
+            except CallRefused as error:
+                error.line = line + played.lines
+                raise
+            at, line = at + played.size, line + played.lines
+            if played.answer_size:
+                told = parse_answer(played.answer[: played.answer_size].decode().rstrip())
+                yield told.count if isinstance(told, QueryAnswer) else told
 
     def replay(self, scene: Scene) -> list[int | PixelAnswer]:
         """Makes all calls of a scene, on this device as it is; gives the answers."""

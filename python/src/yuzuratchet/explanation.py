@@ -8,7 +8,7 @@ from itertools import zip_longest
 from textwrap import wrap
 from typing import Any, Final
 
-from .assembly import Triple, triangle_count
+from .assembly import triangle_count
 from .labels import Labels
 from .limits import DEEPEST
 from .recording import Item, Vertex
@@ -87,11 +87,6 @@ class Explanation:
     opening: Content
     steps: tuple[Step, ...]
     content: Content
-
-
-def corners_at(item: Item, places: Triple) -> Corners:
-    """The vertices of a triangle of a draw, the leading one first."""
-    return tuple(item.state.vertices[place + item.base] for place in places)
 
 
 def triangle_count_of(item: Item) -> int:

@@ -1,4 +1,5 @@
-"""Finds the library ``libyuzuratchet.so``, and draws scripts with it, in this process.
+"""Finds the library ``libyuzuratchet.so``, draws scripts with it, and asks it for the history of a
+pixel, in this process.
 
 The calls are those of yuzuratchet.h. A call starts no thread, and lets other threads of Python run.
 """
@@ -7,6 +8,7 @@ from __future__ import annotations
 
 import ctypes
 import ctypes.util
+from dataclasses import dataclass
 from functools import lru_cache
 from pathlib import Path
 from typing import Final
@@ -32,6 +34,15 @@ STATUSES: Final[dict[int, str]] = {it["number"]: it["text"] for it in _STATUSES.
 
 DONE, REFUSED = STATUS["done"], STATUS["refused"]
 TOO_SMALL: Final = (STATUS["lines_too_small"], STATUS["image_too_small"])
+EVENTS_TOO_SMALL, PIXEL_RANGE = STATUS["events_too_small"], STATUS["pixel_range"]
+
+NO_TARGET: Final = (1, 102)
+"""Line and number of the fault of an empty script, since the library takes no empty area."""
+
+HISTORY: Final = "yuzuratchet_history"
+"""The call that tells the history of a pixel, which a library of 0.4.0 may lack."""
+
+EVENT_SIZE: Final[int] = DEVICE["library"]["event"]["size"]
 
 LINE_SIZE: Final[int] = DEVICE["answers"]["longest_line"]
 
@@ -52,6 +63,28 @@ class Report(ctypes.Structure):
         ("refusal", ctypes.c_uint32),
         ("status", ctypes.c_uint32),
     )
+
+
+class HistoryReport(ctypes.Structure):
+    """What is told of a history: ``struct yuzuratchet_history_report``."""
+
+    _fields_ = (
+        ("count", ctypes.c_uint64),
+        ("refused_line", ctypes.c_uint64),
+        ("refusal", ctypes.c_uint32),
+        ("status", ctypes.c_uint32),
+    )
+
+
+@dataclass(frozen=True)
+class HistoryTold:
+    """What the library tells of the history of a pixel: the status, how many events there are, the
+    refused line with the number of its refusal, and the events, :data:`EVENT_SIZE` bytes each."""
+
+    status: int
+    count: int
+    refused: tuple[int, int]
+    events: bytes
 
 
 def find_library(library: str | Path | None = None) -> Path | str:
@@ -99,7 +132,16 @@ def load_library(path: Path | str) -> ctypes.CDLL:
         )
     area = [ctypes.c_void_p, ctypes.c_size_t]
     draw.restype, draw.argtypes = ctypes.c_uint32, [*area, *area, *area, ctypes.POINTER(Report)]
+    history = getattr(loaded, HISTORY, None)
+    if history is not None:
+        pixel, report = [ctypes.c_uint32, ctypes.c_uint32], ctypes.POINTER(HistoryReport)
+        history.restype, history.argtypes = ctypes.c_uint32, [*area, *pixel, *area, report]
     return loaded
+
+
+def tells_histories(library: str | Path | None = None) -> bool:
+    """Whether the library has the history of a pixel; raises as :func:`find_library` does."""
+    return hasattr(load_library(find_library(library)), HISTORY)
 
 
 def run_library(script: bytes, *, library: str | Path | None = None) -> Ran:
@@ -109,8 +151,8 @@ def run_library(script: bytes, *, library: str | Path | None = None) -> Ran:
     :class:`~yuzuratchet.errors.LibraryMissing` and :class:`~yuzuratchet.errors.ProgramFailed`.
     """
     loaded = load_library(find_library(library))
-    if not script:  # (the library takes no empty area; an empty script has this fault)
-        return Ran(REFUSED, "refused 1 102\n", b"")
+    if not script:
+        return Ran(REFUSED, "refused {} {}\n".format(*NO_TARGET), b"")
     lines_size, image_size = LINE_SIZE * (script.count(b"\n") + 2), _image_size(script)
     while True:
         lines, image = ctypes.create_string_buffer(lines_size), ctypes.create_string_buffer(
@@ -129,6 +171,31 @@ def run_library(script: bytes, *, library: str | Path | None = None) -> Ran:
             )
         lines_size = max(lines_size, report.lines_size)
         image_size = max(image_size, report.image_size)
+
+
+def tell_history(
+    script: bytes, x: int, y: int, room: int, *, library: str | Path | None = None
+) -> HistoryTold:
+    """The history of a pixel of a script, into an area with room for so many events, at least 1.
+
+    The status is done, or that a line is refused, that there are more events, of which none is told
+    then, or that the target has no such pixel. Raises
+    :class:`~yuzuratchet.errors.LibraryMissing` and :class:`~yuzuratchet.errors.ProgramFailed`.
+    """
+    found = find_library(library)
+    history = getattr(load_library(found), HISTORY, None)
+    if history is None:
+        raise LibraryMissing(f"{found} is an older one: it has no history of a pixel")
+    if not script:
+        return HistoryTold(REFUSED, 0, NO_TARGET, b"")
+    events, report = ctypes.create_string_buffer(EVENT_SIZE * room), HistoryReport()
+    status = history(script, len(script), x, y, events, room, ctypes.byref(report))
+    if status not in (DONE, REFUSED, EVENTS_TOO_SMALL, PIXEL_RANGE):
+        raise ProgramFailed(
+            f"the library tells no history: {STATUSES.get(status, f'status {status}')}"
+        )
+    told = events.raw[: EVENT_SIZE * report.count] if status == DONE else b""
+    return HistoryTold(status, report.count, (report.refused_line, report.refusal), told)
 
 
 def _image_size(script: bytes) -> int:

@@ -87,6 +87,11 @@ class Line:
             arguments[0] = DEFERRED[self.arguments[0]]
         return " ".join((self.actor, self.word, *arguments))
 
+    def spelled(self, text: str) -> Line:
+        """The same line, of which it is known how it is spelled."""
+        self.__dict__["_text"] = text
+        return self
+
     def named(self) -> dict[str, int]:
         """The arguments by their names, for a word whose arguments don't repeat."""
         named = zip(WORDS[self.word].arguments, self.arguments)

@@ -31,7 +31,7 @@ def parse(text: str | bytes) -> tuple[int, int, list[Line]]:
     width, height = parsed_target(lines[0])
     found, finished = [], Counter[str]()
     for line in lines[1:]:
-        found.append(parsed_line(line, finished))
+        found.append(parsed_line(line, finished).spelled(line.text.decode("ascii")))
         if found[-1].word == "finish":
             finished[found[-1].actor] += 1
     return width, height, found

@@ -52,7 +52,8 @@ class State:
 class Item:
     """A draw or a clear of a list, with the state that it is under.
 
-    ``number`` is that of its line; ``issues`` are the places, in the list's issues, of the queries
+    ``number`` is that of its line, and ``command`` counts the commands of the list from 0; a state
+    that was kept is one of them. ``issues`` are the places, in the list's issues, of the queries
     that are open.
     """
 
@@ -60,6 +61,7 @@ class Item:
     line: Line
     state: State
     issues: tuple[int, ...]
+    command: int
 
     @property
     def places(self) -> Sequence[int]:
@@ -148,9 +150,10 @@ class Recorder:
         self.state = replace(self.state, **kinds)
 
     def _put(self, number: int, line: Line, triangles: int = 0) -> None:
+        command = self.commands
         self._add(line.word, triangles)
         issues = tuple(issue for issue, _ in self.opened.values())
-        self.list.items.append(Item(number, line, self.state, issues))
+        self.list.items.append(Item(number, line, self.state, issues, command))
 
     def _take_vb(self, _: int, line: Line) -> None:
         refuse_vertices(line.arguments)

@@ -24,7 +24,7 @@ from contextlib import contextmanager
 from dataclasses import dataclass, field
 from pathlib import Path
 from types import TracebackType
-from typing import Iterable, Iterator, TypeVar
+from typing import TYPE_CHECKING, Iterable, Iterator, TypeVar
 
 from .errors import ArgumentError, CallRefused, WrongType
 from .labels import Labels
@@ -34,6 +34,9 @@ from .states import BlendState, DepthStencilState, PrimitiveTopology, Rasterizer
 from .units import Colour, Number, rgba, stored_depth
 from .vertices import Vertex, vertex_line, where_outside
 from .words import DEFERRED, IMMEDIATE, TARGET
+
+if TYPE_CHECKING:
+    from .history import Event
 
 
 @dataclass(frozen=True, repr=False)
@@ -307,6 +310,16 @@ class Scene:
         """The script, in its one spelling."""
         lines = [f"{TARGET.name} {self.width} {self.height}", *map(str, self._lines)]
         return "".join(f"{line}\n" for line in lines)
+
+    def history(self, x: int, y: int, *, library: str | Path | None = None) -> list[Event]:
+        """What touched the pixel (x, y), in order, and what each found and left there.
+
+        The library tells it; ``explain`` tells of what covers the pixel and doesn't touch it too.
+        Raises as :func:`yuzuratchet.history.history` does.
+        """
+        from .history import history  # (here, since only this wants the library)
+
+        return history(self.script().encode("ascii"), x, y, library=library)
 
     def save(self, path: str | Path) -> None:
         """Writes the script to a file, and the names of its lines beside it, where it has some."""

@@ -59,6 +59,11 @@ class Unrolled(Session):
         self._asked: list[AskedCount] = []
         self.take_all(scene.lines)
 
+    @property
+    def asks(self) -> bool:
+        """Whether a question was put in."""
+        return bool(self._asked)
+
     def perform(self, number: int, commands: CommandItems, is_list: bool) -> None:
         self.performed.append(Performed(number, commands, is_list))
 
