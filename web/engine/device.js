@@ -30,7 +30,7 @@ import { channels, signed, storedDepth, vertexBytes, whole } from "./units.js";
 
 const CONTEXTS = 8;
 // sizes in bytes, as C has them
-const ADDRESS = 8, COUNT = 8, PIXEL = 12;
+const ADDRESS = 8, COUNT = 8, PIXEL = 12, PLAYED = 3 * COUNT + 176;
 const DEVICE_DESC = 16, RASTER_DESC = 24, DEPTH_STENCIL_DESC = 64, BLEND_DESC = 24;
 
 /** Why a call was refused: `number` is that of yz_result, and `name` its name. */
@@ -454,6 +454,32 @@ export class Device {
             new Uint8Array(made.buffer, made.byteOffset, size).set(bytes);
         });
         return made;
+    }
+
+    /**
+     * Plays lines of a script, as they stand behind its target; yields each answer line as it comes. Its deferred
+     * contexts, with the lists that they finish, are others than `deferred`: the device keeps them for scripts. A line
+     * that has a fault or is refused throws a CallRefused and changes nothing.
+     *
+     * @param {string} lines
+     * @returns {Generator<string, void, void>}
+     */
+    *play(lines) {
+        const { module } = this.held, bytes = new TextEncoder().encode(lines);
+        const area = module.taken(BigInt(PLAYED + bytes.length)), text = area + BigInt(PLAYED);
+        try {
+            module.bytes(text, bytes.length).set(bytes);
+            for (let begin = 0; begin < bytes.length;) {
+                const rest = [text + BigInt(begin), BigInt(bytes.length - begin)];
+                lookAt(module, "play", module.objects.yz_play(this.held.at, ...rest, area));
+                const told = new DataView(module.calls.memory.buffer, Number(area), PLAYED);
+                begin += Number(told.getBigUint64(0, true));
+                const size = Number(told.getBigUint64(2 * COUNT, true));
+                if (size) yield new TextDecoder().decode(module.bytes(area + BigInt(3 * COUNT), size - 1));
+            }
+        } finally {
+            module.calls.free(area);
+        }
     }
 
     /**

@@ -1,34 +1,26 @@
 // Why a pixel is what it is: each clear, and each triangle that covers it, with what became of the pixel.
 //
-// The device itself says it. What a script leaves is the same however its commands are grouped, so another device is
-// asked more: which draws and triangles cover the pixel, and then, with these alone and the lists unrolled under their
-// own state, which of their tests refuses, and what the pixel holds behind each. The package's `explain` asks in the
-// same way.
+// What touched the pixel, and what it found and left there, is the device's history of it. Which triangles cover it and
+// why some of them don't touch it follows from the script's own numbers. The package's `explain` tells the same.
 
-import { ANY_DEPTH, Asking, NO_COLOUR, NO_TESTS } from "./asking.js";
-import { triangles } from "./assembly.js";
-import { PrimitiveTopology } from "./states.js";
+import { Triangles } from "./covering.js";
 
+/** @typedef {import("./covering.js").Covering} Covering */
 /** @typedef {import("./device.js").PixelValue} PixelValue */
 /** @typedef {import("./language.js").Tables} Tables */
+/** @typedef {import("./module.js").Event} Event */
 /** @typedef {import("./player.js").Player} Player */
 /** @typedef {import("./session.js").Item} Item */
 /** @typedef {import("./session.js").Performed} Performed */
-/**
- * @typedef {{item: Item, number: number, of: number, places: number[]}} Candidate a triangle that may cover the pixel
- */
-/**
- * @typedef {{item: Item, number: number, of: number, corners: number[][], depth: number}} Covering a triangle that
- * covers it
- */
-/** @typedef {{performed: Performed, item: Item, covering: Covering | null, isLeftOut: boolean}} Touch */
+/** @typedef {{performed: Performed, item: Item, covering: Covering | null, refusal: keyof typeof OUTCOMES | null}} Stage
+ * a clear, or a triangle that covers the pixel, and why it doesn't touch it, or null where it does */
 
 /**
  * @typedef {object} Step
  * @property {number} line
  * @property {number | null} by the line that executed the list, or null
  * @property {string} word
- * @property {{number: number, of: number, colour: number[], depth: number} | null} triangle null for a clear
+ * @property {Covering | null} triangle null for a clear
  * @property {string} outcome
  * @property {Record<string, string>} states the numbers of the states that the outcome rests on
  * @property {PixelValue} before
@@ -45,14 +37,8 @@ export const OUTCOMES = {
     stencil: "the stencil test fails",
     depth: "the depth test fails",
 };
-const REFUSING = /** @type {const} */ (["culled", "scissor", "stencil", "depth"]);
 const STATES = ["raster", "scissor", "ds", "blend"];
-// that many triangles are asked for at once, and each alone where one of them covers the pixel
-const GROUP = 64;
-const PARTS = 5;
-// count and start of one triangle, and of two
-const ONE = [3, 0], TWO = [6, 0];
-const LIST = String(PrimitiveTopology.TRIANGLELIST);
+const CULL_FRONT = "2", CULL_BACK = "3";
 
 /**
  * Whether two values of a pixel are the same.
@@ -64,311 +50,157 @@ export function same(a, b) {
     return a.depth === b.depth && a.stencil === b.stencil && a.colour.every((channel, at) => channel === b.colour[at]);
 }
 
+/** The steps of any pixel behind the line up to which a player has gone. */
 export class PixelHistory {
     /**
-     * @param {Player} player a device, with nothing pending, behind the line up to which is asked
+     * @param {Player} player a device, with nothing pending
      * @param {Tables} tables
-     * @param {{x: number, y: number}} pixel
      */
-    constructor(player, tables, pixel) {
+    constructor(player, tables) {
         this.player = player;
         this.script = player.script;
         this.tables = tables;
-        this.pixel = pixel;
-        /** @type {Map<number, number[]>} the numbers of lines with vertices */
-        this.vertices = new Map();
+        this.triangles = new Triangles(player.script, tables.limits);
     }
 
     /**
-     * Lends a device that is asked about the pixel.
+     * The steps of a pixel.
      *
-     * @template Result
-     * @param {(asking: Asking) => Result} use
-     * @returns {Result}
-     */
-    asking(use) {
-        const asking = new Asking(this.player.module, this.pixel);
-        try {
-            return use(asking);
-        } finally {
-            asking.dispose();
-        }
-    }
-
-    /**
-     * The steps up to the line.
-     *
-     * @param {(done: number, all: number) => void} [tell] hears how far it is
+     * @param {{x: number, y: number}} pixel
      * @returns {Step[]}
      */
-    steps(tell = () => {}) {
-        const { performed, device } = this.player;
-        const end = device.immediate.pixel(this.pixel.x, this.pixel.y);
-        tell(1, PARTS);
-        const draws = new Set(performed.flatMap(({ list }) => list.items.filter(({ word }) => word.startsWith("draw"))));
-        const covering = this.asking((asking) => {
-            const those = this.covering(asking, draws);
-            tell(2, PARTS);
-            const candidates = this.candidates(asking, those);
-            tell(3, PARTS);
-            return this.measured(asking, candidates);
+    steps({ x, y }) {
+        const stages = [...this.stages({ x, y })];
+        const touching = stages.filter(({ refusal }) => !refusal);
+        const { module, device } = this.player;
+        const events = module.history(this.player.text, { x, y }, touching.length);
+        if (String(events.map(placeOf)) !== String(touching.map(placeAt)))
+            throw new Error("the device's history of the pixel has other steps");
+        const end = { x, y, colour: [0, 0, 0, 0], depth: this.tables.limits.deepest, stencil: 0 };
+        let next = 0;
+        const steps = stages.map((stage) => {
+            const event = stage.refusal ? null : events[next++];
+            const before = { ...end };
+            Object.assign(end, event ? event.after : {});
+            return this.step(stage, event, before, { ...end });
         });
-        tell(4, PARTS);
-        const steps = this.asking((asking) => this.replayed(asking, [...this.touches(performed, covering)]));
-        const content = steps.length ? steps[steps.length - 1].after : end;
-        if (!same(content, end)) throw new Error("drawn step by step, the script ends in another pixel");
+        if (!same(end, device.immediate.pixel(x, y)))
+            throw new Error("the history of the pixel ends otherwise than the device");
         return steps;
     }
 
     /**
-     * The draws of which a triangle covers the pixel.
+     * The clears, and the triangles that cover a pixel, in the order of execution.
      *
-     * @param {Asking} asking
-     * @param {Set<Item>} draws
+     * @param {{x: number, y: number}} pixel
+     * @returns {Generator<Stage>}
      */
-    covering(asking, draws) {
-        asking.states({ raster: "1 0 1", scissor: asking.alone, ds: NO_TESTS, blend: NO_COLOUR });
-        // (those of the same buffers stand together, so that each buffer is set once)
-        const ordered =
-            [...draws].sort((a, b) => a.state.vb - b.state.vb || a.state.ib - b.state.ib || a.line - b.line);
-        return ordered.filter((item) => {
-            asking.copied(this.script, item, item.word === "drawi" ? ["vb", "ib", "topology"] : ["vb", "topology"]);
-            return asking.passes(item.word, this.script.numbers(item.line));
-        });
-    }
-
-    /**
-     * The triangles of a draw, as places of vertices.
-     *
-     * @param {Item} item
-     */
-    trianglesOf(item) {
-        const [count, start, base = 0] = this.script.numbers(item.line);
-        const [topology] = this.script.numbers(item.state.topology);
-        const isIndexed = item.word === "drawi";
-        const places = isIndexed ? this.script.numbers(item.state.ib).slice(start, start + count)
-                                 : Array.from({ length: count }, (_, at) => start + at);
-        const found = triangles(places, topology, isIndexed ? this.tables.limits.strip_cut : null);
-        return found.map((corners) => corners.map((place) => place + base));
-    }
-
-    /**
-     * The triangles of those groups of draws of which one covers the pixel.
-     *
-     * @param {Asking} asking
-     * @param {Item[]} draws
-     * @returns {Candidate[]}
-     */
-    candidates(asking, draws) {
-        const most = Math.floor(this.tables.limits.buffer_length / 3 / GROUP) * GROUP;
-        asking.states({ raster: "1 0 1", scissor: asking.alone, ds: NO_TESTS, blend: NO_COLOUR, topology: LIST });
-        /** @type {Candidate[]} */
-        const found = [];
-        for (const item of draws) {
-            const all =
-                this.trianglesOf(item).map((places, number, { length }) => ({ item, number, of: length, places }));
-            asking.copied(this.script, item, ["vb"]);
-            for (let chunk = 0; chunk < all.length; chunk += most) {
-                const taken = all.slice(chunk, chunk + most);
-                asking.states({ ib: taken.flatMap(({ places }) => places).join(" ") });
-                for (let at = 0; at < taken.length; at += GROUP) {
-                    const group = taken.slice(at, at + GROUP);
-                    if (asking.passes("drawi", [3 * group.length, 3 * at, 0])) found.push(...group);
-                }
-            }
-        }
-        return found;
-    }
-
-    /**
-     * The triangles that cover the pixel, and each's depth there, by their draws.
-     *
-     * @param {Asking} asking
-     * @param {Candidate[]} candidates
-     */
-    measured(asking, candidates) {
-        /** @type {Map<Item, Covering[]>} */
-        const found = new Map(candidates.map(({ item }) => [item, []]));
-        for (const { item, number, of, places } of candidates) {
-            const vertices = this.verticesOf(item.state.vb);
-            const corners = places.map((place) => vertices.slice(7 * place, 7 * place + 7));
-            const raster = rasterAlone(this.statesOf(item).raster, "1");
-            asking.states(
-                { raster, scissor: asking.alone, ds: ANY_DEPTH, blend: NO_COLOUR, vb: corners.flat().join(" ") });
-            if (!asking.passes("draw", ONE)) continue;
-            found.get(item)?.push({ item, number, of, corners, depth: asking.pixel().depth });
-        }
-        return found;
-    }
-
-    /**
-     * The numbers of a line with vertices, which is asked for again.
-     *
-     * @param {number} line
-     */
-    verticesOf(line) {
-        const found = this.vertices.get(line) || this.script.numbers(line);
-        this.vertices.set(line, found);
-        return found;
-    }
-
-    /**
-     * The numbers of the states of an item.
-     *
-     * @param {Item} item
-     * @returns {Record<string, string>}
-     */
-    statesOf(item) {
-        return Object.fromEntries(STATES.map((word) => {
-            const line = item.state[word];
-            return [word, line ? this.script.numbers(line).join(" ") : this.tables.defaults[word]];
-        }));
-    }
-
-    /**
-     * The clears, and the triangles that cover the pixel, in the order of execution.
-     *
-     * @param {Performed[]} performed
-     * @param {Map<Item, Covering[]>} covering
-     * @returns {Generator<Touch>}
-     */
-    * touches(performed, covering) {
-        for (const it of performed) {
-            for (const item of it.list.items) {
-                const found = item.word.startsWith("draw") ? covering.get(item) || [] : [null];
-                const isLeftOut = found.length > 0 && this.player.withholds(it, item);
-                for (const triangle of found) yield { performed: it, item, covering: triangle, isLeftOut };
+    * stages(pixel) {
+        /** @type {Map<Item, (Covering | null)[]>} those of a list that is executed again */
+        const known = new Map();
+        for (const performed of this.player.performed) {
+            for (const item of performed.list.items) {
+                const found = known.get(item) || (item.word.startsWith("draw") ? this.covering(item, pixel) : [null]);
+                known.set(item, found);
+                for (const covering of found)
+                    yield { performed, item, covering, refusal: this.refusal(performed, item, covering, pixel) };
             }
         }
     }
 
     /**
-     * Draws what touches the pixel, step by step, each test alone before it, and asks behind each.
+     * The triangles of a draw that cover a pixel.
      *
-     * @param {Asking} asking
-     * @param {Touch[]} touches
-     * @returns {Step[]}
-     */
-    replayed(asking, touches) {
-        let before = asking.pixel();
-        return touches.map((touch) => {
-            const outcome = touch.isLeftOut ? "leftOut" : this.perform(asking, touch);
-            const step = this.step(touch, outcome, before, asking.pixel());
-            before = step.after;
-            return step;
-        });
-    }
-
-    /**
-     * Performs what touches the pixel, and tells what became of it.
-     *
-     * @param {Asking} asking
-     * @param {Touch} touch
-     * @returns {keyof typeof OUTCOMES}
-     */
-    perform(asking, { item, covering }) {
-        if (!covering) {
-            asking.record(item.word, this.script.numbers(item.line));
-            return "cleared";
-        }
-        const passed = this.askedTests(asking, item, covering);
-        asking.states(this.statesOf(item));
-        asking.record("draw", ONE);
-        return outcomeOf(passed);
-    }
-
-    /**
-     * Asks each test of a triangle alone, at the pixel alone, without writing anything; `drawn` is depth and stencil at
-     * once.
-     *
-     * @param {Asking} asking
      * @param {Item} item
-     * @param {Covering} covering
+     * @param {{x: number, y: number}} pixel
      */
-    askedTests(asking, item, { corners }) {
-        const states = this.statesOf(item);
-        const [cull, , isCut] = states.raster.split(" ");
-        /** @type {Record<string, boolean>} */
-        const passed = {};
-        if (isCut === "1") {
-            asking.states(
-                { raster: "1 0 1", scissor: states.scissor, ds: NO_TESTS, blend: NO_COLOUR, vb: this.square() });
-            passed.scissor = asking.passes("draw", TWO);
-        }
-        const [hasDepth, , comparison, hasStencil, read, , ...rest] = states.ds.split(" ");
-        /** @type {(depth: string, stencil: string) => string} */
-        const tests = (depth, stencil) => [depth, 0, comparison, stencil, read, 0, ...rest].join(" ");
-        asking.states({
-            raster: rasterAlone(states.raster, cull),
-            scissor: asking.alone,
-            blend: NO_COLOUR,
-            vb: corners.flat().join(" ")
-        });
-        const kinds = [["culled", NO_TESTS], ["drawn", tests(hasDepth, hasStencil)]];
-        if (hasStencil === "1") kinds.push(["stencil", tests("0", hasStencil)]);
-        if (hasDepth === "1") kinds.push(["depth", tests(hasDepth, "0")]);
-        for (const [name, ds] of kinds) {
-            asking.states({ ds });
-            passed[name] = asking.passes("draw", ONE);
-        }
-        return passed;
-    }
-
-    /** Two triangles that cover the pixel and nothing else. */
-    square() {
-        const { x, y } = this.pixel;
-        const { subpixels } = this.tables.limits;
-        const corners = [[0, 0], [1, 0], [0, 1], [1, 0], [1, 1], [0, 1]];
-        return corners.map(([right, down]) => `${subpixels * (x + right)} ${subpixels * (y + down)} 0 0 0 0 0`)
-            .join(" ");
+    covering(item, pixel) {
+        const [, front, , bias = "0"] = this.stateOf(item, "raster").split(" ");
+        return this.triangles.on(item, pixel, { isCounterClockwise: front === "1", bias: Number(bias) });
     }
 
     /**
-     * @param {Touch} touch
-     * @param {keyof typeof OUTCOMES} outcome
+     * Why a clear, or a triangle that covers the pixel, doesn't touch it, or null where it does.
+     *
+     * @param {Performed} performed
+     * @param {Item} item
+     * @param {Covering | null} covering
+     * @param {{x: number, y: number}} pixel
+     * @returns {keyof typeof OUTCOMES | null}
+     */
+    refusal(performed, item, covering, { x, y }) {
+        if (this.player.withholds(performed, item)) return "leftOut";
+        if (!covering) return null;
+        const [cull, , isCut] = this.stateOf(item, "raster").split(" ");
+        if (cull === (covering.isFront ? CULL_FRONT : CULL_BACK)) return "culled";
+        const [left, top, right, bottom] = this.stateOf(item, "scissor").split(" ").map(Number);
+        return isCut === "1" && !(left <= x && x < right && top <= y && y < bottom) ? "scissor" : null;
+    }
+
+    /**
+     * The numbers of a state of an item.
+     *
+     * @param {Item} item
+     * @param {string} word
+     */
+    stateOf(item, word) {
+        const line = item.state[word];
+        return line ? this.script.numbers(line).join(" ") : this.tables.defaults[word];
+    }
+
+    /**
+     * A step, by what became of the pixel there.
+     *
+     * @param {Stage} stage
+     * @param {Event | null} event
      * @param {PixelValue} before
      * @param {PixelValue} after
      * @returns {Step}
      */
-    step({ performed, item, covering }, outcome, before, after) {
+    step({ performed, item, covering, refusal }, event, before, after) {
+        const states = Object.fromEntries(STATES.map((word) => [word, this.stateOf(item, word)]));
         const predicate = item.state.predicate ? this.script.numbers(item.state.predicate).join(" ") : "";
         return {
             line: item.line,
             by: performed.by,
             word: item.word,
-            outcome: OUTCOMES[outcome],
+            outcome: OUTCOMES[refusal || outcomeOf(covering, event)],
             before,
             after,
-            triangle: covering && {
-                number: covering.number,
-                of: covering.of,
-                colour: covering.corners[0].slice(3),
-                depth: covering.depth
-            },
-            states: {...this.statesOf(item), predicate },
+            triangle: covering,
+            states: {...states, predicate },
         };
     }
 }
 
 /**
- * The numbers of a rasterizer state with another cull mode, and with the scissor rectangle.
+ * What became of a pixel that a clear or a triangle touched: the first test that failed, if one did.
  *
- * @param {string} numbers
- * @param {string} cull
+ * @param {Covering | null} covering
+ * @param {Event | null} event
+ * @returns {keyof typeof OUTCOMES}
  */
-function rasterAlone(numbers, cull) {
-    const [, front, , ...bias] = numbers.split(" ");
-    return [cull, front, "1", ...bias].join(" ");
+function outcomeOf(covering, event) {
+    if (event && !event.stencilPassed) return "stencil";
+    if (event && !event.depthPassed) return "depth";
+    return covering ? "drawn" : "cleared";
 }
 
 /**
- * What became of a pixel: the first test that let nothing pass, if one did.
+ * Line, command and triangle of an event.
  *
- * @param {Record<string, boolean>} passed
- * @returns {keyof typeof OUTCOMES}
+ * @param {Event} event
  */
-function outcomeOf(passed) {
-    const refusing = REFUSING.find((name) => passed[name] === false);
-    if (!refusing && !passed.drawn) throw new Error("the device passes each test alone, and not all at once");
-    return refusing || "drawn";
+function placeOf({ line, command, triangle }) {
+    return [line, command, triangle];
+}
+
+/**
+ * The same of a stage, as its event names them.
+ *
+ * @param {Stage} stage
+ */
+function placeAt({ performed, item, covering }) {
+    const triangle = covering ? covering.number : 0;
+    return performed.by ? [performed.by, item.command, triangle] : [item.line, 0, triangle];
 }

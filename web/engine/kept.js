@@ -4,8 +4,10 @@
 // is found out on a device that nobody reads meanwhile which lines are taken.
 
 import { CallRefused } from "./device.js";
+import { PixelHistory } from "./history.js";
 import { Player } from "./player.js";
 
+/** @typedef {import("./language.js").Tables} Tables */
 /** @typedef {import("./module.js").Module} Module */
 /** @typedef {import("./module.js").Refused} Refused */
 /** @typedef {import("./script.js").Script} Script */
@@ -41,6 +43,8 @@ export class Kept {
         this.refused = null;
         /** @type {Player | null} */
         this.player = null;
+        /** @type {PixelHistory | null} */
+        this.history = null;
     }
 
     /**
@@ -141,10 +145,22 @@ export class Kept {
         return this.player;
     }
 
+    /**
+     * The histories of pixels behind a line that is taken.
+     *
+     * @param {number} line
+     * @param {Tables} tables
+     */
+    historyBehind(line, tables) {
+        const player = this.behind(line);
+        if (this.history?.player !== player) this.history = new PixelHistory(player, tables);
+        return this.history;
+    }
+
     /** Gives the device back. */
     leave() {
         this.player?.dispose();
-        this.player = null;
+        this.player = this.history = null;
     }
 }
 

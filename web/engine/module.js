@@ -1,4 +1,5 @@
-// The WebAssembly module: its memory, and its call by script behind one function, draw. library/MODULE.md has its calls.
+// The WebAssembly module: its memory, its call by script behind one function, draw, and that of a pixel's history.
+// library/MODULE.md has its calls.
 //
 // The module takes areas of its own memory, by addresses of 64 bits, and tells what it wrote in a report, whose layout
 // and whose statuses are those of yuzuratchet.h. A device by its calls is in device.js.
@@ -20,7 +21,22 @@ const KEPT = 1 << 12;
 /** @typedef {(script: Uint8Array) => Drawn} Draw */
 
 /** @typedef {{number: number, text: string}} Status */
-/** @typedef {{statuses: Record<string, Status>, report: Record<string, number>}} Layout places of a report by names */
+/** @typedef {Record<string, number>} Places places of a struct by names, and its size */
+/**
+ * @typedef {{statuses: Record<string, Status>, report: Places, event: Places, history_report: Places}} Layout
+ */
+/** @typedef {{colour: number[], depth: number, stencil: number}} Content what a pixel holds */
+/**
+ * @typedef {object} Event what a clear or a triangle did to a pixel that it touched
+ * @property {number} item its number among those that ran
+ * @property {number} line that of the immediate context that recorded it, or executed its list
+ * @property {number} command its number in the list, or 0
+ * @property {number} triangle its number in its draw, or 0
+ * @property {boolean} stencilPassed
+ * @property {boolean} depthPassed
+ * @property {Content} before
+ * @property {Content} after
+ */
 
 /**
  * @typedef {object} Calls what the module exports
@@ -29,6 +45,7 @@ const KEPT = 1 << 12;
  * @property {(area: bigint) => void} free
  * @property {(...areas: bigint[]) => number} yuzuratchet_draw
  * @property {(...areas: bigint[]) => number} yuzuratchet_sizes
+ * @property {(script: bigint, size: bigint, x: number, y: number, ...areas: bigint[]) => number} yuzuratchet_history
  * @property {(script: bigint, size: bigint) => bigint} yuzuratchet_lines_bound
  * @property {(script: bigint, size: bigint) => bigint} yuzuratchet_image_bound
  * @property {() => number} yuzuratchet_version
@@ -53,12 +70,13 @@ export class Module {
      * @param {WebAssembly.Instance} instance
      * @param {Layout} layout
      */
-    constructor(instance, { statuses, report }) {
+    constructor(instance, layout) {
         /** @type {Calls} */
         this.calls = /** @type {any} */ (instance.exports);
         this.objects = /** @type {ObjectCalls} */ (/** @type {any} */ (instance.exports));
-        this.statuses = statuses;
-        this.report = report;
+        this.layout = layout;
+        this.statuses = layout.statuses;
+        this.report = layout.report;
         /** @type {bigint} an area that is kept, or 0 */
         this.kept = 0n;
     }
@@ -138,6 +156,31 @@ export class Module {
     }
 
     /**
+     * The history of a pixel of a script that is taken: what touched it, in order.
+     *
+     * @param {Uint8Array} script
+     * @param {{x: number, y: number}} pixel
+     * @param {number} [room] how many events are expected
+     * @returns {Event[]}
+     */
+    history(script, pixel, room = 1) {
+        if (!script.length) throw new Error(this.textOf(this.statuses.refused.number));
+        const { history_report: reported, event } = this.layout, { done, events_too_small: tooSmall } = this.statuses;
+        const most = Math.max(1, room), texts = reported.size + event.size * most;
+        return this.lent(texts + script.length, (report) => {
+            const events = report + BigInt(reported.size), text = report + BigInt(texts);
+            this.bytes(text, script.length).set(script);
+            const status = this.calls.yuzuratchet_history(
+                text, BigInt(script.length), pixel.x, pixel.y, events, BigInt(most), report);
+            const told = new DataView(this.calls.memory.buffer, Number(report), texts);
+            const count = Number(told.getBigUint64(reported.count, true));
+            if (status === tooSmall.number) return this.history(script, pixel, count);
+            if (status !== done.number) throw new Error(`${this.textOf(status)} (${status})`);
+            return Array.from({ length: count }, (_, at) => eventOf(told, reported.size + event.size * at, event));
+        });
+    }
+
+    /**
      * What a status means.
      *
      * @param {number} status
@@ -212,6 +255,39 @@ export class Module {
         const bytes = new Uint8Array(this.calls.memory.buffer, Number(at));
         return textOf(bytes.subarray(0, bytes.indexOf(0)));
     }
+}
+
+/**
+ * An event as the module writes it.
+ *
+ * @param {DataView} told
+ * @param {number} from where it begins
+ * @param {Places} places
+ * @returns {Event}
+ */
+function eventOf(told, from, places) {
+    /** @type {(name: string) => number} */
+    const word = (name) => told.getUint32(from + places[name], true);
+    /** @type {(name: string) => number} */
+    const byte = (name) => told.getUint8(from + places[name]);
+    /** @type {(name: string) => number} */
+    const long = (name) => Number(told.getBigUint64(from + places[name], true));
+    /** @type {(when: string) => Content} */
+    const content = (when) => ({
+        colour: [0, 1, 2, 3].map((channel) => told.getUint8(from + places[`color_${when}`] + channel)),
+        depth: word(`depth_${when}`),
+        stencil: byte(`stencil_${when}`),
+    });
+    return {
+        item: long("item"),
+        line: long("line"),
+        command: word("command"),
+        triangle: word("triangle"),
+        stencilPassed: byte("stencil_passed") === 1,
+        depthPassed: byte("depth_passed") === 1,
+        before: content("before"),
+        after: content("after"),
+    };
 }
 
 /**

@@ -2,6 +2,7 @@
 
 import { Device } from "./device.js";
 import { record } from "./recording.js";
+import { bytesOf } from "./script.js";
 import { Session } from "./session.js";
 import { Plane } from "./states.js";
 
@@ -40,6 +41,17 @@ export class Player {
     /** The last line whose call was made. */
     get line() {
         return this.session.line;
+    }
+
+    /** The lines whose calls were made, and behind them the ends of the queries that are open. */
+    get text() {
+        const { open } = this.session.context("i");
+        const lines = this.script.slice(1, this.line);
+        const ends = bytesOf([...open.keys()].map((query) => `i end ${query}\n`).join(""));
+        const text = new Uint8Array(lines.length + ends.length);
+        text.set(lines);
+        text.set(ends, lines.length);
+        return text;
     }
 
     /**

@@ -9,7 +9,10 @@ const RUNNING = new Set(["flush", "query", "pixel"]);
 
 /** @typedef {import("./script.js").Script} Script */
 /** @typedef {Record<string, number>} State of each kind the line that set it, or 0 where it is the default */
-/** @typedef {{line: number, word: string, state: State}} Item a draw or a clear, with the state that it is under */
+/**
+ * @typedef {{line: number, word: string, state: State, command: number}} Item a draw or a clear, with the state that it
+ * is under, and its number among the commands of its list
+ */
 /**
  * @typedef {{items: Item[], issues: string[], predicates: Set<number>, line: number}} List what is recorded, the
  * queries that it begins, the lines that set the predicates of its items; its last line
@@ -46,11 +49,11 @@ export class Recorder {
      * @param {string} query
      */
     take(line, word, query) {
-        this.commands += 1;
+        const command = this.commands++;
         if (word in DEFAULTS) {
             this.state = { ...this.state, [word]: line };
         } else if (DRAWING.has(word)) {
-            this.items.push({ line, word, state: this.state });
+            this.items.push({ line, word, state: this.state, command });
             if (this.state.predicate) this.predicates.add(this.state.predicate);
         } else if (word === "begin") {
             this.issues.push(query);

@@ -1,11 +1,9 @@
 // The worker: holds the module with its devices, and answers the page's jobs one after the other.
 //
-// A job is {number, kind, bytes, last, ..}; its answer is {number, ..} or {number, error}. What takes long
-// tells {number, done, all} on the way. All is read from a device that stays, and goes on to the line that is asked
-// for.
+// A job is {number, kind, bytes, last, ..}; its answer is {number, milliseconds, ..} or {number, error}. All is read from
+// a device that stays, and goes on to the line that is asked for.
 
 import { difference } from "./difference.js";
-import { PixelHistory } from "./history.js";
 import { Shelf } from "./kept.js";
 import { Module } from "./module.js";
 import { depthPicture, rangeOf, stencilPicture } from "./planes.js";
@@ -19,7 +17,6 @@ import { opaque } from "./targa.js";
 /** @typedef {import("./planes.js").Range} Range */
 /** @typedef {import("./planes.js").Values} Values */
 /** @typedef {import("./targa.js").Picture} Picture */
-/** @typedef {(done: number, all: number) => void} Tell */
 
 /** @typedef {import("./language.js").Tables} Tables */
 
@@ -76,7 +73,7 @@ function known() {
     return tables;
 }
 
-/** @type {Record<string, (job: any, tell: Tell) => object | Promise<object>>} */
+/** @type {Record<string, (job: any) => object | Promise<object>>} */
 const JOBS = {
     async start({ module: bytes, tables: given }) {
         const module = await Module.of(bytes, given.library);
@@ -125,8 +122,8 @@ const JOBS = {
         return { refused, picture: besidePicture(mine, others, what, range), difference: found, isSameSize };
     },
 
-    history({ last, x, y }, tell) {
-        return { steps: new PixelHistory(kept(script).behind(last), known(), { x, y }).steps(tell) };
+    history({ last, x, y }) {
+        return { steps: kept(script).historyBehind(last, known()).steps({ x, y }) };
     },
 };
 
@@ -217,7 +214,7 @@ port.onmessage = async ({ data: job }) => {
             script = new Script(job.bytes);
             serial = job.serial;
         }
-        const answer = await JOBS[job.kind](job, (done, all) => port.postMessage({ number: job.number, done, all }));
+        const answer = await JOBS[job.kind](job);
         port.postMessage(
             {...answer, number: job.number, milliseconds: performance.now() - begun }, transferred(answer));
     } catch (error) {

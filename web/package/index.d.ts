@@ -22,6 +22,32 @@ export interface Drawn {
 /** Draws a script. Fails where the engine has no memories of 64 bits, or no memory is left. */
 export function draw(script: string | Uint8Array): Promise<Drawn>;
 
+/** What a pixel holds: red, green, blue, alpha; the stored depth; the stencil. */
+export interface Content {
+    colour: number[];
+    depth: number;
+    stencil: number;
+}
+
+/** What a clear or a triangle did to a pixel that it touched. */
+export interface Event {
+    /** counts those that ran, from 0 on */
+    item: number;
+    /** the line of the immediate context that recorded it, or executed its list */
+    line: number;
+    /** its command in that list, from 0 on, or 0 */
+    command: number;
+    /** the triangle of its draw, from 0 on; 0 for a clear */
+    triangle: number;
+    stencilPassed: boolean;
+    depthPassed: boolean;
+    before: Content;
+    after: Content;
+}
+
+/** What touched a pixel of a script's target, in order. Fails too where a line is refused, or there is no such pixel. */
+export function history(script: string | Uint8Array, x: number, y: number): Promise<Event[]>;
+
 /**
  * Starts the module, which `draw` and `createDevice` do where they have to; one that lies elsewhere is given by its
  * bytes.

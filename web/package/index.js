@@ -30,6 +30,8 @@ const NO_MEMORY64 =
     "this engine has no WebAssembly memories of 64 bits: Chrome and Edge have them from 133 on, Firefox from 134, " +
     "node from 24, and node 20 to 23 with --experimental-wasm-memory64";
 
+const EXPECTED_EVENTS = 64;
+
 /** @type {Promise<Module> | null} */
 let running = null;
 
@@ -72,10 +74,27 @@ export async function start(module) {
  * @returns {Promise<import("./index.js").Drawn>}
  */
 export async function draw(script) {
-    const { lines, image } = (await ownDevice()).draw(typeof script === "string" ? bytesOf(script) : script);
+    const { lines, image } = (await ownDevice()).draw(bytesOfScript(script));
     const answers = answersOf(lines);
     const refused = refusalOf(answers);
     return { answers, refused, tga: image, picture: refused ? null : decodeTarga(image) };
+}
+
+/**
+ * What touched a pixel of a script's target, in order.
+ *
+ * @param {string | Uint8Array} script
+ * @param {number} x
+ * @param {number} y
+ * @returns {Promise<import("./index.js").Event[]>}
+ */
+export async function history(script, x, y) {
+    return (await ownDevice()).history(bytesOfScript(script), { x, y }, EXPECTED_EVENTS);
+}
+
+/** @param {string | Uint8Array} script */
+function bytesOfScript(script) {
+    return typeof script === "string" ? bytesOf(script) : script;
 }
 
 /**

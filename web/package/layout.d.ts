@@ -1,2 +1,7 @@
-/** Places and numbers of the module's report, which the build writes. */
-export const LAYOUT: { statuses: Record<string, { number: number; text: string }>; report: Record<string, number> };
+/** Places and numbers of what the module tells, which the build writes. */
+export const LAYOUT: {
+    statuses: Record<string, { number: number; text: string }>;
+    report: Record<string, number>;
+    event: Record<string, number>;
+    history_report: Record<string, number>;
+};

@@ -7,7 +7,7 @@ const TELLING = 100;
 /** The kinds of jobs, in the order in which they are taken. */
 const KINDS = ["play", "check", "pixels", "planes", "state", "changed", "beside", "history"];
 
-/** @typedef {{kind: string, seconds: number, done?: number, all?: number}} Work how a job goes on */
+/** @typedef {{kind: string, seconds: number}} Work how a job goes on */
 
 /**
  * @typedef {object} Job
@@ -17,7 +17,7 @@ const KINDS = ["play", "check", "pixels", "planes", "state", "changed", "beside"
  * @property {(error: Error) => void} reject
  */
 
-/** @typedef {Job & {number: number, begun: number, isStale: boolean, done?: number, all?: number}} Running */
+/** @typedef {Job & {number: number, begun: number, isStale: boolean}} Running */
 
 /** Why a job ends that its user has stopped. */
 export const STOPPED = "stopped";
@@ -122,10 +122,6 @@ export class Jobs {
     heard(message) {
         const job = this.running;
         if (!job || message.number !== job.number) return;
-        if (message.all !== undefined && message.done !== undefined) {
-            Object.assign(job, { done: message.done, all: message.all });
-            return;
-        }
         this.running = null;
         this.tell(null);
         if (message.error) job.reject(new Error(message.error));
@@ -178,8 +174,6 @@ export class Jobs {
 
     tellTime() {
         const job = this.running;
-        if (job)
-            this.tell(
-                { kind: job.kind, seconds: (performance.now() - job.begun) / 1000, done: job.done, all: job.all });
+        if (job) this.tell({ kind: job.kind, seconds: (performance.now() - job.begun) / 1000 });
     }
 }

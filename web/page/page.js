@@ -473,9 +473,6 @@ export class Page {
         const isLong = Boolean(work && work.seconds > 0.15 && work.kind !== "start");
         if (part("working").hidden === isLong) part("working").hidden = !isLong;
         if (!work || !isLong) return;
-        const progress = /** @type {HTMLProgressElement} */ (part("progress"));
-        if (work.all) Object.assign(progress, { max: work.all, value: work.done });
-        else progress.removeAttribute("value");
         part("doing").textContent = `${DOING[work.kind]}, ${work.seconds.toFixed(1)} s`;
     }
 

@@ -1,4 +1,6 @@
 // The panel of the pixel: what it holds, and what touched it. All of it is asked of the device.
+//
+// What touched it is asked at once, unless the last answer took long: then when the pointer rests.
 
 import { same } from "../engine/history.js";
 import { Language } from "../engine/language.js";
@@ -19,7 +21,7 @@ import { View } from "./view.js";
  * the text beside it
  */
 
-const REST = 250;
+const REST = 250, LONG = 100;
 const BLOCK = 16;
 /** @type {Record<string, [number, number]>} */
 const MOVES = { ArrowLeft: [-1, 0], ArrowRight: [1, 0], ArrowUp: [0, -1], ArrowDown: [0, 1] };
@@ -51,17 +53,20 @@ export class Pixels {
         this.steps = [];
         this.isSaid = false;
         this.rest = 0;
+        /** so many milliseconds the last answer took to what touched a pixel */
+        this.took = 0;
         field("whole").addEventListener("change", () => this.showSteps());
         view.main.canvas.addEventListener("keydown", (event) => this.pressed(event));
     }
 
     /** Forgets the pixel of a script that is shown no more. */
     leave() {
-        Object.assign(this, { pinned: null, hover: null, asked: null, steps: [] });
+        Object.assign(this, { pinned: null, hover: null, asked: null, steps: [], took: 0 });
         part("pixel").replaceChildren(quietly("Point at the image. A press keeps the pixel; arrow keys move it."));
         part("changes").replaceChildren();
         part("whole-label").hidden = true;
         this.view.mark(null);
+        this.view.trace(null);
     }
 
     /**
@@ -117,7 +122,7 @@ export class Pixels {
     }
 
     /**
-     * Shows what a pixel holds, and when the pointer rests what touched it.
+     * Shows what a pixel holds, and what touched it.
      *
      * @param {Pixel | null} pixel
      */
@@ -125,12 +130,13 @@ export class Pixels {
         clearTimeout(this.rest);
         this.jobs.drop(["history"]);
         this.view.mark(pixel);
+        this.view.trace(null);
         if (!pixel || !this.played.last) return;
         if (!this.asked || pixel.x !== this.asked.x || pixel.y !== this.asked.y) part("changes").replaceChildren();
         this.asked = pixel;
         this.askValue(pixel);
         document.documentElement.dataset.changes = "asked";
-        this.rest = window.setTimeout(() => this.askSteps(pixel), this.pinned ? 0 : REST);
+        this.rest = window.setTimeout(() => this.askSteps(pixel), this.pinned || this.took < LONG ? 0 : REST);
     }
 
     /**
@@ -169,8 +175,8 @@ export class Pixels {
 
     /** @param {Pixel} pixel */
     askSteps({ x, y }) {
-        this.jobs.ask("history", { last: this.played.last, x, y }).then(({ steps }) => {
-            this.steps = steps;
+        this.jobs.ask("history", { last: this.played.last, x, y }).then(({ steps, milliseconds }) => {
+            Object.assign(this, { steps, took: milliseconds });
             this.showSteps();
             document.documentElement.dataset.changes = `${x} ${y}`;
         }, (error) => this.failed(error));
@@ -179,7 +185,8 @@ export class Pixels {
     showSteps() {
         const changing = this.steps.filter(({ before, after }) => !same(before, after));
         part("whole-label").hidden = changing.length === this.steps.length;
-        part("changes").replaceChildren(stepsShown(this.language, this.steps, field("whole").checked, this.hears));
+        const hears = { ...this.hears, onTriangle: (/** @type {number[][] | null} */ it) => this.view.trace(it) };
+        part("changes").replaceChildren(stepsShown(this.language, this.steps, field("whole").checked, hears));
         this.hears.onTouched(changing.flatMap(({ line, by }) => (by ? [line, by] : [line])));
     }
 

@@ -219,9 +219,10 @@ export function pixelSaid({ x, y, colour, depth, stencil }) {
  * @param {Language} language
  * @param {Step[]} steps
  * @param {boolean} isWhole whether what changed nothing is shown too
- * @param {{onLine: OnLine, labelOf: (line: number) => string | null}} lines
+ * @param {{onLine: OnLine, labelOf: (line: number) => string | null, onTriangle: (corners: number[][] | null) => void}}
+ *     hears lines that are gone to, and the triangle of the row that is pointed at, and tells the names of lines
  */
-export function stepsShown(language, steps, isWhole, { onLine, labelOf }) {
+export function stepsShown(language, steps, isWhole, { onLine, labelOf, onTriangle }) {
     const wanted = isWhole ? steps : steps.filter(({ before, after }) => !same(before, after));
     if (!wanted.length) return quietly(steps.length ? "No line changed it." : "No line touched it.");
     const shown = wanted.slice(-MOST_STEPS);
@@ -232,8 +233,12 @@ export function stepsShown(language, steps, isWhole, { onLine, labelOf }) {
     const left = wanted.length - shown.length;
     const more =
         element("tr", {}, element("td", { className: "quiet", colSpan: 6 }, `${counted(left)} more before these`));
+    const pointed = (/** @type {Step} */ { triangle }) => ({
+        onpointerenter: () => onTriangle(triangle && triangle.corners),
+        onpointerleave: () => onTriangle(null),
+    });
     const rows = shown.map(
-        (step) => element("tr", {},
+        (step) => element("tr", pointed(step),
             element("td", {}, lineButton(step.line, onLine), ...(step.by ? [" by ", lineButton(step.by, onLine)] : [])),
             callShown(step, labelOf(step.line)),
             element("td", { className: same(step.before, step.after) ? "words quiet" : "words" },

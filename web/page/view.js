@@ -1,5 +1,5 @@
-// The image, and one beside it: canvases of the targets' size, shown in squares, with a veil over what isn't meant, and
-// a frame round the pixel that is asked for.
+// The image, and one beside it: canvases of the targets' size, shown in squares, with a veil over what isn't meant, a
+// frame round the pixel that is asked for, and the outline of a triangle.
 
 import { element } from "./elements.js";
 
@@ -12,6 +12,7 @@ const ZOOMS =
 const MARGIN = 16;
 const LEAST_FRAME = 5;
 const VEIL = [127, 127, 127, 200];
+const SVG = "http://www.w3.org/2000/svg";
 
 /** A canvas with what lies over it. */
 class Pane {
@@ -21,7 +22,9 @@ class Pane {
         this.canvas = /** @type {HTMLCanvasElement} */ (root.querySelector("canvas"));
         this.veil = element("canvas", { className: "veil", hidden: true });
         this.frame = element("div", { className: "frame", hidden: true });
-        root.append(this.veil, this.frame);
+        this.outline = document.createElementNS(SVG, "svg");
+        this.outline.classList.add("outline");
+        root.append(this.veil, this.outline, this.frame);
         this.size = { width: 0, height: 0 };
     }
 
@@ -58,10 +61,25 @@ class Pane {
      * @param {number} scale
      */
     fit(scale) {
-        for (const canvas of [this.canvas, this.veil]) {
-            canvas.style.width = `${Math.max(1, this.size.width) * scale}px`;
-            canvas.style.height = `${Math.max(1, this.size.height) * scale}px`;
+        for (const { style } of [this.canvas, this.veil, this.outline]) {
+            style.width = `${Math.max(1, this.size.width) * scale}px`;
+            style.height = `${Math.max(1, this.size.height) * scale}px`;
         }
+        this.outline.setAttribute("viewBox", `0 0 ${Math.max(1, this.size.width)} ${Math.max(1, this.size.height)}`);
+    }
+
+    /**
+     * Shows the outline of a triangle by its corners in pixels, or none.
+     *
+     * @param {number[][] | null} corners
+     */
+    trace(corners) {
+        this.outline.replaceChildren(...["dark", "light"].map((name) => {
+            const line = document.createElementNS(SVG, "polygon");
+            line.setAttribute("class", name);
+            line.setAttribute("points", (corners || []).join(" "));
+            return line;
+        }).filter(() => corners));
     }
 
     /**
@@ -245,6 +263,15 @@ export class View {
     mark(pixel) {
         this.marked = pixel;
         for (const pane of [this.main, this.beside]) pane.mark(pixel, this.scale);
+    }
+
+    /**
+     * Shows the outline of a triangle over both images, or none.
+     *
+     * @param {number[][] | null} corners
+     */
+    trace(corners) {
+        for (const pane of [this.main, this.beside]) pane.trace(corners);
     }
 
     /** Brings the marked pixel into view. */

@@ -76,6 +76,29 @@ test("the scripts of the gallery by calls", { skip: missing }, () => {
     assert.ok(all.length > 200, `${all.length} scripts`);
 });
 
+/** What the lines of a script leave behind its first one, as the gallery stores it. */
+function leftByLines(name) {
+    const [target, ...lines] = fs.readFileSync(path.join(GALLERY, "data", name), "utf8").split("\n");
+    const [width, height] = target.split(" ").slice(1).map(Number), answers = [];
+    const device = new Device(module, width, height);
+    for (const answer of device.play(lines.join("\n"))) answers.push(answer);
+    device.immediate.flush();
+    answers.push(imageLine(fileOf(device)));
+    device.dispose();
+    return answers;
+}
+
+test("the scripts of the gallery line by line", { skip: missing }, () => {
+    const drawn = scripts().filter(([, lines]) => !refusalOf(lines.slice(0, -1)));
+    for (const [name, lines] of drawn) assert.deepEqual(leftByLines(name), lines, name);
+    const device = new Device(module, 8, 8);
+    const told = device.play("d0 clearc 1 2 3 4\nd0 finish 0\ni exec d0 0 1\ni pixel 7 3\ni exec d0 1 1\n");
+    assert.equal(told.next().value, "pixel 7 3 1 2 3 4 16777215 0");
+    assert.throws(() => told.next(), { number: 107, name: "YZ_NO_SUCH_LIST" });
+    assert.deepEqual([...device.play("i clearc 5 6 7 8\ni exec d0 0 0\ni pixel 0 0\n")], ["pixel 0 0 1 2 3 4 16777215 0"]);
+    device.dispose();
+});
+
 test("a refused call of the gallery is no end: what follows draws as if it weren't there", { skip: missing }, () => {
     let count = 0;
     for (const [name, lines] of scripts().filter(([, it]) => refusalOf(it.slice(0, -1)))) {
