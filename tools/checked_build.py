@@ -29,7 +29,7 @@ SUM = PROGRAM.with_suffix(".sum")
 ENDED = "run=ended status=0 "
 # `rt try` takes programs alone, and compiles what they reach: so a library is tried as one that calls all of it
 LIBRARY, DEVICE_LIBRARY = "yuzuratchet", "device_calls"
-EXPORTED = ("version", "examine", "draw_fitting", "sizes_fitting")
+EXPORTED = ("version", "examine", "draw_fitting", "sizes_fitting", "history_fitting")
 CALLS_ALL = """
 fn main(rt: HostRuntime) {
     let script = [1u8; 1];
@@ -41,6 +41,12 @@ fn main(rt: HostRuntime) {
     let _ = yuzuratchet_examine(&areas);
     yuzuratchet_draw_fitting(rt.alloc(), &script, &mut lines, &mut image, &mut report);
     yuzuratchet_sizes_fitting(rt.alloc(), &script, &mut report);
+    let mut events = [EventTold {
+        item: 0, line: 0, command: 0, triangle: 0, depth_before: 0, depth_after: 0, color_before: [0; 4],
+        color_after: [0; 4], stencil_before: 0, stencil_after: 0, stencil_passed: 0, depth_passed: 0, passed: 0,
+    }; 1];
+    let mut told = history_told(inmemory::history(rt.alloc(), &script, 0, 0, &mut events));
+    yuzuratchet_history_fitting(rt.alloc(), &script, 0, 0, &mut events, &mut told);
 }
 """
 # a name of a function in the text
@@ -89,6 +95,9 @@ fn main(rt: HostRuntime) {{
     let mut cells = [Cell {{ first: 0, second: 0, third: 0, fourth: 0 }}; 1];
     let mut depths = [0u32; 1];
     let mut stencils = [0u8; 1];
+    let mut player = handles::PlayerHandle::none();
+    let mut told = LineTold {{ taken: 0, answer: 0 }};
+    let mut answer = [0u8; 176];
     let _ = devices::yz_handle_device_create(alloc, &mut device, 1, 1);
     let _ = contexts::yz_handle_context_create(alloc, &mut context);
     {records("device")}
@@ -101,6 +110,9 @@ fn main(rt: HostRuntime) {{
     let _ = rows::yz_handle_device_read_colors(alloc, &mut device, 0, 0, true, &mut cells);
     let _ = rows::yz_handle_device_read_depths(alloc, &mut device, 0, 0, &mut depths);
     let _ = rows::yz_handle_device_read_stencils(alloc, &mut device, 0, 0, &mut stencils);
+    let _ = playing::yz_handle_player_create(alloc, &mut player);
+    let _ = playing::yz_handle_play_line(alloc, &mut player, &mut device, b"i pixel 0 0\\n", &mut told, &mut answer);
+    playing::yz_handle_player_destroy(alloc, &mut player);
     contexts::yz_handle_list_destroy(alloc, &mut list);
     contexts::yz_handle_context_destroy(alloc, &mut context);
     devices::yz_handle_device_destroy(alloc, &mut device);

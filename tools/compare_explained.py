@@ -23,12 +23,15 @@ import plain_device
 import random_scenes
 from plain_device import Triangle
 from yuzuratchet import Scene, YuzuratchetError
-from yuzuratchet.arguments import whole_number
 from yuzuratchet.ending import ended
 from yuzuratchet.errors import CallRefused
-from yuzuratchet.explain import explain
 from yuzuratchet.explanation import Explanation, Outcome
 from yuzuratchet.recording import CommandItems, Item, State
+
+try:
+    from yuzuratchet.explain import Explainer
+except ModuleNotFoundError as missing:
+    sys.exit(f"compare_explained.py: {missing.name} is missing (Debian: python3-numpy)")
 
 PIXELS_OF_A_SCENE = 5
 
@@ -118,9 +121,9 @@ def compare_scene(chance: random.Random, scene: Scene, program: str | pathlib.Pa
         traced = Traced(scene, pixels)
     except CallRefused:
         return None
-    steps = 0
+    steps, explainer = 0, Explainer(scene, program=program)
     for pixel in pixels:
-        found = told(explain(scene, *pixel, program=program))
+        found = told(explainer.explain(*pixel))
         steps += len(found)
         if found != traced.steps[pixel]:
             pathlib.Path("differs.txt").write_text(scene.script(), encoding="ascii")
@@ -140,12 +143,8 @@ def compare(given: argparse.Namespace) -> None:
 
 
 def main() -> None:
-    parser = argparse.ArgumentParser(description=__doc__, formatter_class=argparse.RawDescriptionHelpFormatter)
-    parser.add_argument(
-        "pixels", metavar="PIXELS", nargs="?", type=whole_number(1), default=100, help="how many at least (100)"
-    )
-    parser.add_argument("seed", metavar="SEED", nargs="?", type=int, default=1, help="of the random numbers (1)")
-    parser.add_argument("--program", metavar="FILE", help="the built program, if it isn't this clone's")
+    parser = random_scenes.parser_of_pixels(__doc__)
+    parser.add_argument("--program", metavar="FILE", help="a built program, in place of the library's histories")
     given = parser.parse_args()
     try:
         compare(given)

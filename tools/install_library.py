@@ -58,7 +58,7 @@ CHECKED = "-DYZ_CHECKED"
 # the proved code is compiled for each of these processors; library/chosen.c chooses between these functions, and
 # library/chosen_device.c between all of the crate device_calls
 PROCESSORS = {"v2": "x86-64-v2", "v3": "x86-64-v3"}
-CHOSEN = ("yuzuratchet_draw_fitting", "yuzuratchet_sizes_fitting")
+CHOSEN = ("yuzuratchet_draw_fitting", "yuzuratchet_sizes_fitting", "yuzuratchet_history_fitting")
 ALONE = ("yuzuratchet_examine", "yuzuratchet_version")
 Builds = Mapping[str, pathlib.Path]
 FLAGS = ("-std=c11", "-O2", "-fPIC", "-Wall", "-Wextra", "-Werror")

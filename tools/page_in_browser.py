@@ -231,12 +231,33 @@ class PlayingTests(PageInBrowser):
         check(refused == ["the stencil test fails: 0 EQUAL 1"], f"{refused}")
         title = self.browser.value("Array.from(document.querySelectorAll('#changes td.words[title]')).at(-1).title")
         check(title == "its colour is 150 170 150 255, and its depth there 8504723", title)
+        self.triangle_of_a_row()
         self.tick("whole", False)
         self.choose("eight-contexts")
         self.browser.press(*self.place(100, 100))
         self.wait_for_steps(100, 100)
         lines = [row[0] for row in self.rows("#changes tbody tr")]
         check(any(" by " in it for it in lines), f"no line of a list is named: {lines}")
+
+    def triangle_of_a_row(self) -> None:
+        """A row that is pointed at shows its triangle over the image, as large as that is there."""
+        row = "document.querySelectorAll('#changes tbody tr')[2]"
+        count = "document.querySelectorAll('#pane .outline polygon').length"
+        check(self.browser.value(count) == 0, "a triangle is shown before")
+        self.browser.value(f"{row}.scrollIntoView({{ block: 'nearest' }})")
+        box = self.browser.value(f"(({{ left, top }}) => [left, top])({row}.getBoundingClientRect())")
+        self.browser.move(box[0] + 40, box[1] + 4)
+        self.browser.wait(f"{count} === 2")
+        points = self.browser.value("document.querySelector('#pane .outline polygon').getAttribute('points')")
+        corners = [tuple(map(float, it.split(","))) for it in points.split()]
+        check(len(corners) == 3, points)
+        places = (
+            "(({ x, y, width, height }) => [x, y, width, height])(document.querySelector('%s').getBoundingClientRect())"
+        )
+        outline, canvas = (self.browser.value(places % it) for it in ("#pane .outline", "#canvas"))
+        check(outline == canvas, f"{outline}, and the image is at {canvas}")
+        self.browser.move(2, 2)
+        self.browser.wait(f"{count} === 0")
 
     def keys(self) -> None:
         """Arrow keys move the pixel, and say it; + and - zoom, and the buttons go from line to line."""

@@ -9,6 +9,8 @@
 //     slider      its name, where a device that stays has behind each line what is drawn of the lines up to there
 //     history     how many lines changed some pixels, which it asks in two ways
 //     steps       the history of four pixels, as JSON
+//     pointed     how many milliseconds of a processor the history of a pixel takes, of twenty the one in the middle
+//                 and the slowest
 //     memory      its name, where 200 drawings more, and a device that goes forth and back, take no more memory
 //     blamed      the line and the number that are told, and which letters of the line are to blame, as JSON
 
@@ -17,7 +19,7 @@ import path from "path";
 import { createHash } from "crypto";
 
 import { blame } from "../web/engine/blame.js";
-import { PixelHistory, same } from "../web/engine/history.js";
+import { same } from "../web/engine/history.js";
 import { Kept } from "../web/engine/kept.js";
 import { Language } from "../web/engine/language.js";
 import { Module, answersOf, refusalOf } from "../web/engine/module.js";
@@ -64,11 +66,6 @@ function slider(device, name, bytes) {
     console.log(name);
 }
 
-/** The steps of a pixel. */
-function stepsOf(player, pixel) {
-    return new PixelHistory(player, tables, pixel).steps();
-}
-
 /**
  * Compares the lines that a pixel's history tells with those behind which the pixel holds something else than before,
  * and what it holds at the end with the planes of a device that its calls draw on.
@@ -83,7 +80,7 @@ function history(device, name, bytes) {
     for (let at = 0; at < 12; at++) {
         const pixel = { x: (at * 7919 + 3) % width, y: (at * 104729 + 5) % height };
         const held = Array.from({ length: script.count }, (_, line) => pixelBehind(device, script, line + 1, pixel));
-        const steps = stepsOf(player, pixel);
+        const steps = kept.historyBehind(script.count, tables).steps(pixel);
         const plain =
             held.map((_, line) => line + 1).filter((line) => line > 1 && !same(held[line - 1], held[line - 2]));
         const told = steps.filter(({ before, after }) => !same(before, after));
@@ -113,7 +110,7 @@ function steps(device, name, bytes) {
     const { width, height } = refused ? { width: 1, height: 1 } : player.device;
     const found = Array.from({ length: refused ? 0 : 4 }, (_, at) => {
         const [x, y] = [(at * 7919 + 11) % width, (at * 104729 + 2) % height];
-        const told = stepsOf(player, { x, y })
+        const told = kept.historyBehind(kept.script.count, tables).steps({ x, y })
                          .map(({ line, by, triangle, outcome, after }) => [line, by, triangle && triangle.number,
                                   triangle && triangle.depth, outcome, [...after.colour, after.depth, after.stencil]]);
         return [x, y, told];
@@ -122,13 +119,33 @@ function steps(device, name, bytes) {
     console.log(JSON.stringify(found));
 }
 
+/** Milliseconds of a processor that this process has taken. */
+function processorTime() {
+    const { user, system } = process.cpuUsage();
+    return (user + system) / 1000;
+}
+
+/** Prints how long a pixel's history takes where the device is there already. */
+function pointed(device, name, bytes) {
+    const kept = new Kept(device, new Script(bytes)), { count } = kept.script;
+    const { width, height } = kept.play(count).player.device;
+    const times = Array.from({ length: 21 }, (_, at) => {
+        const begun = processorTime();
+        kept.historyBehind(count, tables).steps({ x: (at * 7919 + 11) % width, y: (at * 104729 + 2) % height });
+        return processorTime() - begun;
+    }).slice(1);
+    times.sort((one, other) => one - other);
+    kept.leave();
+    console.log(`${times[times.length >> 1].toFixed(1)} ${times[times.length - 1].toFixed(1)}`);
+}
+
 /** Lets a device that stays go to each line, and asks behind it what touched a pixel. */
 function forthAndBack(device, bytes) {
     const kept = new Kept(device, new Script(bytes));
     for (const step of [1, 7, 3]) {
         for (let at = 0; at < kept.script.count; at++) {
-            const { player } = kept.play(at * step % kept.script.count + 1);
-            if (at % 5 === 0) stepsOf(player, { x: 1, y: 1 });
+            const { shown } = kept.play(at * step % kept.script.count + 1);
+            if (at % 5 === 0) kept.historyBehind(shown, tables).steps({ x: 1, y: 1 });
         }
     }
     kept.leave();
@@ -159,5 +176,5 @@ function blamed(device, name, bytes) {
 
 const device = await Module.of(fs.readFileSync(module), tables.library);
 for (const name of names)
-    ({ gallery, calls, slider, history, steps, memory, blamed })[task](
+    ({ gallery, calls, slider, history, steps, pointed, memory, blamed })[task](
         device, name, new Uint8Array(fs.readFileSync(path.join(folder, name))));

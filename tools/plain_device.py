@@ -7,15 +7,15 @@ It answers what the program answers: the answer lines, with the `refused` line w
 is refused, and the image, which is empty then. It shares nothing with the program: cover is told by the sign of each
 edge against the opposite vertex, depth by one exact division a pixel, state by copies of settings, an issue's count
 by adding one at each pixel where both tests pass. Lines are read, and refusals decided, by the package in python/. It
-is slow. `--workers N` is taken and changes nothing, so that it can stand in for the program. `history` tells what
-touched one pixel.
+is slow. `--workers N` is taken and changes nothing, so that it can stand in for the program. `histories` tells what
+touched some pixels.
 """
 
 from __future__ import annotations
 
 import argparse
 import sys
-from collections.abc import Callable, Sequence
+from collections.abc import Callable, Iterable, Sequence
 from dataclasses import dataclass
 
 import package_path  # noqa: F401
@@ -32,6 +32,8 @@ from yuzuratchet.states import BlendState, RasterizerState
 Place = tuple[int, int]
 Colour = tuple[int, ...]
 Held = tuple[Colour, int, int]
+# whether the stencil test passes, and whether the depth test does
+Tests = tuple[bool, bool]
 
 
 # ---- the rasterizer
@@ -136,7 +138,7 @@ def logic(operation: int, s: int, d: int) -> int:
     return sum(int(LOGIC[operation][2 * (s >> bit & 1) + (d >> bit & 1)]) << bit for bit in range(8))
 
 
-def tested(state: State, front: bool, depth: int, old_depth: int, old_stencil: int) -> tuple[bool, bool]:
+def tested(state: State, front: bool, depth: int, old_depth: int, old_stencil: int) -> Tests:
     """Whether the stencil test passes, and whether the depth test does."""
     tests, reference = state.depth_stencil, state.stencil_ref
     face, read = tests.front_face if front else tests.back_face, tests.stencil_read_mask
@@ -266,13 +268,14 @@ class PlainSession(Session):
 class Event:
     """What an item did to a pixel that it touched. An item is a clear, or a triangle of a draw, drawn or not.
 
-    ``item`` counts those that are performed, in the order of execution, from 0 on; ``line`` is that of the call, and
-    ``executed_by`` the line that executed its list; ``triangle`` counts those of the draw, and is 0 for a clear.
+    ``item`` counts those that are performed, in the order of execution, from 0 on. ``line`` is that of the immediate
+    context that recorded it, or executed its list, of which ``command`` is its command then, from 0 on; else that is 0.
+    ``triangle`` counts those of the draw, and is 0 for a clear.
     """
 
     item: int
     line: int
-    executed_by: int | None
+    command: int
     triangle: int
     stencil_passed: bool
     depth_passed: bool
@@ -280,14 +283,13 @@ class Event:
     after: Held
 
 
-class PixelHistory(PlainSession):
-    """A plain session that gathers what touches one pixel, while it draws the whole target."""
+class Histories(PlainSession):
+    """A plain session that gathers what touches some pixels, while it draws the whole target."""
 
-    def __init__(self, width: int, height: int, x: int, y: int) -> None:
+    def __init__(self, width: int, height: int, places: Iterable[Place]) -> None:
         super().__init__(width, height)
-        self.place = x, y
+        self.events: dict[Place, list[Event]] = {place: [] for place in places}
         self.items = 0
-        self.events: list[Event] = []
         self.executed_by: int | None = None
 
     def perform(self, number: int, commands: CommandItems, is_list: bool) -> None:
@@ -296,41 +298,49 @@ class PixelHistory(PlainSession):
 
     def perform_item(self, item: Item) -> int:
         if item.line.word.startswith("clear"):
-            before = self.target.pixel(*self.place)
+            cleared = {place: ((True, True), self.target.pixel(*place)) for place in self.events}
             super().perform_item(item)
-            self.add(item, 0, (True, True), before)
+            self.note(item, 0, cleared)
             return 0
         passed = 0
         for number, triangle in enumerate(triangles_of(item)):
-            before, tests = self.target.pixel(*self.place), self.tests(item.state, triangle)
+            found = {place: self.tests(item.state, triangle, place) for place in self.events}
+            touched = {place: (tests, self.target.pixel(*place)) for place, tests in found.items() if tests}
             passed += self.target.draw(triangle, item.state)
-            self.add(item, number, tests, before)
+            self.note(item, number, touched)
         return passed
 
-    def tests(self, state: State, triangle: Triangle) -> tuple[bool, bool] | None:
-        """Whether the stencil and the depth test pass at the pixel; None where the triangle doesn't reach it."""
-        if triangle.is_culled(state.rasterizer) or is_cut(state, *self.place):
+    def tests(self, state: State, triangle: Triangle, place: Place) -> Tests | None:
+        """Whether the stencil and the depth test pass at a pixel; None where the triangle doesn't reach it."""
+        if triangle.is_culled(state.rasterizer) or is_cut(state, *place):
             return None
-        weights = triangle.weights(*self.place)
+        weights = triangle.weights(*place)
         if weights is None:
             return None
-        _, depth, stencil = self.target.pixel(*self.place)
+        _, depth, stencil = self.target.pixel(*place)
         return tested(state, triangle.is_front(state.rasterizer), triangle.depth(weights), depth, stencil)
 
-    def add(self, item: Item, triangle: int, tests: tuple[bool, bool] | None, before: Held) -> None:
-        """Counts an item, and adds its event where it touched the pixel."""
-        if tests is not None:
-            after = self.target.pixel(*self.place)
-            self.events.append(Event(self.items, item.number, self.executed_by, triangle, *tests, before, after))
+    def note(self, item: Item, triangle: int, touched: dict[Place, tuple[Tests, Held]]) -> None:
+        """Counts an item that was performed, and adds an event to each pixel that it touched."""
+        by = self.executed_by
+        line, command = (item.number, 0) if by is None else (by, item.command)
+        for place, (tests, before) in touched.items():
+            after = self.target.pixel(*place)
+            self.events[place].append(Event(self.items, line, command, triangle, *tests, before, after))
         self.items += 1
 
 
-def history(text: str | bytes, x: int, y: int) -> list[Event]:
-    """What touched a pixel of a script's target, in order. Raises what `parse` and `Session` raise."""
+def histories(text: str | bytes, places: Iterable[Place]) -> dict[Place, list[Event]]:
+    """What touched some pixels of a script's target, in order. Raises what `parse` and `Session` raise."""
     width, height, lines = parse(text)
-    session = PixelHistory(width, height, x, y)
+    session = Histories(width, height, places)
     session.take_all(lines)
     return session.events
+
+
+def history(text: str | bytes, x: int, y: int) -> list[Event]:
+    """The same of one pixel."""
+    return histories(text, [(x, y)])[x, y]
 
 
 # ---- a script

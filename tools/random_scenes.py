@@ -14,11 +14,13 @@ four kinds of scenes:
 
 from __future__ import annotations
 
+import argparse
 from collections.abc import Sequence
 from random import Random
 
 import package_path  # noqa: F401
 from yuzuratchet import Scene
+from yuzuratchet.arguments import whole_number
 from yuzuratchet.limits import DEEPEST, FARTHEST, FARTHEST_PIXEL, STRIP_CUT, SUBPIXELS, TARGET_SIDE
 
 QUERIES = range(4)
@@ -286,3 +288,13 @@ def random_scene(chance: Random, number: int, asked: int = 20, kinds: Sequence[s
     for _ in range(asked):
         scene.immediate.pixel(chance.randrange(scene.width), chance.randrange(scene.height))
     return scene
+
+
+def parser_of_pixels(about: str | None) -> argparse.ArgumentParser:
+    """What reads the words of a tool that looks at pixels of random scenes: how many, and a seed."""
+    parser = argparse.ArgumentParser(description=about, formatter_class=argparse.RawDescriptionHelpFormatter)
+    parser.add_argument(
+        "pixels", metavar="PIXELS", nargs="?", type=whole_number(1), default=100, help="how many at least (100)"
+    )
+    parser.add_argument("seed", metavar="SEED", nargs="?", type=int, default=1, help="of the random numbers (1)")
+    return parser

@@ -1,8 +1,8 @@
 #!/bin/sh
 # All tests: what looks over sources and pages, the package's tests, then the gate, which takes every proof, wrong body,
 # test and stored run from nothing, and then what stands above it, over what it built: the C library, Python over it,
-# the page, the package once more, the files of a release, short comparisons of `check`, of `explain` and of calls with
-# the device, and other devices beside it.
+# the page, the package once more, the files of a release, short comparisons of `check`, of `explain`, of pixels'
+# histories and of calls with the device, and other devices beside it.
 #
 # The last line is the gate's. The line before it names what failed, and what was skipped for want of a program. The
 # status is the gate's where that isn't 0, and else 1 where another part failed.
@@ -40,14 +40,16 @@ package_again() {
     fi
 }
 
-# calls, by the environment of the package's tests, where there are numpy and the library
-calls() (
-    name=calls
+# by_library TOOL WORD ..: a comparison with the library, by the environment of the package's tests, which has numpy
+by_library() (
+    name=$1
+    shift
     # shellcheck source=python/environment.sh
     . python/environment.sh
     python=$cache/environment/bin/python
-    [ -x "$python" ] || { echo "skipped calls: the environment of the package's tests isn't kept" && return; }
-    YUZURATCHET_LIBRARY=$room/prefix/lib/libyuzuratchet.so "$python" -B tools/compare_calls.py 400
+    [ -e "$room/prefix/lib/libyuzuratchet.so" ] || { echo "skipped $name: the library isn't built" && return; }
+    [ -x "$python" ] || { echo "skipped $name: the environment of the package's tests isn't kept" && return; }
+    YUZURATCHET_LIBRARY=$room/prefix/lib/libyuzuratchet.so "$python" -B "tools/$name.py" "$@"
 )
 
 # get_for_release PACKAGE ..: what a release is built and tested by, from Debian's packages
@@ -74,7 +76,7 @@ release() {
 # what was skipped, a line each
 skipped() {
     sed -n 's/^lint: .*; skipped: //p' "$room/lint"
-    for run in library release calls devices; do
+    for run in library release explained histories calls devices; do
         [ ! -e "$room/$run" ] || sed -n 's/^skipped //p' "$room/$run"
     done
     for run in package-again package; do
@@ -104,11 +106,12 @@ if [ -x crates/tiledraw/out/tiledraw ]; then
     part package-again package_again
     [ "$gate" -ne 0 ] || part release release
     part checked tools/compare_checked.py 1000
-    part explained tools/compare_explained.py 100
-    [ ! -e "$room/prefix/lib/libyuzuratchet.so" ] || part calls calls
+    part explained by_library compare_explained 100
+    part histories by_library compare_histories 100
+    part calls by_library compare_calls 400
     part devices tools/test_devices.py
 else
-    failed="$failed${failed:+, }program (so the package's tests, compare_checked, compare_explained, compare_calls and test_devices weren't run over it)"
+    failed="$failed${failed:+, }program (so the package's tests, the comparisons and test_devices weren't run over it)"
 fi
 
 printf '\nfailed: %s; skipped: %s\n' "${failed:-nothing}" "$(skipped | joined)"

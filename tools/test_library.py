@@ -542,6 +542,7 @@ def test_compiler(results: Results, tests: LibraryTests, compiler: str) -> bool:
     for kind in ("", "-shared", "-sanitized"):
         results.test(f"{compiler} refusals{kind}", tests.refusals, compiler, kind)
         results.test(f"{compiler} bounds{kind}", tests.ends_well, f"{compiler}-bounds{kind}")
+        results.test(f"{compiler} history{kind}", tests.ends_well, f"{compiler}-history{kind}")
         results.test(f"{compiler} threads{kind}", tests.ends_well, f"{compiler}-threads{kind}")
         results.test(f"{compiler} memory{kind}", tests.memory, compiler, [FIRST], kind)
         results.test(f"{compiler} edges of calls{kind}", tests.ends_well, f"{compiler}-device_edges{kind}")

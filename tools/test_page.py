@@ -20,6 +20,7 @@ from __future__ import annotations
 import argparse
 import functools
 import http.server
+import importlib.util
 import json
 import os
 import pathlib
@@ -46,7 +47,6 @@ from yuzuratchet import Scene, YuzuratchetError, __version__, load_script, page
 from yuzuratchet.backends import draw
 from yuzuratchet.check import located
 from yuzuratchet.ending import ended
-from yuzuratchet.explain import explain
 from yuzuratchet.labels import Labels
 
 TOP = package_path.TOP
@@ -72,9 +72,30 @@ ASKED_BY_LINES = [
 # scenes in which it is asked in two ways what touched a pixel, and changed scripts whose faulty letters are asked for
 RANDOM_SCENES, CHANGED_SCRIPTS = 40, 300
 SCENES_BY_CALLS, SCENES_ON_SLIDER = 500, 200
-# what the package's examples print, as those in C and in Python do: of a cube its first three frames
+# milliseconds of a processor in which what touched a pixel has to be told
+POINTED = 50
+# what the package's examples print, the first two as those in C and in Python do: of a cube its first three frames
 CUBE = ["26122 pixels", "26154 pixels", "26079 pixels"]
+TOUCHED = [
+    "2: 24 24 40 255, depth 16777215, stencil 0",
+    "5, triangle 1: 60 68 60 255, depth 8504723, stencil 0",
+    "10, triangle 16: 60 68 60 255, depth 8504723, stencil 1",
+    "10, triangle 20: 60 68 60 255, depth 8504723, stencil 1",
+    "16, triangle 1: 60 68 60 255, depth 8504723, stencil 1",
+]
 RECORDERS = ["refused with 7", "4096 pixels", *7 * ["1792 pixels"]]
+IN_NODE_ALONE = (
+    "units",
+    "gallery",
+    "examples",
+    "calls",
+    "slider",
+    "memory",
+    "history",
+    "pointed",
+    "explained",
+    "blamed",
+)
 IN_CHROMIUM = (
     "answers",
     "menu",
@@ -187,10 +208,12 @@ class NodeTests:
             path.write_bytes(it.data)
         cube, recorders = self.example("cube", "60"), self.example("recorders")
         check(cube[:3] == CUBE and len(cube) == 60, f"{cube}")
+        touched = self.example("history", DATA / "shadow-volumes.txt", "88", "113")
+        check(touched == TOUCHED, f"{touched}")
         check(recorders == RECORDERS, f"{recorders}")
-        return "60 frames of a cube, 8 recorders"
+        return "60 frames of a cube, 8 recorders, the history of a pixel"
 
-    def example(self, name: str, *words: str) -> list[str]:
+    def example(self, name: str, *words: str | pathlib.Path) -> list[str]:
         """What an example prints."""
         command: list[Any] = [*self.words, "--no-warnings", self.room / "package" / "examples" / f"{name}.js", *words]
         ran = subprocess.run(command, capture_output=True, encoding="utf-8", timeout=SECONDS, check=False)
@@ -235,6 +258,12 @@ class NodeTests:
                     compared += len(steps)
         return f"{compared} steps"
 
+    def pointed(self) -> str:
+        """How long the history of a pointed pixel takes, in a picture of 2,048 by 2,048."""
+        median, most = map(float, self.printed("pointed", ["large.txt"]).split())
+        check(median < POINTED, f"the history of a pixel takes {median} ms, and {most} at most")
+        return f"{median} ms, {most} at most"
+
     def blamed(self) -> str:
         """The letters that are to blame for a fault or a refusal, against those that the package's `check` tells."""
         chance, texts = random.Random(5), mutated_scripts.sources()
@@ -275,6 +304,8 @@ def write_random_scenes(room: pathlib.Path, count: int = RANDOM_SCENES) -> list[
 
 def explained(scene: Scene, x: int, y: int) -> list[list[Any]]:
     """The steps of a pixel, as the package explains them."""
+    from yuzuratchet.explain import explain  # (here, since it wants numpy)
+
     steps = []
     for it in explain(scene, x, y).steps:
         triangle, depth = (it.covering.triangle, it.covering.depth) if it.covering else (None, None)
@@ -283,8 +314,10 @@ def explained(scene: Scene, x: int, y: int) -> list[list[Any]]:
     return steps
 
 
-def why_no_device() -> str | None:
-    """Why the package can draw nothing, or None."""
+def why_not_explained() -> str | None:
+    """Why the package can explain nothing, or None."""
+    if importlib.util.find_spec("numpy") is None:
+        return f"{sys.executable} has no numpy (the package's tests have: ~/.cache/yuzuratchet/environment/bin/python)"
     try:
         draw(b"target 1 1\n")
     except YuzuratchetError as error:
@@ -305,8 +338,8 @@ def test_in_node(results: Results, node: str | None, module: pathlib.Path) -> No
     words, why = node_words(node)
     with tempfile.TemporaryDirectory(prefix="page-") as room:
         tests = NodeTests(words, module, room) if words else None
-        for name in ("units", "gallery", "examples", "calls", "slider", "memory", "history", "explained", "blamed"):
-            reason = why_no_device() if words and name == "explained" else why
+        for name in IN_NODE_ALONE:
+            reason = why_not_explained() if words and name == "explained" else why
             if reason:
                 results.skip(f"node {name}", reason)
             else:
