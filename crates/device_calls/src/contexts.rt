@@ -6,7 +6,7 @@ ghost use Rattle.gfxspec.specs.Recorded.{after_finish};
 ghost use Rattle.gfxspec.specs.Refusals.{AnswersBy, finish_rows};
 ghost use Rattle.device_calls.specs.Answers.{answer_of, ByHandle};
 
-use crate::answers::NO_MEMORY;
+use crate::numbers::NO_MEMORY;
 use cmdlist::{CommandList, DeferredContext};
 use gfxspec::GfxError;
 use handles::{ContextHandle, ListHandle};

@@ -8,7 +8,7 @@ ghost use Rattle.meaning.specs.Standing.{IsNew};
 ghost use Rattle.immediate.specs.Held.{Runs, Enqueues, context_of, shown, answered};
 ghost use Rattle.device_calls.specs.Answers.{answer_of, ByHandle, pixel_told};
 
-use crate::answers::told;
+use crate::numbers::told;
 use gfxspec::{GfxError, Pixel};
 use handles::{DeviceHandle, ListHandle};
 use immediate::ImmediateContext;

@@ -6,10 +6,10 @@
 //! and each contract is that of the function called, for the values that the handles hold before and behind.
 #![tactic(auto)]
 
-mod answers;
 mod contexts;
 mod descriptions;
 mod devices;
+mod numbers;
 mod on_context;
 mod on_device;
 mod playing;

@@ -5,11 +5,11 @@ ghost use Rattle.gfxspec.specs.Commands.{SetVertices, SetIndices, SetTopology, S
 ghost use Rattle.device_calls.specs.Descriptions.{topology_numbered, raster_described, depth_stencil_described, blend_described};
 ghost use Rattle.device_calls.specs.Answers.{ContextRecords};
 
-use crate::answers::{NOT_DESCRIBED, told};
 use crate::descriptions::{
     BlendDescription, DepthStencilDescription, RasterDescription, blend_of, depth_stencil_of,
     raster_of, topology_of,
 };
+use crate::numbers::{NOT_DESCRIBED, told};
 use cmdlist::DeviceContext;
 use gfxspec::{PixelRect, Vertex};
 use handles::ContextHandle;

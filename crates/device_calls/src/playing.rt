@@ -7,7 +7,7 @@ ghost use Rattle.answers.specs.Lines.{answer_lines};
 ghost use Rattle.device_calls.specs.Answers.{answer_of, ByHandle};
 ghost use Rattle.device_calls.specs.Playing.{IsPlayed};
 
-use crate::answers::NO_MEMORY;
+use crate::numbers::NO_MEMORY;
 use answers::{Answer, answer_line};
 use handles::{DeviceHandle, PlayerHandle};
 use player::Player;

@@ -1,6 +1,6 @@
 //! Rows of pixels, into the caller's memory.
 
-ghost use Rattle.std.specs.Prelude.{ℕ, ◌≡◌, ◌≢◌, ◌+◌, ◌<◌, ◌≤◌, [], true, false, is_none, length, slice_index, slice_index_or, OnOk, OnErr, IfSome};
+ghost use Rattle.std.specs.Prelude.{ℕ, ◌≡◌, ◌≢◌, ◌+◌, ◌%◌, ◌<◌, ◌≤◌, [], true, false, is_none, length, slice_index, slice_index_or, OnOk, OnErr, IfSome};
 ghost use Rattle.std.specs.Int.{w32, to_le_bytes};
 ghost use Rattle.gfxspec.specs.Recorded.{queries_open};
 ghost use Rattle.tileblock.specs.Surface.{IsWhole, pixel_of};
@@ -8,7 +8,7 @@ ghost use Rattle.immediate.specs.Held.{Runs, shown};
 ghost use Rattle.device_calls.specs.Answers.{answer_of, ByHandle};
 ghost use Rattle.device_calls.specs.Rows.{row_rows, cell_of, color_cell, no_cell};
 
-use crate::answers::told;
+use crate::numbers::told;
 use gfxspec::GfxError;
 use handles::DeviceHandle;
 use immediate::ImmediateContext;
@@ -39,7 +39,59 @@ fn cell_of(color: u32, bgra: bool) -> Cell
     }
 }
 
-/// The colours of a part of a row, eight of which are read at once.
+/// Eight colours as they lie in memory, in an order that is known to the loop.
+#[inline(always)]
+fn cells_in_order(colors: [u32; 8], bgra: bool) -> [Cell; 8]
+    ensures { (j : ℕ) → j < 8 → slice_index_or result j no_cell ≡ cell_of bgra (to_le_bytes w32 (slice_index colors j)) }
+{
+    let none = Cell {
+        first: 0,
+        second: 0,
+        third: 0,
+        fourth: 0,
+    };
+    let mut cells = [none; 8];
+    for j in 0..8usize {
+        cells[j] = cell_of(colors[j], bgra);
+    }
+    cells
+}
+
+/// Eight colours as they lie in memory.
+fn cells_of(colors: [u32; 8], bgra: bool) -> [Cell; 8]
+    ensures { (j : ℕ) → j < 8 → slice_index_or result j no_cell ≡ cell_of bgra (to_le_bytes w32 (slice_index colors j)) }
+{
+    if bgra {
+        cells_in_order(colors, true)
+    } else {
+        cells_in_order(colors, false)
+    }
+}
+
+/// Of the eight values of which one is of column x, stores those from that one on into a row, from a place on and as
+/// far as the row goes. How many they are.
+fn store_together<T: Copy>(row: &mut [T], at: usize, eight: &[T; 8], x: u32) -> usize
+    requires { at < length row.old }
+    ensures some { 0 < result }
+    ensures inside { x % 8 + result ≤ 8 }
+    ensures fits { at + result ≤ length row.old }
+    ensures len { length row.new ≡ length row.old }
+    ensures before { (d : _) (k : ℕ) → k < at → slice_index_or row.new k d ≡ slice_index_or row.old k d }
+    ensures here { (d : _) (j : ℕ) → j < result → slice_index_or row.new (at + j) d ≡ slice_index_or eight.now (x % 8 + j) d }
+{
+    let from = (x % 8) as usize;
+    let count = (8 - from).min(row.len() - at);
+    if count == 8 {
+        row[at..at + 8].copy_from_slice(eight);
+        return 8;
+    }
+    for j in 0..count {
+        row[at + j] = eight[from + j];
+    }
+    count
+}
+
+/// The colours of a part of a row.
 fn store_colors(target: &Target<Global>, y: u32, left: u32, bgra: bool, row: &mut [Cell])
     requires whole { IsWhole target.now }
     requires y { y < target.now.size.height }
@@ -48,13 +100,11 @@ fn store_colors(target: &Target<Global>, y: u32, left: u32, bgra: bool, row: &mu
 {
     let width = target.size().width;
     prove!(left as usize + row.len() <= width as usize);
-    let mut colors = [0; 8];
-    for k in 0..row.len() {
+    let mut k = 0;
+    while k < row.len() {
         let x = left + k as u32;
-        if k == 0 || x % 8 == 0 {
-            colors = target.colors(x, y);
-        }
-        row[k] = cell_of(colors[(x % 8) as usize], bgra);
+        let cells = cells_of(target.colors(x, y), bgra);
+        k += store_together(row, k, &cells, x);
     }
 }
 
@@ -123,13 +173,11 @@ fn store_depths(target: &Target<Global>, y: u32, left: u32, row: &mut [u32])
 {
     let width = target.size().width;
     prove!(left as usize + row.len() <= width as usize);
-    let mut depths = [0; 8];
-    for k in 0..row.len() {
+    let mut k = 0;
+    while k < row.len() {
         let x = left + k as u32;
-        if k == 0 || x % 8 == 0 {
-            depths = target.depths(x, y);
-        }
-        row[k] = depths[(x % 8) as usize];
+        let depths = target.depths(x, y);
+        k += store_together(row, k, &depths, x);
     }
 }
 
@@ -178,13 +226,11 @@ fn store_stencils(target: &Target<Global>, y: u32, left: u32, row: &mut [u8])
 {
     let width = target.size().width;
     prove!(left as usize + row.len() <= width as usize);
-    let mut stencils = [0; 8];
-    for k in 0..row.len() {
+    let mut k = 0;
+    while k < row.len() {
         let x = left + k as u32;
-        if k == 0 || x % 8 == 0 {
-            stencils = target.stencils(x, y);
-        }
-        row[k] = stencils[(x % 8) as usize];
+        let stencils = target.stencils(x, y);
+        k += store_together(row, k, &stencils, x);
     }
 }
 
