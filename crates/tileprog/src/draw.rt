@@ -77,9 +77,8 @@ fn draw_spans<A: Allocator, W: Walks>(
     passed
 }
 
-/// The same under a brush that tests depth alone, with the comparison known to each of the loops. It stands where walks begin, so that
-/// they need not be put into memory.
-#[inline(always)]
+/// The same under a brush that tests depth alone, with the comparison known to each of the loops.
+#[inline(never)]
 fn draw_compared<A: Allocator, W: Walks>(
     block: &mut TileBlock<A>,
     triangle: &TileTriangle<'_>,
