@@ -7,7 +7,7 @@
 #include "check.h"
 #include "yuzuratchet_device.h"
 
-enum { CONTEXTS = 8, LISTS = 4096, LAST_REFUSAL = 20 };
+enum { CONTEXTS = 8, LISTS = 4096, LAST_REFUSAL = 20, LAST_LINE = 80 };
 
 static struct {
     yz_device *device;
@@ -175,12 +175,9 @@ static bool is_same_image(const struct drawn *drawn) {
     return same;
 }
 
-/* Whether a script says by calls what it says to yuzuratchet_draw. */
-static bool is_same(char *script, const struct drawn *drawn) {
-    uint64_t number;
-    char last[80];
-    play.answers = taken(drawn->report.lines_size + sizeof last + 200);
-    const yz_result result = played(script, &number);
+/* Ends a play, and tells whether it ended as what was drawn did: with its answers, and its image or its refused line. */
+static bool ends_as_drawn(const struct drawn *drawn, yz_result result, uint64_t number) {
+    char last[LAST_LINE];
     bool same = drawn->report.status == (result == YZ_OK ? YUZURATCHET_DONE : YUZURATCHET_REFUSED);
     if (same && result == YZ_OK) same = is_same_image(drawn);
     snprintf(last, sizeof last, "refused %" PRIu64 " %" PRIu32 "\n", number, result);
@@ -189,6 +186,14 @@ static bool is_same(char *script, const struct drawn *drawn) {
     same = same && memcmp(play.answers, drawn->lines, play.answers_size) == 0;
     end_play();
     return same;
+}
+
+/* Whether a script says by calls what it says to yuzuratchet_draw. */
+static bool is_same(char *script, const struct drawn *drawn) {
+    uint64_t number;
+    play.answers = taken(drawn->report.lines_size + LAST_LINE + 200);
+    const yz_result result = played(script, &number);
+    return ends_as_drawn(drawn, result, number);
 }
 
 /* ---- by lines */
@@ -223,21 +228,13 @@ static yz_result played_by_lines(const char *lines, bool one_by_one, uint64_t *n
 /* Whether a script says by lines what it says to yuzuratchet_draw. One with a fault says there nothing else. */
 static bool is_same_by_lines(const char *script, const struct drawn *drawn, bool one_by_one) {
     uint64_t number;
-    char last[80];
     if (sscanf(script, "target %" PRIu32 " %" PRIu32, &play.width, &play.height) != 2) return true;
     const yz_device_desc desc = YZ_DEVICE_DESC(play.width, play.height);
     if (drawn->report.refused_line == 1 || yz_device_create(&desc, &play.device) != YZ_OK) return true;
     play.answers = taken(strlen(script) * 16 + 1000);
     const yz_result result = played_by_lines(strchr(script, '\n') + 1, one_by_one, &number);
-    bool same = drawn->report.status == (result == YZ_OK ? YUZURATCHET_DONE : YUZURATCHET_REFUSED);
-    if (same && result == YZ_OK) same = is_same_image(drawn);
     if (drawn->report.refusal > LAST_REFUSAL) play.answers_size = 0;
-    snprintf(last, sizeof last, "refused %" PRIu64 " %" PRIu32 "\n", number, result);
-    if (result != YZ_OK) answer(last);
-    same = same && play.answers_size == drawn->report.lines_size;
-    same = same && memcmp(play.answers, drawn->lines, play.answers_size) == 0;
-    end_play();
-    return same;
+    return ends_as_drawn(drawn, result, number);
 }
 
 static char *script_of(const char *name, size_t *size) {
