@@ -1,37 +1,38 @@
 -- One command more.
-use Rattle.std.proofs.Common.{◌≡◌, ◌∙◌, ap, sym, subst, refl, ℕ, ℤ, Bool, List, [], ◌++◌, append-nil, if◌then◌else◌}
+use Rattle.std.proofs.Common.{◌≡◌, ◌∙◌, ap, sym, subst, refl, ℕ, Bool, false, List, [], ◌++◌, append-nil, if◌then◌else◌}
 use Rattle.gfxspec.specs.declared.pixel.DepthStencil.{DepthStencil}
 use Rattle.gfxspec.specs.State.{Settings}
 use Rattle.gfxspec.specs.Items.{Item}
 use Rattle.gfxspec.specs.Commands.{Command, ClearColor, ClearDepthStencil}
-use Rattle.gfxspec.specs.Recorded.{items_at}
+use Rattle.gfxspec.specs.Recorded.{drawn_items, items_at}
 use Rattle.gfxspec.specs.Predication.{withholds}
 use Rattle.meaning.specs.OneMore.{performed_items}
 use Rattle.command.specs.declared.command.Command.{Command as Code}
 use Rattle.command.specs.declared.command.Command.TheVariants as code
 use Rattle.command.specs.Seen.{command_value}
+use Rattle.cmdlist.specs.Drawable.{drawn_by}
 use Rattle.binner.specs.declared.compiling.Compiling.{Compiling}
 use Rattle.binner.specs.Meaning.{entry_of}
 use Rattle.binner.specs.Compiling.{HasCompiled, IsEntry, IsCurrent, CanTake, AddsColor, AddsDepth, Adds}
 use Rattle.binner.proofs.Growing.{color_means, color_sound, depth_means, depth_sound}
 
--- a command that neither draws nor clears
-pub nothing_at : {A : Type 0} (k : Code A) (s : Settings) (opened : List ℕ) → ((x y : ℕ) → k ≡ code.Draw x y → ⊥) → ((x y : ℕ) (z : ℤ) → k ≡ code.DrawIndexed x y z → ⊥) → ((x : List ℕ) → k ≡ code.ClearColor x → ⊥) → ((x y : ℕ) → k ≡ code.ClearDepthStencil x y → ⊥) → items_at s opened (command_value k) ≡ []
-nothing_at (code.Draw x y) s opened a b c d = absurd (a x y refl)
-nothing_at (code.DrawIndexed x y z) s opened a b c d = absurd (b x y z refl)
-nothing_at (code.ClearColor x) s opened a b c d = absurd (c x refl)
-nothing_at (code.ClearDepthStencil x y) s opened a b c d = absurd (d x y refl)
-nothing_at (code.SetVertices v) s opened a b c d = refl
-nothing_at (code.SetIndices v) s opened a b c d = refl
-nothing_at (code.SetTopology v) s opened a b c d = refl
-nothing_at (code.SetRaster v) s opened a b c d = refl
-nothing_at (code.SetScissor v) s opened a b c d = refl
-nothing_at (code.SetDepthStencil v w) s opened a b c d = refl
-nothing_at (code.SetBlend v) s opened a b c d = refl
-nothing_at (code.SetPredication v) s opened a b c d = refl
-nothing_at (code.Begin v) s opened a b c d = refl
-nothing_at (code.End v) s opened a b c d = refl
-nothing_at (code.Kept v) s opened a b c d = refl
+-- a command that doesn't clear adds the triangles that it draws
+pub drawn_at : {A : Type 0} (k : Code A) (s : Settings) (opened : List ℕ) → ((x : List ℕ) → k ≡ code.ClearColor x → ⊥) → ((x y : ℕ) → k ≡ code.ClearDepthStencil x y → ⊥) → items_at s opened (command_value k) ≡ drawn_items s opened (drawn_by s (command_value k))
+drawn_at (code.ClearColor x) s opened a b = absurd (a x refl)
+drawn_at (code.ClearDepthStencil x y) s opened a b = absurd (b x y refl)
+drawn_at (code.Draw x y) s opened a b = refl
+drawn_at (code.DrawIndexed x y z) s opened a b = refl
+drawn_at (code.SetVertices v) s opened a b = refl
+drawn_at (code.SetIndices v) s opened a b = refl
+drawn_at (code.SetTopology v) s opened a b = refl
+drawn_at (code.SetRaster v) s opened a b = refl
+drawn_at (code.SetScissor v) s opened a b = refl
+drawn_at (code.SetDepthStencil v w) s opened a b = refl
+drawn_at (code.SetBlend v) s opened a b = refl
+drawn_at (code.SetPredication v) s opened a b = refl
+drawn_at (code.Begin v) s opened a b = refl
+drawn_at (code.End v) s opened a b = refl
+drawn_at (code.Kept v) s opened a b = refl
 
 -- nothing is added
 pub adds_nothing : {A : Type 0} (s : Settings) (bits : ℕ) (more : List ℕ → List Item) (k : Compiling A) → ((opened : List ℕ) → more opened ≡ []) → CanTake s bits k → Adds s bits more k k
@@ -52,6 +53,10 @@ adds_same {new = new} f g is h = record {
 -- what a command adds that its predicate may withhold
 pub performed_by : (results : ℕ → Bool) (s : Settings) (c : Command) (b : Bool) → withholds results s.predicate ≡ b → (opened : List ℕ) → performed_items results s opened c ≡ (if b then [] else items_at s opened c)
 performed_by results s c b is opened = ap (λ w. if w then [] else items_at s opened c) is
+
+-- what isn't withheld is added
+pub adds_performed : {A : Type 0} {s : Settings} {bits : ℕ} {old new : Compiling A} (results : ℕ → Bool) (c : Command) → withholds results s.predicate ≡ false → Adds s bits (λ opened. items_at s opened c) old new → Adds s bits (λ opened. performed_items results s opened c) old new
+adds_performed {s = s} results c is h = adds_same (λ opened. items_at s opened c) (λ opened. performed_items results s opened c) (λ opened. sym (performed_by results s c false is opened)) h
 
 module _ {A : Type 0} (old new : Compiling A) (s : Settings) (bits : ℕ) (can : CanTake s bits old) where
   stays_current : new.states.items ≡ old.states.items → new.current ≡ old.current → IsCurrent new s bits

@@ -103,26 +103,6 @@ fn parts_of<A: Allocator + Copy + Send + Sync, R: Threads + Sync>(
     parts
 }
 
-/// The setups of a draw, if it has many triangles.
-fn parts_of_draw<A: Allocator + Copy + Send + Sync, R: Threads + Sync>(
-    rt: &R,
-    alloc: A,
-    draw: &Draw<'_>,
-    state: &State<'_>,
-    size: Size,
-) -> Result<Option<Parts<A>>, AllocError>
-    requires range { IsInRange draw.now }
-    requires vertices { IsTrue (list_all is_in_range draw.now.vertices.now) }
-    ensures { IfOk result (λ parts. IfSome parts (λ p. AreSetups (state_value state.now) size (triangles_of draw.now) (all_setups p.items))) }
-{
-    if triangle_count(draw) < LEAST_AHEAD {
-        return Ok(None);
-    }
-    let tris = gathered(alloc, draw)?;
-    let parts = parts_of(rt, alloc, tris.as_slice(), state, size)?;
-    Ok(Some(parts))
-}
-
 /// The setups of what a command draws, if that is many triangles and isn't withheld by the state's predicate.
 fn parts_of_command<A: Allocator + Copy + Send + Sync, R: Threads + Sync>(
     rt: &R,
@@ -141,7 +121,12 @@ fn parts_of_command<A: Allocator + Copy + Send + Sync, R: Threads + Sync>(
     let Some(draw) = draw_of(command, state) else {
         return Ok(None);
     };
-    parts_of_draw(rt, alloc, &draw, state, size)
+    if triangle_count(&draw) < LEAST_AHEAD {
+        return Ok(None);
+    }
+    let tris = gathered(alloc, &draw)?;
+    let parts = parts_of(rt, alloc, tris.as_slice(), state, size)?;
+    Ok(Some(parts))
 }
 
 /// Keeps the setups of the command at this place, if there are any.

@@ -1,6 +1,6 @@
 //! A compiled list.
 
-ghost use Rattle.std.specs.Prelude.{◌≡◌, map, IsTrue, IfOk, IfErr, List, length, replicate, false, All};
+ghost use Rattle.std.specs.Prelude.{◌≡◌, map, IsTrue, IfOk, IfErr, List, length, All};
 ghost use Rattle.gfxspec.specs.declared.error.GfxError.TheVariants.{OutOfMemory};
 ghost use Rattle.gfxspec.specs.Limits.{is_size};
 ghost use Rattle.gfxspec.specs.Tiles.{tile_count};
@@ -23,7 +23,7 @@ use crate::setup::TriSetup;
 use binmem::{Bins, SealedBins, Words};
 use cmdlist::Command;
 use gfxspec::{DepthStencil, GfxError, Size, TILE_SIDE, tile_count};
-use std::alloc::{AllocError, Allocator};
+use std::alloc::Allocator;
 use std::marker::Model;
 use std::thread::Threads;
 
@@ -61,15 +61,6 @@ fn pixels_round(triangle: &TriSetup, size: Size) -> usize {
     (width as usize).saturating_mul(height as usize)
 }
 
-/// No tile has a counted triangle.
-fn uncounted<A: Allocator + Copy>(alloc: A, tiles: u32) -> Result<Vec<bool, A>, AllocError>
-    ensures { IfOk result (λ counted. counted.items ≡ replicate tiles false) }
-{
-    let mut counted = Vec::new(alloc);
-    counted.resize(tiles as usize, false)?;
-    Ok(counted)
-}
-
 /// Nothing compiled yet. Without memory the bins come back.
 pub(crate) fn nothing<A: Allocator + Copy>(
     alloc: A,
@@ -82,7 +73,7 @@ pub(crate) fn nothing<A: Allocator + Copy>(
     ensures size { IfOk result (λ c. c.lists.size ≡ size) }
     ensures refused { IfErr result (λ back. back ≡ no_words (tile_count size)) }
 {
-    let Ok(counted) = uncounted(alloc, tile_count(size)) else {
+    let Ok(counted) = Vec::from_elem(alloc, false, tile_count(size) as usize) else {
         return Err(bins);
     };
     Ok(Compiling {

@@ -4,7 +4,7 @@ ghost use Rattle.std.specs.Prelude.{◌≡◌, ◌<◌, ◌+◌, [], ℕ, List, 
 ghost use Rattle.std.specs.List.{list_all};
 ghost use Rattle.gfxspec.specs.State.{Settings};
 ghost use Rattle.gfxspec.specs.Refusals.{is_in_range};
-ghost use Rattle.gfxspec.specs.Recorded.{drawn_items, items_at};
+ghost use Rattle.gfxspec.specs.Recorded.{drawn_items};
 ghost use Rattle.meaning.specs.OneMore.{settings_with, performed_items};
 ghost use Rattle.assemble.specs.Drawing.{IsInRange, triangles_of};
 ghost use Rattle.command.specs.Seen.{state_value, command_value};
@@ -213,59 +213,8 @@ fn add_drawn<A: Allocator + Copy>(
     }
 }
 
-/// Adds what a command draws, if it is a draw.
-fn add_drawing<A: Allocator + Copy>(
-    compiling: &mut Compiling<A>,
-    command: &Command<A>,
-    state: &State<'_>,
-    issues: u64,
-    parts: Option<Parts<A>>,
-) -> Result<(), AllocError>
-    requires drawable { IsDrawable (state_value state.now) (command_value command.now) }
-    requires draws { (opened : List ℕ) → items_at (state_value state.now) opened (command_value command.now) ≡ drawn_items (state_value state.now) opened (drawn_by (state_value state.now) (command_value command.now)) }
-    requires can { CanTake (state_value state.now) issues compiling.old }
-    requires made { IfSome parts (λ parts. AreSetups (state_value state.now) compiling.old.lists.size (drawn_by (state_value state.now) (command_value command.now)) (all_setups parts.items)) }
-    ensures bins { length compiling.new.lists.bins ≡ length compiling.old.lists.bins }
-    ensures drawn { OnOk result (Adds (state_value state.now) issues (λ opened. items_at (state_value state.now) opened (command_value command.now)) compiling.old compiling.new) }
-{
-    let Some(draw) = draw_of(command, state) else {
-        return Ok(());
-    };
-    add_drawn(compiling, &draw, state, issues, parts)
-}
-
-/// Adds what a command draws or clears under a state, with the open issues as bits. What it draws may be set up already, in
-/// parts.
-fn add_command<A: Allocator + Copy>(
-    compiling: &mut Compiling<A>,
-    command: &Command<A>,
-    state: &State<'_>,
-    issues: u64,
-    parts: Option<Parts<A>>,
-) -> Result<(), AllocError>
-    requires drawable { IsDrawable (state_value state.now) (command_value command.now) }
-    requires can { CanTake (state_value state.now) issues compiling.old }
-    requires made { IfSome parts (λ parts. AreSetups (state_value state.now) compiling.old.lists.size (drawn_by (state_value state.now) (command_value command.now)) (all_setups parts.items)) }
-    ensures bins { length compiling.new.lists.bins ≡ length compiling.old.lists.bins }
-    ensures drawn { OnOk result (Adds (state_value state.now) issues (λ opened. items_at (state_value state.now) opened (command_value command.now)) compiling.old compiling.new) }
-{
-    match command {
-        Command::Draw(_, _) => add_drawing(compiling, command, state, issues, parts),
-        Command::DrawIndexed(_, _, _) => add_drawing(compiling, command, state, issues, parts),
-        Command::ClearColor(rgba) => add_color(compiling, *rgba),
-        Command::ClearDepthStencil(depth, stencil) => {
-            let value = DepthStencil {
-                depth: *depth,
-                stencil: *stencil,
-            };
-            add_depth(compiling, value)
-        }
-        _ => Ok(()),
-    }
-}
-
-/// Adds what a command draws or clears under a state, unless the state's predicate withholds it. What it draws may
-/// be set up already, in parts.
+/// Adds what a command draws or clears under a state, with the open issues as bits, unless the state's predicate
+/// withholds it. What it draws may be set up already, in parts.
 fn add_performed<A: Allocator + Copy>(
     compiling: &mut Compiling<A>,
     command: &Command<A>,
@@ -283,7 +232,20 @@ fn add_performed<A: Allocator + Copy>(
     if is_withheld(results, state.predicate) {
         return Ok(());
     }
-    add_command(compiling, command, state, issues, parts)
+    match command {
+        Command::ClearColor(rgba) => add_color(compiling, *rgba),
+        Command::ClearDepthStencil(depth, stencil) => {
+            let value = DepthStencil {
+                depth: *depth,
+                stencil: *stencil,
+            };
+            add_depth(compiling, value)
+        }
+        _ => match draw_of(command, state) {
+            Some(draw) => add_drawn(compiling, &draw, state, issues, parts),
+            None => Ok(()),
+        },
+    }
 }
 
 /// Whether a command leaves what entries are made of as it is.

@@ -70,10 +70,7 @@ fn push_number<A: Allocator + Copy>(
     ensures bins { length bins.new ≡ length bins.old }
     ensures pushed { OnOk result (bins.new ≡ with_number bins.old tile number) }
 {
-    if bins.push(tile, number).is_err() {
-        return Err(AllocError);
-    }
-    Ok(())
+    bins.push(tile, number).or(Err(AllocError))
 }
 
 /// Puts a word at the end of a tile's list.

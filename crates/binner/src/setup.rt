@@ -12,7 +12,7 @@ use gfxspec::PixelRect;
 use std::mem::size_of;
 
 // What a list keeps for each of up to 65,536 triangles.
-const _: () = prove!(size_of::<TriSetup>() <= 136);
+const _: () = prove!(size_of::<TriSetup>() <= 184);
 
 /// A triangle that is not dropped. No pixel outside of `bounds` is reached.
 #[derive(Drop)]

@@ -286,9 +286,7 @@ impl<A: Allocator + Copy> DeferredContext<A> {
         if !restore {
             return Ok(DeferredContext::new(alloc));
         }
-        let kept = self.settings.share()?;
-        let settings = self.settings.share()?;
-        DeferredContext::with_settings(alloc, kept, settings)
+        DeferredContext::with_settings(alloc, &self.settings)
     }
 
     /// The recorded commands as a list, where no query is open.
@@ -303,21 +301,20 @@ impl<A: Allocator + Copy> DeferredContext<A> {
         }
     }
 
-    /// A context whose list begins with kept settings, given twice.
-    fn with_settings(alloc: A, kept: Settings<A>, settings: Settings<A>) -> Result<Self, GfxError>
-        requires same { settings_value kept ≡ settings_value settings }
-        requires sound { AreSound (settings_value settings) }
-        ensures kept { IfOk result (λ context. context ≡ Kept (settings_value settings) ∷ []) }
+    /// A context whose list begins with kept settings.
+    fn with_settings(alloc: A, settings: &Settings<A>) -> Result<Self, GfxError>
+        requires { AreSound (settings_value settings.now) }
+        ensures kept { IfOk result (λ context. context ≡ Kept (settings_value settings.now) ∷ []) }
         ensures memory { IfErr result (λ e. e ≡ GfxError.OutOfMemory) }
     {
-        let kept = Command::Kept(Box::new(alloc, kept)?);
+        let kept = Command::Kept(Box::new(alloc, settings.share()?)?);
         let mut queries = Queries::none();
         queries.note(&kept);
         let mut commands = Vec::new(alloc);
         commands.push(kept)?;
         Ok(DeferredContext {
             commands,
-            settings,
+            settings: settings.share()?,
             triangles: 0,
             queries,
         })

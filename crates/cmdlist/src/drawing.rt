@@ -39,9 +39,7 @@ pub(crate) fn drawn_triangles(state: &State<'_>, count: u32, start: u32) -> Resu
     ensures accepted { OnOk result (first_row (draw_rows (state_value state.now) count start) ≡ None) }
     ensures refused { IfErr result (λ e. first_row (draw_rows (state_value state.now) count start) ≡ Some e) }
 {
-    let Some(topology) = state.topology else {
-        return Err(GfxError::TopologyUnset);
-    };
+    let topology = state.topology.ok_or(GfxError::TopologyUnset)?;
     if u64::from(start) + u64::from(count) > state.vertices.len() as u64 {
         return Err(GfxError::DrawRange);
     }
@@ -68,9 +66,7 @@ pub(crate) fn drawn_indexed_triangles(
     ensures accepted { OnOk result (first_row (draw_indexed_rows (state_value state.now) count start base) ≡ None) }
     ensures refused { IfErr result (λ e. first_row (draw_indexed_rows (state_value state.now) count start base) ≡ Some e) }
 {
-    let Some(topology) = state.topology else {
-        return Err(GfxError::TopologyUnset);
-    };
+    let topology = state.topology.ok_or(GfxError::TopologyUnset)?;
     if u64::from(start) + u64::from(count) > state.indices.len() as u64 {
         return Err(GfxError::DrawRange);
     }

@@ -1,7 +1,7 @@
 //! What a command draws under the state before it, and whether the state's predicate withholds it
 //! (Microsoft Learn, ID3D11DeviceContext::Draw, SetPredication).
 
-ghost use Rattle.std.specs.Prelude.{◌≡◌, [], false, slice_index_or, IfSome, IsNone, IsTrue};
+ghost use Rattle.std.specs.Prelude.{◌≡◌, [], IfSome, IsNone, IsTrue};
 ghost use Rattle.std.specs.List.{list_all};
 ghost use Rattle.gfxspec.specs.Refusals.{is_in_range};
 ghost use Rattle.gfxspec.specs.Assembly.{draw_primitives, draw_indexed_primitives};
@@ -11,6 +11,7 @@ ghost use Rattle.assemble.specs.Drawing.{IsInRange, triangles_of};
 ghost use Rattle.command.specs.Seen.{state_value, command_value};
 ghost use Rattle.cmdlist.specs.Drawable.{IsDrawable, drawn_by, told};
 
+use crate::queries::is_marked;
 use assemble::Draw;
 use command::{Command, State};
 use std::alloc::Allocator;
@@ -23,9 +24,7 @@ fn plain_draw<'a>(state: &State<'a>, count: u32, start: u32) -> Option<Draw<'a>>
     ensures vertices { IfSome result (λ d. IsTrue (list_all is_in_range d.vertices.now)) }
     ensures triangles { IfSome result (λ d. triangles_of d ≡ draw_primitives (state_value state.now) count start) }
 {
-    let Some(topology) = state.topology else {
-        return None;
-    };
+    let topology = state.topology?;
     Some(Draw {
         topology,
         vertices: state.vertices,
@@ -44,9 +43,7 @@ fn indexed_draw<'a>(state: &State<'a>, count: u32, start: u32, base: i32) -> Opt
     ensures vertices { IfSome result (λ d. IsTrue (list_all is_in_range d.vertices.now)) }
     ensures triangles { IfSome result (λ d. triangles_of d ≡ draw_indexed_primitives (state_value state.now) count start base) }
 {
-    let Some(topology) = state.topology else {
-        return None;
-    };
+    let topology = state.topology?;
     Some(Draw {
         topology,
         vertices: state.vertices,
@@ -72,22 +69,12 @@ pub fn draw_of<'a, A: Allocator>(command: &Command<A>, state: &State<'a>) -> Opt
     }
 }
 
-/// The result of a query, FALSE for a number that is none.
-fn result_of(results: &[bool; 64], query: u32) -> bool
-    ensures { result ≡ slice_index_or results.now query false }
-{
-    match results.get(query as usize) {
-        Some(result) => *result,
-        None => false,
-    }
-}
-
 /// Whether a predicate withholds what is drawn and cleared under it.
 pub fn is_withheld(results: &[bool; 64], predicate: Option<(u32, bool)>) -> bool
     ensures { result ≡ withholds (told results.now) predicate }
 {
     match predicate {
-        Some((query, value)) => result_of(results, query) == value,
+        Some((query, value)) => is_marked(results, query) == value,
         None => false,
     }
 }

@@ -1,7 +1,6 @@
 //! Recorded commands: a finished list, and commands lent.
 
 ghost use Rattle.std.specs.Prelude.{◌≡◌, ◌≢◌, ◌≤◌, [], map, length, false, IsTrue};
-ghost use Rattle.gfxspec.specs.declared.TheConstants.{LIST_LIMIT};
 ghost use Rattle.gfxspec.specs.Recorded.{issues, triangle_count};
 ghost use Rattle.gfxspec.specs.Accepted.{AreAccepted};
 

@@ -19,14 +19,11 @@ fn mark(marks: &mut [bool; 64], query: Option<u32>)
     }
 }
 
-/// Whether a query is marked.
+/// Whether a query is marked. A number that is none is not.
 pub(crate) fn is_marked(marks: &[bool; 64], query: u32) -> bool
     ensures { result ≡ slice_index_or marks.now query false }
 {
-    match marks.get(query as usize) {
-        Some(mark) => *mark,
-        None => false,
-    }
+    marks.get(query as usize).copied().unwrap_or(false)
 }
 
 /// The query of a predicate.

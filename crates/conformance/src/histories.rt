@@ -1,8 +1,9 @@
 //! The history of a pixel over a script: a worked one, by calls of the immediate context and by a list that it executes,
 //! and why there is none.
 
+use pixelevents::NamedEvent;
 use refusing::Refusing;
-use sessions::{NamedEvent, NoHistory, history};
+use sessions::{NoHistory, history};
 
 /// Seven items, of which all but one touch pixel (1, 1): a clear, four triangles of one draw, of which the third lies
 /// elsewhere and the second is hidden, and, in a list, a triangle that the stencil refuses and a clear.

@@ -1,5 +1,5 @@
 -- Sums of scaled numbers, and what they say about the number itself.
-use Rattle.std.proofs.Common.{◌≡◌, ◌∙◌, ap, sym, refl, arith, ℕ, zero, suc, ◌+◌, ◌-◌, ◌*◌, ◌/◌, ◌%◌, ◌<◌, ◌≤◌, subst}
+use Rattle.std.proofs.Common.{◌≡◌, ◌∙◌, ap, sym, refl, arith, ℕ, zero, suc, ◌+◌, ◌-◌, ◌*◌, ◌/◌, ◌%◌, ◌<◌, ◌≤◌, subst, [], ◌∷◌, get_or}
 use Rattle.std.specs.Prelude.{ℤ, unsigned_abs, pos, negsuc, ◌+ℤ◌, ◌-ℤ◌, ◌*ℤ◌, ◌≤ℤ◌, ◌<ℤ◌}
 use Rattle.std.specs.Int.{int_div_euclid, int_rem_euclid}
 use Rattle.std.proofs.lemmas.Nat.{div-add-mod', mod_below, div-mul-add}
@@ -237,6 +237,15 @@ lanes_right s x y j across v w step here is =
     by : (o d r e t : ℕ) → t ≡ r + e → across ≡ e % 18446744073709551616 → v ≡ (o + r + d) % 18446744073709551616 → w ≡ (o + t + d) % 18446744073709551616
     by o d r e t sum eight before = omega (arith, sum, eight, before, is)
 
+pub four_right : (s : Scaled) (x y j across v w : ℕ) → across ≡ s.right * 4 % 18446744073709551616 → v ≡ scaled_at s (x + j) y → w ≡ (v + across) % 18446744073709551616 → w ≡ scaled_at s (x + 4 + j) y
+four_right s x y j across v w step here is =
+    let p = mul-add s.right (x + j) 4 in
+    let q : s.right * (x + j + 4) ≡ s.right * (x + 4 + j) = ap (λ n. s.right * n) (omega arith) in
+    by s.origin (s.down * y) (s.right * (x + j)) (s.right * 4) (s.right * (x + 4 + j)) (omega (arith, p, q)) step here
+  where
+    by : (o d r e t : ℕ) → t ≡ r + e → across ≡ e % 18446744073709551616 → v ≡ (o + r + d) % 18446744073709551616 → w ≡ (o + t + d) % 18446744073709551616
+    by o d r e t sum four before = omega (arith, sum, four, before, is)
+
 pub lane_right : (s : Scaled) (x y j v : ℕ) → v ≡ scaled_at s (x + j) y → (v + s.right) % 18446744073709551616 ≡ scaled_at s (x + (j + 1)) y
 lane_right s x y j v here =
     let p = mul-add s.right (x + j) 1 in
@@ -245,6 +254,33 @@ lane_right s x y j v here =
   where
     by : (o d r t : ℕ) → t ≡ r + s.right → v ≡ (o + r + d) % 18446744073709551616 → (v + s.right) % 18446744073709551616 ≡ (o + t + d) % 18446744073709551616
     by o d r t sum before = omega (arith, sum, before)
+
+-- four lanes from the first on, each a step more
+pub four_lanes : (s : Scaled) (x y a b c d : ℕ) → a ≡ scaled_at s x y → b ≡ (a + s.right) % 18446744073709551616 → c ≡ (b + s.right) % 18446744073709551616 → d ≡ (c + s.right) % 18446744073709551616
+    → (j : ℕ) → j < 4 → get_or (a ∷ b ∷ c ∷ d ∷ []) j 0 ≡ scaled_at s (x + j) y
+four_lanes s x y a b c d first second third fourth = lane
+  where
+    none : x ≡ x + 0
+    none = omega arith
+
+    at_first : a ≡ scaled_at s (x + 0) y
+    at_first = first ∙ ap (λ n. scaled_at s n y) none
+
+    at_second : b ≡ scaled_at s (x + 1) y
+    at_second = second ∙ lane_right s x y 0 a at_first
+
+    at_third : c ≡ scaled_at s (x + 2) y
+    at_third = third ∙ lane_right s x y 1 b at_second
+
+    at_fourth : d ≡ scaled_at s (x + 3) y
+    at_fourth = fourth ∙ lane_right s x y 2 c at_third
+
+    lane : (j : ℕ) → j < 4 → get_or (a ∷ b ∷ c ∷ d ∷ []) j 0 ≡ scaled_at s (x + j) y
+    lane zero h = at_first
+    lane (suc zero) h = at_second
+    lane (suc (suc zero)) h = at_third
+    lane (suc (suc (suc zero))) h = at_fourth
+    lane (suc (suc (suc (suc j)))) h = absurd (omega arith)
 
 pub lanes_down : (s : Scaled) (x y down v w : ℕ) → down ≡ s.down → v ≡ scaled_at s x y → w ≡ (v + down) % 18446744073709551616 → w ≡ scaled_at s x (y + 1)
 lanes_down s x y down v w step here is =

@@ -2,3 +2,4 @@ pub mod Descriptions
 pub mod Answers
 pub mod Rows
 pub mod Playing
+pub mod Telling

@@ -14,10 +14,12 @@ mod on_context;
 mod on_device;
 mod playing;
 mod rows;
+mod telling;
 
 pub use descriptions::{
     BlendDescription, DepthStencilDescription, FaceDescription, RasterDescription,
 };
 pub use devices::PixelTold;
+pub use pixelevents::EventTold;
 pub use playing::LineTold;
 pub use rows::Cell;

@@ -1,36 +1,24 @@
 -- An edge's signs in lanes of 32 bits.
 use Rattle.std.proofs.Common.{◌≡◌, ◌∙◌, ap, sym, subst, refl, arith, ℕ, zero, suc, ◌+◌, ◌*◌, ◌%◌, ◌^◌, ◌<◌, ◌≤◌, List, [], ◌∷◌, length, map, get_or, w32, to_z, of_z, FitsSigned}
-use Rattle.std.specs.Prelude.{ℤ, pos, ◌+ℤ◌, ◌-ℤ◌, ◌*ℤ◌, ◌≤ℤ◌, ◌↔◌, unsigned_abs, slice_index_or, replicate}
+use Rattle.std.specs.Prelude.{ℤ, pos, ◌+ℤ◌, ◌-ℤ◌, ◌*ℤ◌, ◌≤ℤ◌, ◌<ℤ◌, ◌↔◌, unsigned_abs, slice_index_or, replicate}
 use Rattle.std.specs.Int.{int_wrap}
 use Rattle.std.specs.Simd.Lanes.{zip2}
 use Rattle.std.proofs.lemmas.Int.{ints, to_z-of_z, to_z_pos, wrapping_add-bits, wrapping_add_onto, wrapping_mul-bits, int_wrap-add_left, int_wrap-add_right, SFits-int_wrap, fits_signed_from_abs}
 use Rattle.std.proofs.Math.IntN.{*ℤ_comm}
-use Rattle.std.proofs.lemmas.List.{get_or-map, get_or-replicate, length-map}
+use Rattle.std.proofs.lemmas.List.{get_or-map, get_or-replicate, length-map, length-replicate}
 use Rattle.std.proofs.lemmas.Simd.{get_or-zip2, length-zip2}
 use Rattle.gfxspec.proofs.Integers.{spread, add-mul, abs-mul_le, mul_left_comm}
 use Rattle.gfxspec.specs.Raster.{Edge}
 use Rattle.edges.specs.Function.{linear, IsFunctionOf}
-use Rattle.edges.specs.Signs.{SignFunction, AreSigns, sign_at}
+use Rattle.edges.specs.Signs.{SignFunction, AreLanes, sign_at, wide_of, IsShortOf}
 use Rattle.edges.specs.Value.{edge_value}
 use Rattle.edges.specs.declared.EdgeFunction.{EdgeFunction}
-use Rattle.edges.specs.declared.signs.SignLanes.{SignLanes}
-
--- ---- steps
-
-small_step : (s n : ℤ) → s ≡ pos 256 *ℤ n → unsigned_abs s ≤ 2 ^ 29 → unsigned_abs n ≤ 2 ^ 21
-small_step s n is small = omega (arith, ints)
+use Rattle.edges.specs.declared.signs.ShortFunction.{ShortFunction}
 
 -- ---- the value some steps away
 
-value_away : (o s t right below : ℤ) (x y a b : ℕ) → s ≡ pos 256 *ℤ right → t ≡ pos 256 *ℤ below
-    → o +ℤ pos (x + a) *ℤ s +ℤ pos (y + b) *ℤ t ≡ (o +ℤ pos x *ℤ s +ℤ pos y *ℤ t) +ℤ pos 256 *ℤ (pos a *ℤ right +ℤ pos b *ℤ below)
-value_away o s t right below x y a b p q =
-    by (pos a *ℤ s) (pos b *ℤ t) (pos a *ℤ right) (pos b *ℤ below) refl refl
-    (ap (λ v. pos a *ℤ v) p ∙ mul_left_comm (pos a) (pos 256) right) (ap (λ v. pos b *ℤ v) q ∙ mul_left_comm (pos b) (pos 256) below)
-  where
-    by : (m n k l : ℤ) → pos a *ℤ s ≡ m → pos b *ℤ t ≡ n → m ≡ pos 256 *ℤ k → n ≡ pos 256 *ℤ l
-        → o +ℤ pos (x + a) *ℤ s +ℤ pos (y + b) *ℤ t ≡ (o +ℤ pos x *ℤ s +ℤ pos y *ℤ t) +ℤ pos 256 *ℤ (k +ℤ l)
-    by m n k l e f g h = simp spread (omega (arith, ints))
+value_away : (o right below : ℤ) (x y a b : ℕ) → (o +ℤ pos x *ℤ right +ℤ pos y *ℤ below) +ℤ (pos a *ℤ right +ℤ pos b *ℤ below) ≡ o +ℤ pos (x + a) *ℤ right +ℤ pos (y + b) *ℤ below
+value_away o right below x y a b = omega (arith, ints, add-mul (pos x) (pos a) right, add-mul (pos y) (pos b) below)
 
 sign_away : (c right below : ℤ) (x y a b : ℕ) → (c -ℤ pos x *ℤ right -ℤ pos y *ℤ below) +ℤ pos (x + a) *ℤ right +ℤ pos (y + b) *ℤ below ≡ c +ℤ (pos a *ℤ right +ℤ pos b *ℤ below)
 sign_away c right below x y a b = omega (arith, ints, add-mul (pos x) (pos a) right, add-mul (pos y) (pos b) below)
@@ -48,28 +36,62 @@ sum_fits c by p q = let small : unsigned_abs (c +ℤ by) < 2 ^ 31 = omega (arith
 pub eight_fits : (r : ℤ) → unsigned_abs r ≤ 2 ^ 21 → FitsSigned w32 (pos 8 *ℤ r)
 eight_fits r small = let less : unsigned_abs (pos 8 *ℤ r) < 2 ^ 31 = omega (arith, ints) in fits_signed_from_abs w32 (pos 8 *ℤ r) less
 
+pub four_fits : (r : ℤ) → unsigned_abs r ≤ 2 ^ 21 → FitsSigned w32 (pos 4 *ℤ r)
+four_fits r small = let less : unsigned_abs (pos 4 *ℤ r) < 2 ^ 31 = omega (arith, ints) in fits_signed_from_abs w32 (pos 4 *ℤ r) less
+
+-- ---- without the last eight bits
+
+short_tells : (o f k : ℤ) → (pos 256 *ℤ o) ≤ℤ f → f <ℤ (pos 256 *ℤ o +ℤ pos 256) → (pos 0 ≤ℤ (o +ℤ k)) ↔ (pos 0 ≤ℤ (f +ℤ pos 256 *ℤ k))
+short_tells o f k least most = (λ p. omega (arith, ints), λ p. omega (arith, ints))
+
+whole_steps : (f s t right below : ℤ) (x y : ℕ) → s ≡ pos 256 *ℤ right → t ≡ pos 256 *ℤ below → f +ℤ pos 256 *ℤ (pos x *ℤ right +ℤ pos y *ℤ below) ≡ f +ℤ pos x *ℤ s +ℤ pos y *ℤ t
+whole_steps f s t right below x y p q =
+    by (pos x *ℤ s) (pos y *ℤ t) (pos x *ℤ right) (pos y *ℤ below)
+    (ap (λ v. pos x *ℤ v) p ∙ mul_left_comm (pos x) (pos 256) right) (ap (λ v. pos y *ℤ v) q ∙ mul_left_comm (pos y) (pos 256) below)
+  where
+    by : (m n k l : ℤ) → m ≡ pos 256 *ℤ k → n ≡ pos 256 *ℤ l → f +ℤ pos 256 *ℤ (k +ℤ l) ≡ f +ℤ m +ℤ n
+    by m n k l g h = simp spread (omega (arith, ints))
+
+abbrev steps_to : ShortFunction → ℕ → ℕ → ℤ
+steps_to s x y = pos x *ℤ s.step_x +ℤ pos y *ℤ s.step_y
+
+-- a function whose origin and steps are a function's in units of 256, rounded down
+pub short_of : (f : EdgeFunction) (e : Edge) → IsFunctionOf f e → (s : ShortFunction) → (pos 256 *ℤ s.origin) ≤ℤ f.origin → f.origin <ℤ (pos 256 *ℤ s.origin +ℤ pos 256) → unsigned_abs s.origin ≤ 2 ^ 37
+    → ((n : ℤ) → f.step_x ≡ pos 256 *ℤ n → s.step_x ≡ n) → unsigned_abs s.step_x ≤ 2 ^ 21 → ((n : ℤ) → f.step_y ≡ pos 256 *ℤ n → s.step_y ≡ n) → unsigned_abs s.step_y ≤ 2 ^ 21 → IsShortOf s e
+short_of f e is s least most small across x_small down y_small =
+    record {
+      short = record { small = record { origin = omega (arith, small); step_x = omega (arith, x_small); step_y = omega (arith, y_small) }; step_x = x_small; step_y = y_small };
+      tells = λ x y. subst (λ v. (pos 0 ≤ℤ linear (wide_of s) x y) ↔ (pos 0 ≤ℤ v)) (away x y) (subst (λ v. (pos 0 ≤ℤ v) ↔ (pos 0 ≤ℤ (f.origin +ℤ pos 256 *ℤ steps_to s x y))) (together s.origin s.step_x s.step_y x y) (short_tells s.origin f.origin (steps_to s x y) least most));
+    }
+  where
+    together : (o right below : ℤ) (x y : ℕ) → o +ℤ (pos x *ℤ right +ℤ pos y *ℤ below) ≡ o +ℤ pos x *ℤ right +ℤ pos y *ℤ below
+    together o right below x y = omega (arith, ints)
+
+    away : (x y : ℕ) → f.origin +ℤ pos 256 *ℤ steps_to s x y ≡ edge_value e x y
+    away x y =
+        whole_steps f.origin f.step_x f.step_y s.step_x s.step_y x y (is.whole_x ∙ ap (λ n. pos 256 *ℤ n) (sym (across is.right is.whole_x))) (is.whole_y ∙ ap (λ n. pos 256 *ℤ n) (sym (down is.below is.whole_y)))
+        ∙ is.value x y
+
 -- the linear function behind the lanes, from the first value cut off
-module _ (f : EdgeFunction) (e : Edge) (is : IsFunctionOf f e) (x y : ℕ) (value c : ℤ) (value_is : value ≡ linear f x y) (small : unsigned_abs c ≤ 2 ^ 27)
-    (sign : (by : ℤ) → unsigned_abs by < 2 ^ 27 → (pos 0 ≤ℤ (c +ℤ by)) ↔ (pos 0 ≤ℤ (value +ℤ pos 256 *ℤ by))) where
-  right_small : unsigned_abs is.right ≤ 2 ^ 21
-  right_small = small_step f.step_x is.right is.whole_x is.small.step_x
-
-  below_small : unsigned_abs is.below ≤ 2 ^ 21
-  below_small = small_step f.step_y is.below is.whole_y is.small.step_y
-
+module _ (s : ShortFunction) (e : Edge) (is : IsShortOf s e) (x y : ℕ) (value c : ℤ) (value_is : value ≡ linear (wide_of s) x y) (small : unsigned_abs c ≤ 2 ^ 27)
+    (sign : (by : ℤ) → unsigned_abs by < 2 ^ 27 → (pos 0 ≤ℤ (c +ℤ by)) ↔ (pos 0 ≤ℤ (value +ℤ by))) where
   abbrev away : ℕ → ℕ → ℤ
-  away a b = pos a *ℤ is.right +ℤ pos b *ℤ is.below
+  away a b = pos a *ℤ s.step_x +ℤ pos b *ℤ s.step_y
 
-  edge_away : (a b : ℕ) → value +ℤ pos 256 *ℤ away a b ≡ edge_value e (x + a) (y + b)
-  edge_away a b = ap (λ v. v +ℤ pos 256 *ℤ away a b) value_is ∙ sym (value_away f.origin f.step_x f.step_y is.right is.below x y a b is.whole_x is.whole_y) ∙ is.value (x + a) (y + b)
+  value_there : (a b : ℕ) → value +ℤ away a b ≡ linear (wide_of s) (x + a) (y + b)
+  value_there a b = ap (λ v. v +ℤ away a b) value_is ∙ value_away s.origin s.step_x s.step_y x y a b
 
   pub signs_from : SignFunction e x y
   signs_from = record {
-    origin = c -ℤ pos x *ℤ is.right -ℤ pos y *ℤ is.below;
-    right = is.right;
-    below = is.below;
-    fits = λ a b h k. subst (FitsSigned w32) (sym (sign_away c is.right is.below x y a b)) (sum_fits c (away a b) small (small_away is.right is.below a b right_small below_small h k));
-    tells = λ a b h k. rw (sign_away c is.right is.below x y a b, ← edge_away a b) (sign (away a b) (small_away is.right is.below a b right_small below_small h k));
+    origin = c -ℤ pos x *ℤ s.step_x -ℤ pos y *ℤ s.step_y;
+    right = s.step_x;
+    below = s.step_y;
+    fits = λ a b h k. subst (FitsSigned w32) (sym (sign_away c s.step_x s.step_y x y a b)) (sum_fits c (away a b) small (small_away s.step_x s.step_y a b is.short.step_x is.short.step_y h k));
+    tells = λ a b h k.
+        let near = sign (away a b) (small_away s.step_x s.step_y a b is.short.step_x is.short.step_y h k) in
+        let there = is.tells (x + a) (y + b) in
+        subst (λ v. (pos 0 ≤ℤ v) ↔ (pos 0 ≤ℤ edge_value e (x + a) (y + b))) (sym (sign_away c s.step_x s.step_y x y a b))
+        (λ p. there.0 (subst (λ v. pos 0 ≤ℤ v) (value_there a b) (near.0 p)), λ p. near.1 (subst (λ v. pos 0 ≤ℤ v) (sym (value_there a b)) (there.1 p)));
   }
 
 -- ---- lanes
@@ -85,6 +107,13 @@ eight_are f (suc (suc (suc (suc (suc zero))))) h = refl
 eight_are f (suc (suc (suc (suc (suc (suc zero)))))) h = refl
 eight_are f (suc (suc (suc (suc (suc (suc (suc zero))))))) h = refl
 eight_are f (suc (suc (suc (suc (suc (suc (suc (suc j)))))))) h = absurd (omega arith)
+
+pub four_are : (f : ℕ → ℤ) (j : ℕ) → j < 4 → get_or (f 0 ∷ f 1 ∷ f 2 ∷ f 3 ∷ []) j (pos 0) ≡ f j
+four_are f zero h = refl
+four_are f (suc zero) h = refl
+four_are f (suc (suc zero)) h = refl
+four_are f (suc (suc (suc zero))) h = refl
+four_are f (suc (suc (suc (suc j)))) h = absurd (omega arith)
 
 bits_of : (z : ℤ) → FitsSigned w32 z → of_z w32 z < 2 ^ 32
 bits_of z fits = omega (arith, ints)
@@ -104,70 +133,73 @@ wrapped_lane_is first step j ff fs small =
 first_sign : (c right below : ℤ) (x y j : ℕ) → c +ℤ right *ℤ pos j ≡ (c -ℤ pos x *ℤ right -ℤ pos y *ℤ below) +ℤ pos (x + j) *ℤ right +ℤ pos y *ℤ below
 first_sign c right below x y j = omega (arith, ints, add-mul (pos x) (pos j) right, *ℤ_comm right (pos j))
 
--- eight lanes after a step
-abbrev pub stepped : List ℤ → ℤ → List ℤ
-stepped lanes step = map (to_z w32) (zip2 (λ a b. (a + b) % 2 ^ 32) (map (of_z w32) lanes) (replicate 8 (of_z w32 step)))
+-- lanes after a step
+abbrev pub stepped : ℕ → List ℤ → ℤ → List ℤ
+stepped n lanes step = map (to_z w32) (zip2 (λ a b. (a + b) % 2 ^ 32) (map (of_z w32) lanes) (replicate n (of_z w32 step)))
 
-module _ (lanes : List ℤ) (step : ℤ) (eight : length lanes ≡ 8) where
-  long_bits : length (map (of_z w32) lanes) ≡ 8
-  long_bits = length-map lanes (of_z w32) ∙ eight
+module _ (n : ℕ) (lanes : List ℤ) (step : ℤ) (many : length lanes ≡ n) where
+  long_bits : length (map (of_z w32) lanes) ≡ n
+  long_bits = length-map lanes (of_z w32) ∙ many
 
-  long_sums : length (zip2 (λ a b. (a + b) % 2 ^ 32) (map (of_z w32) lanes) (replicate 8 (of_z w32 step))) ≡ 8
-  long_sums = length-zip2 (λ a b. (a + b) % 2 ^ 32) (map (of_z w32) lanes) (replicate 8 (of_z w32 step)) long_bits ∙ long_bits
+  long_steps : length (replicate n (of_z w32 step)) ≡ n
+  long_steps = length-replicate n (of_z w32 step)
 
-  pub long_stepped : length (stepped lanes step) ≡ 8
-  long_stepped = length-map (zip2 (λ a b. (a + b) % 2 ^ 32) (map (of_z w32) lanes) (replicate 8 (of_z w32 step))) (to_z w32) ∙ long_sums
+  long_sums : length (zip2 (λ a b. (a + b) % 2 ^ 32) (map (of_z w32) lanes) (replicate n (of_z w32 step))) ≡ n
+  long_sums = length-zip2 (λ a b. (a + b) % 2 ^ 32) (map (of_z w32) lanes) (replicate n (of_z w32 step)) (long_bits ∙ sym long_steps) ∙ long_bits
 
-  pub lane_stepped : FitsSigned w32 step → (j : ℕ) (v : ℤ) → j < 8 → slice_index_or lanes j (pos 0) ≡ int_wrap w32 v → slice_index_or (stepped lanes step) j (pos 0) ≡ int_wrap w32 (v +ℤ step)
+  pub long_stepped : length (stepped n lanes step) ≡ n
+  long_stepped = length-map (zip2 (λ a b. (a + b) % 2 ^ 32) (map (of_z w32) lanes) (replicate n (of_z w32 step))) (to_z w32) ∙ long_sums
+
+  pub lane_stepped : FitsSigned w32 step → (j : ℕ) (v : ℤ) → j < n → slice_index_or lanes j (pos 0) ≡ int_wrap w32 v → slice_index_or (stepped n lanes step) j (pos 0) ≡ int_wrap w32 (v +ℤ step)
   lane_stepped fits j v h is =
       let here = slice_index_or lanes j (pos 0) in
       let here_fits = subst (FitsSigned w32) (sym is) (SFits-int_wrap w32 v) in
-      get_or-map (to_z w32) (zip2 (λ a b. (a + b) % 2 ^ 32) (map (of_z w32) lanes) (replicate 8 (of_z w32 step))) j 0 (pos 0) (omega (arith, long_sums))
-      ∙ ap (to_z w32) (get_or-zip2 (λ a b. (a + b) % 2 ^ 32) (map (of_z w32) lanes) (replicate 8 (of_z w32 step)) j 0 0 0 (omega (arith, long_bits)) h
-      ∙ (λ i. (get_or-map (of_z w32) lanes j (pos 0) 0 (omega (arith, eight)) i + get_or-replicate 8 j (of_z w32 step) 0 h i) % 2 ^ 32))
+      get_or-map (to_z w32) (zip2 (λ a b. (a + b) % 2 ^ 32) (map (of_z w32) lanes) (replicate n (of_z w32 step))) j 0 (pos 0) (omega (arith, long_sums, h))
+      ∙ ap (to_z w32) (get_or-zip2 (λ a b. (a + b) % 2 ^ 32) (map (of_z w32) lanes) (replicate n (of_z w32 step)) j 0 0 0 (omega (arith, long_bits, h)) (omega (arith, long_steps, h))
+      ∙ (λ i. (get_or-map (of_z w32) lanes j (pos 0) 0 (omega (arith, many, h)) i + get_or-replicate n j (of_z w32 step) 0 h i) % 2 ^ 32))
       ∙ wrapping_add_onto w32 (of_z w32 here) step (bits_of here here_fits) fits
-      ∙ ap (λ n. int_wrap w32 (n +ℤ step)) (to_z-of_z w32 here here_fits ∙ is)
+      ∙ ap (λ z. int_wrap w32 (z +ℤ step)) (to_z-of_z w32 here here_fits ∙ is)
       ∙ int_wrap-add_left w32 v step
 
 one_below : (o s t : ℤ) (x y : ℕ) → (o +ℤ pos x *ℤ s +ℤ pos y *ℤ t) +ℤ t ≡ o +ℤ pos x *ℤ s +ℤ pos (y + 1) *ℤ t
 one_below o s t x y = omega (arith, ints)
 
-eight_across : (o s t : ℤ) (x j y : ℕ) → (o +ℤ pos (x + j) *ℤ s +ℤ pos y *ℤ t) +ℤ pos 8 *ℤ s ≡ o +ℤ pos (x + 8 + j) *ℤ s +ℤ pos y *ℤ t
-eight_across o s t x j y = omega (arith, ints, add-mul (pos x) (pos j) s, add-mul (pos (x + 8)) (pos j) s)
+some_across : (o s t : ℤ) (n x j y : ℕ) → (o +ℤ pos (x + j) *ℤ s +ℤ pos y *ℤ t) +ℤ pos n *ℤ s ≡ o +ℤ pos (x + n + j) *ℤ s +ℤ pos y *ℤ t
+some_across o s t n x j y = omega (arith, ints, add-mul (pos x) (pos j) s, add-mul (pos x) (pos n) s, add-mul (pos (x + n)) (pos j) s)
 
-pub signs_below : (l : SignLanes) (e : Edge) (left top x y : ℕ) → FitsSigned w32 l.below → AreSigns l e left top x y → AreSigns (record { lanes = stepped l.lanes l.below; across = l.across; below = l.below }) e left top x (y + 1)
-signs_below l e left top x y fits h =
+pub signs_below : (n : ℕ) (lanes : List ℤ) (across below : ℤ) (e : Edge) (left top x y : ℕ) → FitsSigned w32 below → AreLanes n lanes across below e left top x y → AreLanes n (stepped n lanes below) across below e left top x (y + 1)
+signs_below n lanes across below e left top x y fits h =
     let f = h.signs in
     record {
       signs = f;
-      eight = long_stepped l.lanes l.below h.eight;
-      lane = λ j k. lane_stepped l.lanes l.below h.eight fits j (sign_at f (x + j) y) k (h.lane j k) ∙ ap (λ t. int_wrap w32 (sign_at f (x + j) y +ℤ t)) h.below ∙ ap (int_wrap w32) (one_below f.origin f.right f.below (x + j) y);
-      across = h.across;
-      below = h.below;
+      long = long_stepped n lanes below h.long;
+      lane = λ j k. lane_stepped n lanes below h.long fits j (sign_at f (x + j) y) k (h.lane j k) ∙ ap (λ t. int_wrap w32 (sign_at f (x + j) y +ℤ t)) h.down ∙ ap (int_wrap w32) (one_below f.origin f.right f.below (x + j) y);
+      right = h.right;
+      down = h.down;
     }
 
-pub signs_across : (l : SignLanes) (e : Edge) (left top x y : ℕ) → FitsSigned w32 l.across → AreSigns l e left top x y → AreSigns (record { lanes = stepped l.lanes l.across; across = l.across; below = l.below }) e left top (x + 8) y
-signs_across l e left top x y fits h =
+pub signs_across : (n : ℕ) (lanes : List ℤ) (across below : ℤ) (e : Edge) (left top x y : ℕ) → FitsSigned w32 across → AreLanes n lanes across below e left top x y → AreLanes n (stepped n lanes across) across below e left top (x + n) y
+signs_across n lanes across below e left top x y fits h =
     let f = h.signs in
     record {
       signs = f;
-      eight = long_stepped l.lanes l.across h.eight;
-      lane = λ j k. lane_stepped l.lanes l.across h.eight fits j (sign_at f (x + j) y) k (h.lane j k) ∙ ap (λ t. int_wrap w32 (sign_at f (x + j) y +ℤ t)) h.across ∙ ap (int_wrap w32) (eight_across f.origin f.right f.below x j y);
-      across = h.across;
-      below = h.below;
+      long = long_stepped n lanes across h.long;
+      lane = λ j k. lane_stepped n lanes across h.long fits j (sign_at f (x + j) y) k (h.lane j k) ∙ ap (λ t. int_wrap w32 (sign_at f (x + j) y +ℤ t)) h.right ∙ ap (int_wrap w32) (some_across f.origin f.right f.below n x j y);
+      right = h.right;
+      down = h.down;
     }
 
--- the eight lanes of a first value and a step
-pub first_signs : (f : EdgeFunction) (e : Edge) (is : IsFunctionOf f e) (x y : ℕ) (value c right below across : ℤ) → value ≡ linear f x y → unsigned_abs c ≤ 2 ^ 27
-    → ((by : ℤ) → unsigned_abs by < 2 ^ 27 → (pos 0 ≤ℤ (c +ℤ by)) ↔ (pos 0 ≤ℤ (value +ℤ pos 256 *ℤ by))) → FitsSigned w32 c → FitsSigned w32 right → right ≡ is.right → below ≡ is.below → across ≡ pos 8 *ℤ right
-    → (lanes : List ℤ) → length lanes ≡ 8 → ((j : ℕ) → j < 8 → slice_index_or lanes j (pos 0) ≡ wrapped_lane c right j)
-    → AreSigns (record { lanes = lanes; across = across; below = below }) e x y x y
+-- the lanes of a first value and a step
+pub first_signs : (n : ℕ) → n ≤ 8 → (s : ShortFunction) (e : Edge) (is : IsShortOf s e) (x y : ℕ) (value c across : ℤ) → value ≡ linear (wide_of s) x y → unsigned_abs c ≤ 2 ^ 27
+    → ((by : ℤ) → unsigned_abs by < 2 ^ 27 → (pos 0 ≤ℤ (c +ℤ by)) ↔ (pos 0 ≤ℤ (value +ℤ by))) → FitsSigned w32 c → FitsSigned w32 s.step_x → across ≡ pos n *ℤ s.step_x
+    → (lanes : List ℤ) → length lanes ≡ n → ((j : ℕ) → j < n → slice_index_or lanes j (pos 0) ≡ wrapped_lane c s.step_x j)
+    → AreLanes n lanes across s.step_y e x y x y
 unfolding signs_from
-first_signs f e is x y value c right below across value_is small sign fc fr right_is below_is across_is lanes eight each =
+first_signs n few s e is x y value c across value_is small sign fc fr across_is lanes long each =
     record {
-      signs = signs_from f e is x y value c value_is small sign;
-      eight = eight;
-      lane = λ j h. each j h ∙ wrapped_lane_is c right j fc fr h ∙ ap (λ r. int_wrap w32 (c +ℤ r *ℤ pos j)) right_is ∙ ap (int_wrap w32) (first_sign c is.right is.below x y j);
-      across = across_is ∙ ap (λ r. pos 8 *ℤ r) right_is;
-      below = below_is;
+      signs = signs_from s e is x y value c value_is small sign;
+      long = long;
+      lane = λ j h. each j h ∙ wrapped_lane_is c s.step_x j fc fr (omega (arith, few, h)) ∙ ap (int_wrap w32) (first_sign c s.step_x s.step_y x y j);
+      right = across_is;
+      down = refl;
     }

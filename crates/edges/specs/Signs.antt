@@ -1,9 +1,27 @@
--- The signs of an edge's values at eight pixels side by side, as numbers of 32 bits.
-use Rattle.std.specs.Prelude.{◌≡◌, ℕ, ◌+◌, ◌<◌, ℤ, pos, ◌+ℤ◌, ◌*ℤ◌, ◌≤ℤ◌, ◌↔◌, FitsSigned, length, slice_index_or}
+-- The signs of an edge's values at pixels side by side, as numbers of 32 bits.
+use Rattle.std.specs.Prelude.{◌≡◌, ℕ, ◌+◌, ◌<◌, ◌≤◌, ◌^◌, ℤ, pos, ◌+ℤ◌, ◌*ℤ◌, ◌≤ℤ◌, ◌↔◌, unsigned_abs, FitsSigned, List, length, slice_index_or}
 use Rattle.std.specs.Int.{w32, int_wrap}
 use Rattle.gfxspec.specs.Raster.{Edge}
 use Rattle.edges.specs.Value.{edge_value}
+use Rattle.edges.specs.Function.{IsSmall, linear}
+use Rattle.edges.specs.declared.EdgeFunction.{EdgeFunction}
+use Rattle.edges.specs.declared.signs.ShortFunction.{ShortFunction}
 use Rattle.edges.specs.declared.signs.SignLanes.{SignLanes}
+use Rattle.edges.specs.declared.signs.QuadSigns.{QuadSigns}
+
+abbrev pub wide_of : ShortFunction → EdgeFunction
+wide_of s = record { origin = s.origin; step_x = s.step_x; step_y = s.step_y }
+
+-- s is small enough for steps of 32 bits
+pub record IsShort (s : ShortFunction) : Type 0 where
+  pub small : IsSmall (wide_of s)
+  pub step_x : unsigned_abs s.step_x ≤ 2 ^ 21
+  pub step_y : unsigned_abs s.step_y ≤ 2 ^ 21
+
+-- s has the sign of the edge's value at each pixel
+pub record IsShortOf (s : ShortFunction) (e : Edge) : Type 0 where
+  pub short : IsShort s
+  pub tells : (x y : ℕ) → (pos 0 ≤ℤ linear (wide_of s) x y) ↔ (pos 0 ≤ℤ edge_value e x y)
 
 -- a linear function of the pixel whose sign is that of the edge's value, within 32 rows and columns of (left, top)
 pub record SignFunction (e : Edge) (left top : ℕ) : Type 0 where
@@ -16,10 +34,16 @@ pub record SignFunction (e : Edge) (left top : ℕ) : Type 0 where
 abbrev pub sign_at : {e : Edge} {left top : ℕ} → SignFunction e left top → ℕ → ℕ → ℤ
 sign_at f x y = f.origin +ℤ pos x *ℤ f.right +ℤ pos y *ℤ f.below
 
--- the lanes have the function's values at the eight pixels from (x, y) on, as far as 32 bits hold them
-pub record AreSigns (l : SignLanes) (e : Edge) (left top x y : ℕ) : Type 0 where
+-- the lanes have the function's values at the n pixels from (x, y) on, as far as 32 bits hold them; beside them what n pixels to the right and one row down add
+pub record AreLanes (n : ℕ) (lanes : List ℤ) (across below : ℤ) (e : Edge) (left top x y : ℕ) : Type 0 where
   pub signs : SignFunction e left top
-  pub eight : length l.lanes ≡ 8
-  pub lane : (j : ℕ) → j < 8 → slice_index_or l.lanes j (pos 0) ≡ int_wrap w32 (sign_at signs (x + j) y)
-  pub across : l.across ≡ pos 8 *ℤ signs.right
-  pub below : l.below ≡ signs.below
+  pub long : length lanes ≡ n
+  pub lane : (j : ℕ) → j < n → slice_index_or lanes j (pos 0) ≡ int_wrap w32 (sign_at signs (x + j) y)
+  pub right : across ≡ pos n *ℤ signs.right
+  pub down : below ≡ signs.below
+
+abbrev pub AreSigns : SignLanes → Edge → ℕ → ℕ → ℕ → ℕ → Type 0
+AreSigns l e left top x y = AreLanes 8 l.lanes l.across l.below e left top x y
+
+abbrev pub AreQuadSigns : QuadSigns → Edge → ℕ → ℕ → ℕ → ℕ → Type 0
+AreQuadSigns l e left top x y = AreLanes 4 l.lanes l.across l.below e left top x y

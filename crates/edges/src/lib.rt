@@ -6,6 +6,7 @@
 #![tactic(auto)]
 
 mod packed;
+mod quads;
 mod reach;
 mod signs;
 mod walk;
@@ -25,6 +26,7 @@ ghost use Rattle.edges.specs.Value.{edge_value, bias, goes_up_or_right};
 use crate::reach::centres_between;
 use gfxspec::PixelRect;
 pub use packed::PackedEdges;
+pub use quads::EdgeQuads;
 use snap::{Side, Sides, SnapTri};
 use std::marker::Model;
 pub use walk::EdgeWalk;

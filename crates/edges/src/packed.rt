@@ -1,18 +1,22 @@
-//! The edges of a triangle in a quarter of the room: its corners, from which they are computed again.
+//! The edges of a triangle as they wait to be drawn: its corners, from which they are computed again, and what their walks begin with.
 
 ghost use Rattle.std.specs.Prelude.{◌≡◌, ◌<◌};
 ghost use Rattle.gfxspec.specs.Limits.{side_bound};
 
-use crate::signs::SignLanes;
+use crate::EdgeSet;
+use crate::quads::EdgeQuads;
+use crate::signs::{QuadSigns, ShortFunction, SignLanes};
 use crate::walk::EdgeWalk;
-use crate::{EdgeFunction, EdgeSet};
-use snap::{Sides, SnapTri};
+use snap::SnapTri;
 use std::marker::Model;
 
 /// The edges of a triangle whose area is not zero, where many wait to be drawn. Contracts see them as the triangle.
 #[derive(Debug, Drop)]
 pub struct PackedEdges {
     triangle: SnapTri,
+    first: ShortFunction,
+    second: ShortFunction,
+    third: ShortFunction,
 }
 
 impl Model for PackedEdges {
@@ -20,11 +24,11 @@ impl Model for PackedEdges {
 
     ghost Value = { Triangle };
 
-    ghost use Rattle.edges.specs.Packed.{triangle_in, HasArea};
+    ghost use Rattle.edges.specs.Packed.{triangle_in, IsPacked};
 
     ghost view = { triangle_in };
 
-    ghost invariant = { HasArea };
+    ghost invariant = { IsPacked };
 }
 
 impl EdgeSet {
@@ -35,6 +39,9 @@ impl EdgeSet {
     {
         PackedEdges {
             triangle: self.triangle,
+            first: ShortFunction::of(self.functions[0]),
+            second: ShortFunction::of(self.functions[1]),
+            third: ShortFunction::of(self.functions[2]),
         }
     }
 }
@@ -51,22 +58,40 @@ impl PackedEdges {
         }
     }
 
-    /// A walk that begins at the eight pixels from (x, y) on: of the edges no more is computed than the walk keeps.
+    /// A walk that begins at the eight pixels from (x, y) on.
     pub fn walk(&self, x: u32, y: u32) -> EdgeWalk<'_>
         requires x { x < side_bound }
         requires y { y < side_bound }
         ensures { result ≡ record { triangle = self.now; left = x; top = y; x = x; y = y } }
     {
-        let sides = Sides::of(&self.triangle);
         EdgeWalk {
             triangle: &self.triangle,
             left: x,
             top: y,
             x,
             y,
-            first: SignLanes::of(EdgeFunction::of(sides.first), x, y),
-            second: SignLanes::of(EdgeFunction::of(sides.second), x, y),
-            third: SignLanes::of(EdgeFunction::of(sides.third), x, y),
+            first: SignLanes::of(self.first, x, y),
+            second: SignLanes::of(self.second, x, y),
+            third: SignLanes::of(self.third, x, y),
+        }
+    }
+
+    /// A walk that begins at the four pixels from (x, y) on.
+    #[inline(always)]
+    pub fn quads(&self, x: u32, y: u32) -> EdgeQuads<'_>
+        requires x { x < side_bound }
+        requires y { y < side_bound }
+        ensures { result ≡ record { triangle = self.now; left = x; top = y; x = x; y = y } }
+    {
+        EdgeQuads {
+            triangle: &self.triangle,
+            left: x,
+            top: y,
+            x,
+            y,
+            first: QuadSigns::of(self.first, x, y),
+            second: QuadSigns::of(self.second, x, y),
+            third: QuadSigns::of(self.third, x, y),
         }
     }
 

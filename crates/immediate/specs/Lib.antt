@@ -5,3 +5,4 @@ pub mod Outputs
 pub mod Batched
 pub mod Engines
 pub mod Tasks
+pub mod Histories

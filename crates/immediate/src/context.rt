@@ -385,6 +385,15 @@ impl<A: Allocator + Copy + Send> ImmediateContext<A> {
         self.examine_run(0)?;
         self.perform_alone(Task::Enqueue { restore }, &list.recorded())
     }
+
+    /// What is pending waits, as if a list of nothing were executed behind it, or runs where it begins a query. Refused with QueryOpen,
+    /// OutOfMemory.
+    pub(crate) fn enqueue_pending_alone(&mut self) -> Result<(), GfxError>
+        ensures { Enqueues (flush_rows (queries_open self.old.pending)) [] true self.old self.new result }
+    {
+        self.examine_run(0)?;
+        self.perform_alone(Task::Enqueue { restore: true }, &Commands::none())
+    }
 }
 
 impl<A: Allocator + Copy + Send + Sync> ImmediateContext<A> {

@@ -1,38 +1,14 @@
 -- What stands in an area of memory once the history of a pixel was told into it.
-use Rattle.std.specs.Prelude.{ℕ, ◌≡◌, ◌<◌, ◌≤◌, Bool, List, ◌++◌, length, map, drop, if◌then◌else◌}
-use Rattle.sessions.specs.declared.telling.NamedEvent.{NamedEvent}
+use Rattle.std.specs.Prelude.{ℕ, ◌≡◌, ◌<◌, ◌≤◌, List, length}
+use Rattle.pixelevents.specs.declared.NamedEvent.{NamedEvent}
+use Rattle.pixelevents.specs.declared.told.EventTold.{EventTold}
+use Rattle.pixelevents.specs.Named.{events_filled}
 use Rattle.sessions.specs.declared.telling.NoHistory.{NoHistory}
 use Rattle.sessions.specs.declared.telling.NoHistory.TheVariants as faults
 use Rattle.sessions.specs.Histories.{IsHistory, Prevents}
-use Rattle.inmemory.specs.declared.telling.EventTold.{EventTold}
 use Rattle.inmemory.specs.declared.telling.HistoryEnd.{HistoryEnd}
 use Rattle.inmemory.specs.declared.telling.HistoryEnd.TheVariants.{Done, Refused, EventsTooSmall, PixelRange}
 use Rattle.inmemory.specs.declared.telling.HistoryReport.{HistoryReport}
-
-abbrev pub bit : Bool → ℕ
-bit b = if b then 1 else 0
-
-abbrev pub event_told : NamedEvent → EventTold
-event_told named =
-    record {
-      item = named.event.item;
-      line = named.line;
-      command = named.place.command;
-      triangle = named.place.triangle;
-      depth_before = named.event.before.ds.depth;
-      depth_after = named.event.after.ds.depth;
-      color_before = named.event.before.rgba;
-      color_after = named.event.after.rgba;
-      stencil_before = named.event.before.ds.stencil;
-      stencil_after = named.event.after.ds.stencil;
-      stencil_passed = bit named.event.stencil_passed;
-      depth_passed = bit named.event.depth_passed;
-      passed = bit named.event.passed;
-    }
-
--- an area with these events at its front, and behind them what was there
-abbrev pub events_filled : List EventTold → List NamedEvent → List EventTold
-events_filled area events = map event_told events ++ drop (length events) area
 
 abbrev pub end_of : NoHistory → HistoryEnd
 end_of (faults.Refused line number) = Refused line number

@@ -12,4 +12,4 @@ mod script;
 mod telling;
 
 pub use areas::{Report, Status, draw, sizes};
-pub use telling::{EventTold, HistoryEnd, HistoryReport, history};
+pub use telling::{HistoryEnd, HistoryReport, history};

@@ -3,3 +3,4 @@ pub mod Laws
 pub mod Places
 pub mod Sessions
 pub mod Origins
+pub mod Named

@@ -9,7 +9,10 @@ ghost use Rattle.pixelevents.specs.Places.{PlacesName, PlacesNameTriangles};
 ghost use Rattle.pixelevents.specs.Origins.{PendingComes, ExecutedComes};
 ghost use Rattle.pixelevents.specs.Sessions.{SessionEndsShown, PendingAdds, ExecutionAdds, FlushAddsNothing};
 
+mod told;
+
 use gfxspec::Pixel;
+pub use told::{EventTold, fill_events};
 
 /// What an item did to a pixel that it touched (Direct3D 11.3 Functional Specification, "Output Merger Stage").
 #[derive(Clone, Copy, Debug, PartialEq, Eq)]
@@ -43,6 +46,17 @@ pub struct Origin {
     /// The number of the step, from 0 on.
     pub step: u64,
     /// Its place in the list. A step that records a command is as a list of this command alone.
+    pub place: Place,
+}
+
+/// An event, and what it comes from.
+#[derive(Clone, Copy, Debug, PartialEq, Eq)]
+pub struct NamedEvent {
+    pub event: Event,
+    /// The line of a script that recorded or executed it on the immediate context, counted from 1; 0 without a script.
+    pub line: u64,
+    /// Its place in the list that the line executes, where a line that records a command is as a list of this command
+    /// alone; without a script its place among the pending commands.
     pub place: Place,
 }
 

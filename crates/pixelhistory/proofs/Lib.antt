@@ -3,3 +3,4 @@ pub mod Taking
 pub mod Listing
 pub mod Passing
 pub mod Standing
+pub mod Naming

@@ -11,7 +11,7 @@ ghost use Rattle.pixelhistory.specs.Passing.{origin_at, origin_behind, PassesLis
 use crate::commands::trace_performed;
 use crate::trace::Trace;
 use cmdlist::{Command, State};
-use pixelevents::{Origin, Place};
+use pixelevents::{Event, NamedEvent, Origin, Place};
 use std::alloc::{AllocError, Allocator};
 
 /// Which steps of a session the commands of a list are.
@@ -33,7 +33,12 @@ pub struct SessionTrace<A: Allocator> {
 }
 
 impl<A: Allocator + Copy> SessionTrace<A> {
+    ghost use Rattle.std.specs.Prelude.{IfOk};
     ghost use Rattle.gfxspec.specs.declared.geometry.Size.{Size};
+    ghost use Rattle.pixelevents.specs.declared.Origin.{Origin};
+    ghost use Rattle.pixelevents.specs.declared.NamedEvent.{NamedEvent};
+    ghost use Rattle.pixelevents.specs.Origins.{AreNamed};
+    ghost use Rattle.pixelevents.specs.Named.{named_by};
     ghost use Rattle.pixelhistory.specs.Standing.{Traces};
 
     /// The trace of a pixel of a new target.
@@ -55,6 +60,24 @@ impl<A: Allocator + Copy> SessionTrace<A> {
     {
         self.step = self.step.checked_add(commands as u64).ok_or(AllocError)?;
         Ok(())
+    }
+
+    /// Its events, each named by its origin.
+    pub fn named_by<F: Fn(Event, Origin) -> NamedEvent>(
+        &self,
+        alloc: A,
+        name: &F,
+    ) -> Result<Vec<NamedEvent, A>, AllocError>
+        requires may { AreNamed (λ k origin. (e : Event) → F.pre name.now e origin) self.now.trace.events.items self.now.origins.items }
+        ensures { (named : Event → Origin → NamedEvent) → ((e : Event) (origin : Origin) (n : NamedEvent) → F.post name.now e origin n → n ≡ named e origin)
+            → IfOk result (λ events. events.items ≡ named_by named self.now.trace.events.items self.now.origins.items) }
+    {
+        let mut events = Vec::new(alloc);
+        for number in 0..self.trace.events.len() {
+            let event = self.trace.events[number];
+            events.push(name(event, self.origins[number]))?;
+        }
+        Ok(events)
     }
 }
 

@@ -1,29 +1,29 @@
 -- The trace of a pixel beside a context: what recording, runs and executions make of it, and what it tells behind the last run.
-use Rattle.std.proofs.Common.{◌≡◌, ◌∙◌, ap, sym, subst, refl, arith, ℕ, ◌<◌, true, false, true≢false, not, ◌&&◌, nat_lt, List, [], ◌∷◌, ◌++◌}
+use Rattle.std.proofs.Common.{◌≡◌, ◌∙◌, ap, sym, subst, refl, arith, ℕ, ◌<◌, true, false, true≢false, not, ◌&&◌, nat_lt, List, [], ◌++◌, length, take}
 use Rattle.std.proofs.lemmas.Bool.Decides.{nat_tests}
 use Rattle.std.specs.Prelude.{Result, Ok, Err, OnOk, Option, None, MatchOption}
-use Rattle.std.proofs.lemmas.List.{append-nil}
+use Rattle.std.proofs.lemmas.List.{append-nil, take_all}
 use Rattle.gfxspec.specs.declared.geometry.Size.{Size}
 use Rattle.gfxspec.specs.Items.{opening}
-use Rattle.gfxspec.specs.Session.{Step, Flushes}
+use Rattle.gfxspec.specs.declared.error.GfxError.{GfxError}
+use Rattle.gfxspec.specs.Session.{Step}
 use Rattle.meaning.specs.Standing.{Stands}
-use Rattle.meaning.proofs.Standing.{settled-run}
-use Rattle.pixelevents.specs.History.{history_from}
 use Rattle.pixelevents.specs.Laws.{left_by}
 use Rattle.pixelevents.specs.Sessions.{performed_items, session_history}
 use Rattle.pixelevents.proofs.HistoryLaws.{last}
-use Rattle.pixelevents.proofs.SessionLaws.{flush_keeps_items}
 use Rattle.pixelevents.specs.Origins.{AreNamed, IsOriginOf}
-use Rattle.pixelevents.proofs.OriginLaws.{named_as, origin_unflushed}
 use Rattle.pixelhistory.specs.declared.session.SessionTrace.{SessionTrace}
 use Rattle.pixelhistory.specs.Standing.{TracesAll, Traces}
 use Rattle.scenetext.specs.Scene.{Line, Scene}
 use Rattle.immediate.specs.Held.{Held, context_of}
 use Rattle.sessions.specs.declared.outcome.Ended.TheVariants as ended
 use Rattle.sessions.specs.declared.play.Interruption.{Interruption}
+use Rattle.sessions.specs.declared.play.Played.{Played}
 use Rattle.sessions.specs.declared.traced.TracedContext.{TracedContext}
 use Rattle.sessions.specs.Histories.{traces_beside}
 use Rattle.sessions.specs.Lists.{steps_of}
+use Rattle.sessions.specs.Playing.{HasReached}
+use Rattle.sessions.proofs.Steps.{IsLast}
 use Rattle.sessions.specs.Answers.{answers, pixel_after}
 use Rattle.sessions.specs.Writing.{Output, Draws, whole, short, end_of}
 
@@ -41,19 +41,6 @@ module _ {A : Type 0} (size : Size) where
         (subst (λ m. Traces size more column m u) h.1
         (on (subst (λ n. Traces size steps n row t) (sym h.0) (subst (λ m. Traces size steps x m t) (sym h.1) h.2)))),
   )
-
-  -- behind the last run the trace has the history of the session, and where its events come from
-  pub record HasWhole (steps : List Step) (x y : ℕ) (t : SessionTrace A) : Type 0 where
-    pub events : t.trace.events.items ≡ session_history size steps x y
-    pub named : AreNamed (IsOriginOf size steps) t.trace.events.items t.origins.items
-
-  pub traced_whole : (steps : List Step) (x y : ℕ) (t : SessionTrace A) → Traces size (steps ++ Flushes ∷ []) x y t → HasWhole steps x y t
-  traced_whole steps x y t h =
-      let all : TracesAll size (steps ++ Flushes ∷ []) x y t = subst (λ ss. TracesAll size ss x y t) (settled-run steps Flushes refl) h.ran in
-      record {
-        events = all.past.events ∙ ap (λ is. history_from 0 is x y opening) (flush_keeps_items size steps);
-        named = named_as (IsOriginOf size (steps ++ Flushes ∷ [])) (IsOriginOf size steps) (λ k o g. origin_unflushed size steps k o g) t.trace.events.items t.origins.items all.named;
-      }
 
 -- what a call traced at the pixel of a context that held h
 pub on_beside : {A T E : Type 0} (h : Held) (more : List Step) (column row : ℕ) (t u : SessionTrace A) (result : Result T E) → ((steps : List Step) → Stands h.surface.size steps (context_of h) → Traces h.surface.size steps column row t → OnOk result (Traces h.surface.size (steps ++ more) column row u))
@@ -86,9 +73,45 @@ pixel_outside x y size h column row =
     let b : nat_lt y size.height ≡ true = grind (arith, nat_tests) in
     absurd (true≢false (sym h ∙ ap (λ c. not (c && nat_lt y size.height)) a ∙ ap not b))
 
--- behind the last run, which was made where nothing interrupted it, the trace has the history of the lines
-pub whole_history : {A : Type 0} (size z : Size) (ls ms : List Line) (x y : ℕ) (o : Option (ℕ × Interruption)) (c : TracedContext A) (t : SessionTrace A) → z ≡ size → ls ≡ ms → o ≡ None → t ≡ c.trace → MatchOption o (traces_beside z (steps_of ls ++ Flushes ∷ []) x y c) (λ at. Unit {0}) → HasWhole size (steps_of ms) x y t
-whole_history {A} size z ls ms x y o c t same lines none trace given =
-    let h : traces_beside z (steps_of ls ++ Flushes ∷ []) x y c = subst (λ p. MatchOption p (traces_beside z (steps_of ls ++ Flushes ∷ []) x y c) (λ at. Unit {0})) none given in
-    subst (λ (u : SessionTrace A). HasWhole size (steps_of ms) x y u) (sym trace)
-    (subst (λ s. HasWhole s (steps_of ms) x y c.trace) same (subst (λ l. HasWhole z (steps_of l) x y c.trace) lines (traced_whole z (steps_of ls) x y c.trace h.2)))
+-- what the end of a session traced at the pixel of a context that held h
+pub ended_beside : {A T E : Type 0} (h : Held) (column row : ℕ) (t u : SessionTrace A) (result : Result T E) → ((steps : List Step) → Stands h.surface.size steps (context_of h) → Traces h.surface.size steps column row t → OnOk result (TracesAll h.surface.size steps column row u))
+    → (steps : List Step) (x y : ℕ) → Stands h.surface.size steps (context_of h) → (column ≡ x) × (row ≡ y) × Traces h.surface.size steps x y t → OnOk result (TracesAll h.surface.size steps x y u)
+ended_beside h column row t u result on steps x y stands before =
+    subst (λ n. OnOk result (TracesAll h.surface.size steps n y u)) before.0
+    (subst (λ m. OnOk result (TracesAll h.surface.size steps column m u)) before.1
+    (on steps stands
+    (subst (λ n. Traces h.surface.size steps n row t) (sym before.0) (subst (λ m. Traces h.surface.size steps x m t) (sym before.1) before.2))))
+
+-- behind all lines the trace has all of the session
+pub all_traced_beside : {A : Type 0} (size : Size) (ls : List Line) (x y : ℕ) (c d : TracedContext A) (text : List ℕ) (place : ℕ) (last : Result (Unit {0}) GfxError) (r : Played (TracedContext A) A) → HasReached size ls (length ls) c.context text
+    → ((steps : List Step) (x y : ℕ) → Stands c.context.surface.size steps (context_of c.context) → traces_beside c.context.surface.size steps x y c → OnOk last (TracesAll c.context.surface.size steps x y d.trace))
+    → traces_beside size (steps_of ls) x y c → r.context ≡ d → IsLast place last r → MatchOption r.interruption (TracesAll size (steps_of ls) x y r.context.trace) (λ at. Unit {0})
+all_traced_beside {A} size ls x y c d text place last r reached on t context is = by last went is
+  where
+    lines : take (length ls) ls ≡ ls
+    lines = take_all (length ls) ls (omega arith)
+
+    went : OnOk last (TracesAll size (steps_of ls) x y d.trace)
+    went =
+        subst (λ (s : Size). OnOk last (TracesAll s (steps_of ls) x y d.trace)) reached.played.size_is
+        (on (steps_of ls) x y
+        (subst (λ (s : Size). Stands s (steps_of ls) (context_of c.context)) (sym reached.played.size_is) (subst (λ l. Stands size (steps_of l) (context_of c.context)) lines reached.played.stands))
+        (subst (λ (s : Size). traces_beside s (steps_of ls) x y c) (sym reached.played.size_is) t))
+
+    by : (last : Result (Unit {0}) GfxError) → OnOk last (TracesAll size (steps_of ls) x y d.trace) → IsLast place last r → MatchOption r.interruption (TracesAll size (steps_of ls) x y r.context.trace) (λ at. Unit {0})
+    by (Ok u) h none =
+        subst (λ (o : Option (ℕ × Interruption)). MatchOption o (TracesAll size (steps_of ls) x y r.context.trace) (λ at. Unit {0})) (sym none)
+        (subst (λ (e : TracedContext A). TracesAll size (steps_of ls) x y e.trace) (sym context) h)
+    by (Err e) h some = subst (λ (o : Option (ℕ × Interruption)). MatchOption o (TracesAll size (steps_of ls) x y r.context.trace) (λ at. Unit {0})) (sym some) tt
+
+-- the trace of a session that was not interrupted has the history of its lines, and where its events come from
+pub record HasWhole {A : Type 0} (size : Size) (steps : List Step) (x y : ℕ) (t : SessionTrace A) : Type 0 where
+  pub events : t.trace.events.items ≡ session_history size steps x y
+  pub named : AreNamed (IsOriginOf size steps) t.trace.events.items t.origins.items
+
+pub whole_history : {A : Type 0} (size z : Size) (ls ms : List Line) (x y : ℕ) (o : Option (ℕ × Interruption)) (c d : TracedContext A) → z ≡ size → ls ≡ ms → o ≡ None → d ≡ c → MatchOption o (TracesAll z (steps_of ls) x y c.trace) (λ at. Unit {0}) → HasWhole size (steps_of ms) x y d.trace
+whole_history {A} size z ls ms x y o c d same lines none is given =
+    let h : TracesAll z (steps_of ls) x y c.trace = subst (λ p. MatchOption p (TracesAll z (steps_of ls) x y c.trace) (λ at. Unit {0})) none given in
+    subst (λ (e : TracedContext A). HasWhole size (steps_of ms) x y e.trace) (sym is)
+    (subst (λ s. HasWhole s (steps_of ms) x y c.trace) same
+    (subst (λ l. HasWhole z (steps_of l) x y c.trace) lines record { events = h.past.events; named = h.named }))

@@ -32,6 +32,7 @@ use Rattle.sessions.specs.Writing.{end_of, image_at, scene_output}
 use Rattle.sessions.specs.Playing.{IsPlayed}
 use Rattle.sessions.specs.Taking.{held_rows, HasTaken, held_answers}
 use Rattle.sessions.specs.Calling.{Contexts, ExecutesList, ImmediateCalled, DeferredCalled, CalledOn, AreCalled, AreFresh, HoldWhatIsLeft}
+use Rattle.sessions.proofs.Ran.{ran_executed}
 use Rattle.sessions.proofs.Played.{steps_of-push, rows_are, next_played, answers_are, pixels_are}
 use Rattle.sessions.proofs.Endings.{end_one, sized}
 
@@ -54,7 +55,7 @@ pub record IsTaken (e : List Line) (v : Verb) (h d : Held) (told : List Answer) 
 
 taken_by : (e : List Line) (deferred : ℕ → Recording) (v : Verb) (h d : Held) (told : List Answer) → ((k : ℕ) → deferred k ≡ recording_of k e) → ImmediateCalled deferred v h d told → IsTaken e v h d told
 taken_by e deferred (Call c) h d told same r = record { none = r.0.answer; taken = r.0.ok; told_is = r.1 }
-taken_by e deferred Flush h d told same r = record { none = r.0.answer; taken = r.0.ok; told_is = r.1 }
+taken_by e deferred Flush h d told same r = record { none = r.0.answer; taken = ran_executed [] true h d r.0.ok; told_is = r.1 }
 taken_by e deferred (Execute k n restore) h d told same r =
     let list = slice_index_or (deferred k).lists n [] in
     let list_is : list ≡ listed e k n = ap (λ (x : Recording). slice_index_or x.lists n []) (same k) in

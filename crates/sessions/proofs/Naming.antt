@@ -2,7 +2,6 @@
 use Rattle.std.proofs.Common.{rules, ◌≡◌, ◌∙◌, ap, sym, subst, refl, arith, ℕ, suc, zero, ◌+◌, ◌<◌, ◌≤◌, true, List, [], ◌∷◌, ◌++◌, length, map, take, drop, get_or, append_assoc, length-append}
 use Rattle.std.specs.Prelude.{All}
 use Rattle.std.proofs.lemmas.List.{take_all, take_more, drop_more, take-append-drop, length-take-le, append-nil}
-use Rattle.std.proofs.lemmas.List.Elements.{All-nil, All-cons}
 use Rattle.gfxspec.specs.declared.geometry.Size.{Size}
 use Rattle.gfxspec.specs.Session.{Step, Records, Flushes}
 use Rattle.scenetext.specs.Scene.{Verb, Call, Finish, Flush, Execute, Query, Pixel, Line}
@@ -10,14 +9,16 @@ use Rattle.scenetext.specs.Spelling.{AreLines, may_take, is_immediate_actor}
 use Rattle.recorders.specs.Apart.{a_line, line_at}
 use Rattle.pixelevents.specs.declared.Event.{Event}
 use Rattle.pixelevents.specs.declared.Origin.{Origin}
+use Rattle.pixelevents.specs.declared.NamedEvent.{NamedEvent}
+use Rattle.pixelevents.specs.Named.{named_by}
 use Rattle.pixelevents.specs.Origins.{ComesOf, IsOriginOf, AreNamed}
 use Rattle.pixelevents.specs.Sessions.{session_history}
 use Rattle.pixelevents.proofs.OriginLaws.{named_as}
 use Rattle.pixelhistory.specs.declared.session.SessionTrace.{SessionTrace}
-use Rattle.sessions.specs.declared.telling.NamedEvent.{NamedEvent}
+use Rattle.pixelhistory.proofs.Naming.{events_named, names_are}
 use Rattle.sessions.specs.Lists.{steps_of, steps_behind, actor_steps, verb_steps}
 use Rattle.sessions.specs.Playing.{own_count, own_place}
-use Rattle.sessions.specs.Histories.{IsOfLine, IsNamedHistory, named_event, named_events}
+use Rattle.sessions.specs.Histories.{IsOfLine, IsNamedHistory, named_event}
 use Rattle.sessions.proofs.Played.{steps_of-push}
 use Rattle.sessions.proofs.Steps.{IsNext, next_line, none_steps, all_own}
 
@@ -132,64 +133,12 @@ module _ (size : Size) (ls : List Line) (sound : AreLines [] ls) where
       low : (o : Origin) (front back : List Step) → o.step ≡ length front → length (steps_of ls) ≡ length front + suc (length back) → o.step < own_count ls
       low o front back p q = omega (arith, p, q, steps_counted)
 
-  -- ---- events
-
-  abbrev Named : List Event → List Origin → Type 0
-  Named es os = AreNamed (IsOriginOf size (steps_of ls)) es os
-
-  pub events_named : (es : List Event) (os : List Origin) → Named es os → map (λ (e : NamedEvent). e.event) (named_events ls es os) ≡ es
-  events_named [] [] h = refl
-  events_named (e ∷ es) (o ∷ os) h = ap (λ l. e ∷ l) (events_named es os h.1)
-  events_named [] (o ∷ os) h = absurd h
-  events_named (e ∷ es) [] h = absurd h
-
-  pub lines_named : (es : List Event) (os : List Origin) → Named es os → All (λ (e : NamedEvent). IsOfLine size ls e.event.item e.line e.place) (named_events ls es os)
-  lines_named [] [] h = All-nil (λ (e : NamedEvent). IsOfLine size ls e.event.item e.line e.place)
-  lines_named (e ∷ es) (o ∷ os) h =
-      All-cons (λ (e : NamedEvent). IsOfLine size ls e.event.item e.line e.place) (named_event ls e o) (named_events ls es os) (of_line e.item o h.0) (lines_named es os h.1)
-  lines_named [] (o ∷ os) h = absurd h
-  lines_named (e ∷ es) [] h = absurd h
-
 -- the named history, from what the trace has
-pub named_history : {A : Type 0} (size : Size) (ls : List Line) → AreLines [] ls → (x y : ℕ) (t : SessionTrace A) → t.trace.events.items ≡ session_history size (steps_of ls) x y → AreNamed (IsOriginOf size (steps_of ls)) t.trace.events.items t.origins.items → (events : List NamedEvent) → events ≡ named_events ls t.trace.events.items t.origins.items → IsNamedHistory size ls x y events
-named_history size ls sound x y t history named events told = record {
-  events_are = ap (map (λ (e : NamedEvent). e.event)) told ∙ events_named size ls sound t.trace.events.items t.origins.items named ∙ history;
-  named = subst (All (λ (e : NamedEvent). IsOfLine size ls e.event.item e.line e.place)) (sym told) (lines_named size ls sound t.trace.events.items t.origins.items named);
-}
-
--- ---- event by event
-
--- an event has an origin at its place
-pub named_at : (P : ℕ → Origin → Type 0) (es : List Event) (os : List Origin) (n : ℕ) (d : Event) (q : Origin) → n < length es → AreNamed P es os → (n < length os) × P (get_or es n d).item (get_or os n q)
-named_at P [] [] n d q l h = absurd (omega (arith, l))
-named_at P [] (o ∷ os) n d q l h = absurd h
-named_at P (e ∷ es) [] n d q l h = absurd h
-named_at P (e ∷ es) (o ∷ os) zero d q l h = (omega arith, h.0)
-named_at P (e ∷ es) (o ∷ os) (suc n) d q l h = let rest = named_at P es os n d q (omega (arith, l)) h.1 in (omega (arith, rest.0), rest.1)
-
-pub named_more : (ls : List Line) (es : List Event) (os : List Origin) (n : ℕ) (d : Event) (q : Origin) → n < length es → n < length os → named_events ls (take (n + 1) es) (take (n + 1) os) ≡ named_events ls (take n es) (take n os) ++ named_event ls (get_or es n d) (get_or os n q) ∷ []
-named_more ls es os n d q l m =
-    ap (λ (fs : List Event). named_events ls fs (take (n + 1) os)) (take_more es n d l) ∙ ap (named_events ls (take n es ++ get_or es n d ∷ [])) (take_more os n q m)
-    ∙ pushed (take n es) (take n os) (length-take-le n es (omega (arith, l)) ∙ sym (length-take-le n os (omega (arith, m))))
-  where
-    e : Event
-    e = get_or es n d
-
-    o : Origin
-    o = get_or os n q
-
-    pushed : (fs : List Event) (ps : List Origin) → length fs ≡ length ps → named_events ls (fs ++ e ∷ []) (ps ++ o ∷ []) ≡ named_events ls fs ps ++ named_event ls e o ∷ []
-    pushed [] [] h = refl
-    pushed (f ∷ fs) (p ∷ ps) h = ap (λ l. named_event ls f p ∷ l) (pushed fs ps (omega (arith, h)))
-    pushed [] (p ∷ ps) h = absurd (omega (arith, h))
-    pushed (f ∷ fs) [] h = absurd (omega (arith, h))
-
-pub named_end : (P : ℕ → Origin → Type 0) (ls : List Line) (es : List Event) (os : List Origin) (n : ℕ) → length es ≤ n → AreNamed P es os → named_events ls (take n es) (take n os) ≡ named_events ls es os
-named_end P ls es os n l h =
-    ap (λ (fs : List Event). named_events ls fs (take n os)) (take_all n es l) ∙ ap (named_events ls es) (take_all n os (omega (arith, l, long es os h)))
-  where
-    long : (es : List Event) (os : List Origin) → AreNamed P es os → length es ≡ length os
-    long [] [] h = refl
-    long (e ∷ es) (o ∷ os) h = ap suc (long es os h.1)
-    long [] (o ∷ os) h = absurd h
-    long (e ∷ es) [] h = absurd h
+pub named_history : {A : Type 0} (size : Size) (ls : List Line) → AreLines [] ls → (x y : ℕ) (t : SessionTrace A) → t.trace.events.items ≡ session_history size (steps_of ls) x y → AreNamed (IsOriginOf size (steps_of ls)) t.trace.events.items t.origins.items → (events : List NamedEvent) → events ≡ named_by (named_event ls) t.trace.events.items t.origins.items → IsNamedHistory size ls x y events
+named_history size ls sound x y t history named events told =
+    let P = IsOriginOf size (steps_of ls) in
+    record {
+      events_are = ap (map (λ (e : NamedEvent). e.event)) told ∙ events_named (named_event ls) (λ e o. refl) P t.trace.events.items t.origins.items named ∙ history;
+      named = subst (All (λ (e : NamedEvent). IsOfLine size ls e.event.item e.line e.place)) (sym told)
+          (names_are (named_event ls) P (λ (e : NamedEvent). IsOfLine size ls e.event.item e.line e.place) (λ e o. of_line size ls sound e.item o) t.trace.events.items t.origins.items named);
+    }

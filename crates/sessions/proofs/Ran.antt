@@ -27,6 +27,9 @@ pub run_is : (list : List Command) (restore : Bool) (did : Type 0) (old new : He
 run_is list restore did old new (Ok done) runs does = record { accepted = runs.answer; did = does runs.ok; cause = tt }
 run_is list restore did old new (Err e) runs does = record { accepted = tt; did = tt; cause = ⊎_elim (λ row. inl row) (λ memory. inr memory.1) runs.answer }
 
+pub ran_executed : (list : List Command) (restore : Bool) (old new : Held) → Ran list restore old new → Executed list restore old new
+ran_executed list restore old new ran = record { size = ran.size; run = ran.run }
+
 -- the same of an execution
 pub enqueue_is : (list : List Command) (restore : Bool) (did : Type 0) (old new : Held) (result : Result (Unit {0}) GfxError) → Enqueues (flush_rows (queries_open old.pending)) list restore old new result → (Executed list restore old new → did) → HasRun did (flush_rows (queries_open old.pending)) result
 enqueue_is list restore did old new (Ok done) runs does = record { accepted = runs.answer; did = does runs.ok; cause = tt }
@@ -84,6 +87,7 @@ Untraced size steps x y c = Unit {0}
 pub untraced : {C T E : Type 0} (agrees : Type 0) (w : ℕ → ℕ → List Command) (r : Running) (h : Held) (a b : C) (result : Result T E) → OnOk result (TracesRun Untraced agrees w r h a b)
 untraced agrees w runs.Settle h a b (Ok done) = λ steps x y stands t. tt
 untraced agrees w runs.Flush h a b (Ok done) = λ steps x y stands t. tt
+untraced agrees w runs.FlushLine h a b (Ok done) = λ steps x y stands t. tt
 untraced agrees w (runs.Execute k n restore) h a b (Ok done) = λ ok steps x y stands t. tt
 untraced agrees w r h a b (Err e) = tt
 
@@ -105,6 +109,10 @@ left_size e old new (inr left) = may_size old new left.1
 pub runs_size : {T : Type 0} (rows : List Row) (list : List Command) (restore : Bool) (old new : Held) (result : Result T GfxError) → Runs rows list restore old new result → new.surface.size ≡ old.surface.size
 runs_size rows list restore old new (Ok done) runs = runs.ok.size
 runs_size rows list restore old new (Err e) runs = left_size e old new runs.err
+
+pub enqueues_size : {T : Type 0} (rows : List Row) (list : List Command) (restore : Bool) (old new : Held) (result : Result T GfxError) → Enqueues rows list restore old new result → new.surface.size ≡ old.surface.size
+enqueues_size rows list restore old new (Ok done) runs = runs.ok.size
+enqueues_size rows list restore old new (Err e) runs = left_size e old new runs.err
 
 pub settle_size : (old new : Held) (result : Result (Unit {0}) GfxError) → Performs Settle [] old new result → new.surface.size ≡ old.surface.size
 settle_size old new (Ok done) ran = ran.ok.0.size

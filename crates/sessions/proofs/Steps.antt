@@ -1,11 +1,11 @@
 -- Lines that are accepted and answered, one by one, and one more line of the immediate context.
-use Rattle.std.proofs.Common.{◌≡◌, ◌∙◌, ap, sym, subst, refl, ℕ, ◌+◌, ◌<◌, ◌≤◌, arith, Bool, true, false, true≢false, List, [], ◌∷◌, ◌++◌, length, take, map, get_or, below_more, None, zero, suc, ◌-◌, ◌%◌, ◌==◌, drop, append_assoc}
-use Rattle.std.specs.Prelude.{if◌then◌else◌}
+use Rattle.std.proofs.Common.{◌≡◌, ◌∙◌, ◌⊎◌, inl, inr, ap, sym, subst, refl, ℕ, ◌+◌, ◌<◌, ◌≤◌, arith, Bool, true, false, true≢false, List, [], ◌∷◌, ◌++◌, length, take, map, get_or, below_more, Option, None, Some, zero, suc, ◌-◌, ◌%◌, ◌==◌, drop, append_assoc}
+use Rattle.std.specs.Prelude.{if◌then◌else◌, is_none, Result, Ok, Err, OnOk, IfErr, MatchOption, MatchResult}
 use Rattle.std.proofs.lemmas.List.{length-map, take_more, take_all, append-nil, get_or-map, get_or_past, length-append}
 use Rattle.gfxspec.specs.declared.geometry.Size.{Size}
 use Rattle.gfxspec.specs.declared.error.GfxError.{GfxError}
 use Rattle.gfxspec.specs.Commands.{Command}
-use Rattle.gfxspec.specs.Refusals.{first_row}
+use Rattle.gfxspec.specs.Refusals.{first_row, AnswersBy}
 use Rattle.meaning.specs.Standing.{Stands, IsNew}
 use Rattle.meaning.proofs.Contexts.{stands_new}
 use Rattle.scenetext.specs.Seen.{verb_value}
@@ -17,7 +17,8 @@ use Rattle.recorders.proofs.Recordings.{lists_counted}
 use Rattle.recorders.proofs.Growing.{listed_early}
 use Rattle.recorders.specs.Dealing.{taker_of, places_of}
 use Rattle.recorders.proofs.Places.{IsFirst, first, next_place, kept_on}
-use Rattle.immediate.specs.Held.{Held, context_of}
+use Rattle.immediate.specs.Held.{Held, Ran, context_of}
+use Rattle.sessions.specs.declared.play.Played.{Played}
 use Rattle.sessions.specs.declared.play.Interruption.{Interruption}
 use Rattle.sessions.specs.declared.play.Interruption.TheVariants.{Refused}
 use Rattle.gfxspec.specs.Session.{Step, Executes, Flushes}
@@ -25,8 +26,8 @@ use Rattle.sessions.specs.Lists.{verb_steps, actor_steps, steps_of}
 use Rattle.answers.specs.declared.line.Answer.{Answer}
 use Rattle.answers.specs.Lines.{answer_lines, answer_line}
 use Rattle.sessions.specs.Answers.{answer_of, line_rows, refusal, answers_behind, answers_or, answers_from}
-use Rattle.sessions.specs.Playing.{own_count, own_place, IsPlayed, ListsOf, ImmediateAccepts, HasReached, IsInterrupted, IsTold}
-use Rattle.sessions.specs.Taking.{held_rows, HasTaken, held_answers, Interrupts, taken_steps, TracesOn}
+use Rattle.sessions.specs.Playing.{own_count, own_place, IsPlayed, ListsOf, ImmediateAccepts, HasReached, IsInterrupted, IsTold, IsPlayedTo, HasTakenAll, HasFinished, HasEnded, HasPlayedBy}
+use Rattle.sessions.specs.Taking.{held_rows, HasTaken, HasRun, held_answers, Interrupts, taken_steps, TracesOn}
 use Rattle.sessions.proofs.Played.{steps_of-push, rows_are, next_played, answers_are}
 use Rattle.std.proofs.lemmas.Bool.{eqb-true}
 use Rattle.std.proofs.Math.Nat.{mod-lt}
@@ -289,8 +290,60 @@ pub none_traced : (size : Size) (ls : List Line) → AreLines [] ls → {C : Typ
 none_traced size ls sound traces x y c t =
     subst (λ ss. traces size ss x y c) (none_steps size ls sound) t
 
--- and behind the last run
-pub last_traced : (size : Size) (ls : List Line) (n : ℕ) (c : Held) (text : List ℕ) → n ≡ length ls → HasReached size ls n c text → {C : Type 0} (traces : Size → List Step → ℕ → ℕ → C → Type 0) (x y : ℕ) (old new : C) → TracesOn traces c (Flushes ∷ []) old new → traces size (steps_of (take n ls)) x y old → traces size (steps_of ls ++ Flushes ∷ []) x y new
-last_traced size ls n c text end h traces x y old new on t =
-    subst (λ l. traces size (steps_of l ++ Flushes ∷ []) x y new) (ap (λ m. take m ls) end ∙ take_all (length ls) ls (omega arith))
-    (traced_on size (steps_of (take n ls)) c h.played.size_is h.played.stands traces (Flushes ∷ []) x y old new on t)
+-- ---- behind the last line
+
+-- no line is left
+pub all_reached : (size : Size) (ls : List Line) (n : ℕ) (c : Held) (text : List ℕ) → own_count ls ≤ n → HasReached size ls (own_place ls n) c text → HasReached size ls (length ls) c text
+all_reached size ls n c text most h = subst (λ m. HasReached size ls m c text) (get_or_past (places_of 4 0 ls) n (length ls) most) h
+
+pub all_traced : (size : Size) (ls : List Line) (n : ℕ) → own_count ls ≤ n → {C : Type 0} (traces : Size → List Step → ℕ → ℕ → C → Type 0) (x y : ℕ) (c : C) → traces size (steps_of (take (own_place ls n) ls)) x y c → traces size (steps_of ls) x y c
+all_traced size ls n most traces x y c t =
+    subst (λ l. traces size (steps_of l) x y c) (ap (λ m. take m ls) (get_or_past (places_of 4 0 ls) n (length ls) most) ∙ take_all (length ls) ls (omega arith)) t
+
+-- a context that was interrupted before is so still, and one that was not has reached the end
+pub interrupted_still : (P Q : Type 0) (R : (ℕ × Interruption) → Type 0) (o : Option (ℕ × Interruption)) → is_none o ≡ false → MatchOption o P R → MatchOption o Q R
+interrupted_still P Q R None some h = absurd cc
+interrupted_still P Q R (Some at) some h = h
+
+pub uninterrupted : (P : Type 0) (R : (ℕ × Interruption) → Type 0) (o : Option (ℕ × Interruption)) → is_none o ≡ true → MatchOption o P R → P
+uninterrupted P R None none h = h
+uninterrupted P R (Some at) none h = absurd cc
+
+-- what is said of the last run
+abbrev pub IsLast : {C A : Type 0} → ℕ → Result (Unit {0}) GfxError → Played C A → Type 0
+IsLast place last r = MatchResult last (λ done. r.interruption ≡ None) (λ e. r.interruption ≡ Some (place, Refused e))
+
+module _ {C A : Type 0} (size : Size) (ls : List Line) (before : Held) (text : List ℕ) (reached : HasReached size ls (length ls) before text) (r : Played C A) (told : r.answers.items ≡ text) where
+  reached_there : HasReached size ls (length ls) before r.answers.items
+  reached_there = subst (HasReached size ls (length ls) before) (sym told) reached
+
+  last_to : (done : C → Type 0) (place : ℕ) (last : Result (Unit {0}) GfxError) → place ≡ length ls → IfErr last (Cause (first_row (held_rows before Flush))) → OnOk last (done r.context) → IsLast place last r → IsPlayedTo done size ls r
+  last_to done place (Ok u) end cause is none = subst (λ (o : Option (ℕ × Interruption)). MatchOption o (done r.context) (λ at. IsInterrupted size ls at.0 at.1 r.answers.items)) (sym none) is
+  last_to done place (Err e) end cause is some =
+      subst (λ (o : Option (ℕ × Interruption)). MatchOption o (done r.context) (λ at. IsInterrupted size ls at.0 at.1 r.answers.items)) (sym some)
+      (subst (λ n. IsInterrupted size ls n (Refused e) r.answers.items) (sym end) (last_interrupted size ls before r.answers.items (Refused e) e reached_there cause refl))
+
+  -- it was made
+  pub last_made : (held : C → Held) (place : ℕ) (c : C) (last : Result (Unit {0}) GfxError) → place ≡ length ls → HasRun (Ran [] true before (held c)) (held_rows before Flush) last → r.context ≡ c → IsLast place last r → HasPlayedBy held size ls r
+  last_made held place c last end ran context is = last_to (λ d. HasFinished size ls (held d) r.answers.items) place last end ran.cause (finished last ran.accepted ran.did) is
+    where
+      finished : (last : Result (Unit {0}) GfxError) → OnOk last (first_row (held_rows before Flush) ≡ None) → OnOk last (Ran [] true before (held c)) → OnOk last (HasFinished size ls (held r.context) r.answers.items)
+      finished (Ok u) accepted did = record {
+        all = record { before = before; reached = reached_there; accepted = accepted };
+        ran = subst (λ (d : C). Ran [] true before (held d)) (sym context) did;
+      }
+      finished (Err e) accepted did = tt
+
+  -- nothing refuses it
+  pub last_allowed : (place : ℕ) (last : Result (Unit {0}) GfxError) → place ≡ length ls → AnswersBy (held_rows before Flush) last → IsLast place last r → HasEnded size ls r
+  last_allowed place last end answer is =
+      last_to (λ c. HasTakenAll size ls r.answers.items) place last end (cause last answer) (taken last answer) is
+    where
+      cause : (last : Result (Unit {0}) GfxError) → AnswersBy (held_rows before Flush) last → IfErr last (Cause (first_row (held_rows before Flush)))
+      cause (Ok u) a = tt
+      cause (Err e) (inl row) = inl row
+      cause (Err e) (inr memory) = inr memory.1
+
+      taken : (last : Result (Unit {0}) GfxError) → AnswersBy (held_rows before Flush) last → OnOk last (HasTakenAll size ls r.answers.items)
+      taken (Ok u) a = record { before = before; reached = reached_there; accepted = a }
+      taken (Err e) a = tt

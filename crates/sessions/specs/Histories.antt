@@ -7,6 +7,7 @@ use Rattle.gfxspec.specs.Session.{Step}
 use Rattle.pixelevents.specs.declared.Event.{Event}
 use Rattle.pixelevents.specs.declared.Place.{Place}
 use Rattle.pixelevents.specs.declared.Origin.{Origin}
+use Rattle.pixelevents.specs.declared.NamedEvent.{NamedEvent}
 use Rattle.pixelevents.specs.Origins.{ComesOf}
 use Rattle.pixelevents.specs.Laws.{left_by}
 use Rattle.pixelevents.specs.Sessions.{session_history}
@@ -16,7 +17,6 @@ use Rattle.scenetext.specs.Spelling.{Spells}
 use Rattle.immediate.specs.Held.{Held}
 use Rattle.sessions.specs.declared.outcome.Ended.TheVariants as ended
 use Rattle.sessions.specs.declared.telling.NoHistory.{NoHistory}
-use Rattle.sessions.specs.declared.telling.NamedEvent.{NamedEvent}
 use Rattle.sessions.specs.declared.telling.NoHistory.TheVariants as faults
 use Rattle.sessions.specs.declared.traced.TracedContext.{TracedContext}
 use Rattle.sessions.specs.Lists.{actor_steps, steps_of}
@@ -65,11 +65,6 @@ pub record IsHistory (text : List ℕ) (x y : ℕ) (events : List NamedEvent) : 
 -- an event with the line of its origin: step n is line n of the immediate context
 abbrev pub named_event : List Line → Event → Origin → NamedEvent
 named_event lines e o = record { event = e; line = own_place lines o.step + 2; place = o.place }
-
-abbrev pub named_events : List Line → List Event → List Origin → List NamedEvent
-named_events lines [] [] = []
-named_events lines (e ∷ es) (o ∷ os) = named_event lines e o ∷ named_events lines es os
-named_events lines es os = []
 
 -- a session of the text may end with this refused line
 pub record MayRefuse (text : List ℕ) (line number : ℕ) : Type 0 where

@@ -10,6 +10,7 @@ use crate::perform::perform_alone;
 use crate::threads::perform_in_threads;
 use answers::{Answer, answer_line};
 use gfxspec::{GatherError, Sink, Source, gather, put_all};
+use immediate::ImmediateContext;
 use std::alloc::Allocator;
 use std::sync::Wait;
 use std::thread::Threads;
@@ -18,7 +19,7 @@ use workers::Gate;
 
 /// Writes what a session has to write: the answer lines, and then the image or the line of a refusal.
 fn write_performance<A: Allocator + Copy + Send, I: Sink, L: Sink>(
-    performance: Performance<A>,
+    performance: Performance<ImmediateContext<A>, A>,
     image: &mut I,
     lines: &mut L,
 ) -> Result<Ended, SessionFault>

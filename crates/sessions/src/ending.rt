@@ -8,10 +8,10 @@ ghost use Rattle.scenetext.specs.SeenScene.{scene_value};
 ghost use Rattle.scenetext.specs.Scene.{Line as PlainLine};
 ghost use Rattle.scenetext.specs.Spelling.{IsScene};
 ghost use Rattle.recorders.specs.Ending.{AreRecorded};
-ghost use Rattle.sessions.specs.Answers.{answer_of, answers_behind};
-ghost use Rattle.sessions.specs.Playing.{HasPlayed, missing_in, refused_line};
+ghost use Rattle.sessions.specs.Answers.{answer_of, answers_behind, image};
+ghost use Rattle.sessions.specs.Playing.{HasEnded, HasPlayed, missing_in, refused_line};
 ghost use Rattle.sessions.specs.Writing.{Draws, stopped_output};
-ghost use Rattle.sessions.specs.Performing.{output_by};
+ghost use Rattle.sessions.specs.Performing.{ended_by, output_by};
 
 use crate::play::{Interruption, Played};
 use answers::first_lines;
@@ -23,13 +23,17 @@ use std::alloc::Allocator;
 /// What a session will write: the answers, and then the image of a drawn context, or the refused line, counted from 1, and
 /// its number.
 #[derive(Drop)]
-pub(crate) struct Performance<A: Allocator> {
+pub(crate) struct Performance<C, A: Allocator> {
     pub(crate) answers: Vec<u8, A>,
-    pub(crate) end: Result<ImmediateContext<A>, (u64, u32)>,
+    pub(crate) end: Result<C, (u64, u32)>,
 }
 
 /// A session that was stopped before anything was answered, at a line and for a reason.
-pub(crate) fn stopped<A: Allocator>(alloc: A, line: u64, number: u32) -> Performance<A>
+pub(crate) fn stopped<A: Allocator>(
+    alloc: A,
+    line: u64,
+    number: u32,
+) -> Performance<ImmediateContext<A>, A>
     ensures { output_by result.answers.items result.end ≡ stopped_output [] line number }
 {
     Performance {
@@ -80,18 +84,18 @@ fn asked<A: Allocator>(lines: &[Line<A>]) -> usize
 }
 
 /// Ends a scene at the first line that was refused, by a deferred context or by the immediate one: the answers of the lines
-/// before it stay. A scene of which no line was refused is drawn.
-pub(crate) fn end<A: Allocator + Copy>(
+/// before it stay. Of a scene of which no line was refused the context comes back, whether the last run was made or not.
+pub(crate) fn end<C: Drop, A: Allocator + Copy>(
     scene: &Scene<A>,
     deferred: Option<RefusedLine>,
-    played: Played<ImmediateContext<A>, A>,
-) -> Performance<A>
+    played: Played<C, A>,
+) -> Performance<C, A>
     requires sized { is_size scene.now.size ≡ true }
     requires scene { IsScene (scene_value scene.now) }
     requires recorded { AreRecorded scene.now.lines deferred (missing_in played.interruption) }
-    requires played { HasPlayed scene.now.size scene.now.lines played }
-    ensures draws { Draws (scene_value scene.now) (output_by result.answers.items result.end) }
-    ensures finished { IfOk result.end (λ _. played.interruption ≡ None) }
+    requires ended { HasEnded scene.now.size scene.now.lines played }
+    ensures draws { Draws (scene_value scene.now) (ended_by (image (scene_value scene.now)) result.answers.items result.end) }
+    ensures finished { IfOk result.end (λ c. (c ≡ played.context) × (played.interruption ≡ None)) }
 {
     let Played {
         context,
@@ -112,4 +116,19 @@ pub(crate) fn end<A: Allocator + Copy>(
             end: Ok(context),
         },
     }
+}
+
+/// Ends a scene behind the last run: a context of which no line was refused has its image.
+pub(crate) fn end_drawn<A: Allocator + Copy>(
+    scene: &Scene<A>,
+    deferred: Option<RefusedLine>,
+    played: Played<ImmediateContext<A>, A>,
+) -> Performance<ImmediateContext<A>, A>
+    requires sized { is_size scene.now.size ≡ true }
+    requires scene { IsScene (scene_value scene.now) }
+    requires recorded { AreRecorded scene.now.lines deferred (missing_in played.interruption) }
+    requires played { HasPlayed scene.now.size scene.now.lines played }
+    ensures { Draws (scene_value scene.now) (output_by result.answers.items result.end) }
+{
+    end(scene, deferred, played)
 }

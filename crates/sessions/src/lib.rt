@@ -21,4 +21,4 @@ mod tracing;
 pub use bytes::{session, session_alone};
 pub use law::calls_leave_what_their_script_leaves;
 pub use outcome::{Ended, SessionFault};
-pub use telling::{NamedEvent, NoHistory, history};
+pub use telling::{NoHistory, history};

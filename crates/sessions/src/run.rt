@@ -11,12 +11,15 @@ use immediate::ImmediateContext;
 use recorders::ListSource;
 use std::alloc::Allocator;
 
-/// What is executed: the pending commands alone, which then run, or those and then a list, which may wait.
+/// What is executed: the pending commands alone, or those and then a list, which may wait.
 #[derive(Clone, Copy, Debug)]
 pub(crate) enum Running {
     /// What waits alone.
     Settle,
+    /// The pending commands, for a question or at the end: they run.
     Flush,
+    /// The pending commands, for a line that says so: they may wait.
+    FlushLine,
     /// Of a context, its list of a number, and whether the state stays.
     Execute(u32, u32, bool),
 }

@@ -5,25 +5,25 @@ ghost use Rattle.std.specs.Prelude.{◌≡◌, ◌<◌, ◌&&◌, map, ℕ, List
 ghost use Rattle.gfxspec.specs.declared.geometry.Size.{Size};
 ghost use Rattle.gfxspec.specs.Limits.{is_size};
 ghost use Rattle.meaning.specs.Standing.{IsNew};
+ghost use Rattle.pixelevents.specs.Named.{named_by};
 ghost use Rattle.pixelevents.specs.Origins.{AreNamed};
 ghost use Rattle.scenetext.specs.SeenScene.{scene_value};
 ghost use Rattle.scenetext.specs.Seen.{line_value};
-ghost use Rattle.scenetext.specs.Scene.{Line as LineValue};
 ghost use Rattle.scenetext.specs.Spelling.{IsScene, Spells};
 ghost use Rattle.immediate.specs.Held.{context_of};
 ghost use Rattle.sessions.specs.declared.outcome.Ended.TheVariants.{Done};
 ghost use Rattle.sessions.specs.Answers.{answers};
 ghost use Rattle.sessions.specs.Writing.{end_of};
-ghost use Rattle.sessions.specs.Playing.{HasPlayedBy, HasPlayed, own_count};
-ghost use Rattle.sessions.specs.Histories.{held_by, traces_beside, named_event, named_events, IsNamedHistory, IsHistory, MayRefuse, Prevents};
+ghost use Rattle.sessions.specs.Playing.{own_count};
+ghost use Rattle.sessions.specs.Histories.{traces_beside, named_event, IsNamedHistory, IsHistory, MayRefuse, Prevents};
 
-use crate::ending::{end, line_behind};
+use crate::ending::{Performance, end, line_behind};
 use crate::perform::begin_from;
-use crate::play::{Played, play_traced};
+use crate::play::play_traced;
 use crate::traced::TracedContext;
 use gfxspec::Size;
 use immediate::ImmediateContext;
-use pixelevents::{Event, Origin, Place};
+use pixelevents::{Event, NamedEvent, Origin};
 use pixelhistory::SessionTrace;
 use recorders::{CALLER, DealtLines, deal, record_alone};
 use scenetext::{Line, Scene};
@@ -42,48 +42,11 @@ pub enum NoHistory {
     PixelRange,
 }
 
-/// An event of the history of a script, and what of the script it comes from.
-#[derive(Clone, Copy, Debug, PartialEq, Eq)]
-pub struct NamedEvent {
-    pub event: Event,
-    /// The line of the immediate context that recorded or executed it, counted from 1.
-    pub line: u64,
-    /// Its place in the list that the line executes. A line that records a command is as a list of this command alone.
-    pub place: Place,
-}
-
 /// Whether a target has no pixel at a place.
 fn lacks_pixel(size: Size, x: u32, y: u32) -> bool
     ensures { result ≡ not (nat_lt x size.width && nat_lt y size.height) }
 {
     !(x < size.width && y < size.height)
-}
-
-/// What was played, and the trace beside its context.
-fn apart<A: Allocator>(
-    traced: Played<TracedContext<A>, A>,
-) -> (Played<ImmediateContext<A>, A>, SessionTrace<A>)
-    ensures played { (size : Size) (ls : List LineValue) → HasPlayedBy held_by size ls traced → HasPlayed size ls result.0 }
-    ensures interruption { result.0.interruption ≡ traced.interruption }
-    ensures trace { result.1 ≡ traced.context.trace }
-{
-    let Played {
-        context,
-        answers,
-        interruption,
-    } = traced;
-    let TracedContext {
-        context,
-        trace,
-        x: _,
-        y: _,
-    } = context;
-    let played = Played {
-        context,
-        answers,
-        interruption,
-    };
-    (played, trace)
 }
 
 /// An event with the line that it comes from.
@@ -114,14 +77,15 @@ fn all_named<A: Allocator + Copy>(
 ) -> Result<Vec<NamedEvent, A>, AllocError>
     requires same { dealt.now ≡ map line_value lines.now }
     requires below { AreNamed (λ k origin. origin.step < own_count dealt.now) trace.now.trace.events.items trace.now.origins.items }
-    ensures { IfOk result (λ events. events.items ≡ named_events dealt.now trace.now.trace.events.items trace.now.origins.items) }
+    ensures { IfOk result (λ events. events.items ≡ named_by (named_event dealt.now) trace.now.trace.events.items trace.now.origins.items) }
 {
-    let mut events = Vec::new(alloc);
-    for number in 0..trace.trace.events.len() {
-        let event = trace.trace.events[number];
-        events.push(named(event, trace.origins[number], lines, dealt))?;
-    }
-    Ok(events)
+    trace.named_by(
+        alloc,
+        &|event: Event, origin: Origin| -> NamedEvent
+            requires { (origin.step < own_count dealt.now) × (dealt.now ≡ map line_value lines.now) }
+            ensures { result ≡ named_event dealt.entry.now event origin }
+        { named(event, origin, lines, dealt) },
+    )
 }
 
 /// The history of a pixel over a scene, by an immediate context that has taken none of its lines; or the refused
@@ -143,11 +107,13 @@ fn trace_scene<A: Allocator + Copy + Send>(
         return Err((0, 1)); // memory was refused before the first line
     };
     let mut recorded = record_alone(alloc, &lines);
-    let traced = play_traced(alloc, traced, &mut recorded, &lines);
-    let (played, trace) = apart(traced);
-    let performance = end(scene, recorded.first_refused(), played);
-    match performance.end {
-        Ok(_) => match all_named(alloc, scene.lines.as_slice(), &lines, &trace) {
+    let played = play_traced(alloc, traced, &mut recorded, &lines);
+    let Performance {
+        answers: _,
+        end: ended,
+    } = end(scene, recorded.first_refused(), played);
+    match ended {
+        Ok(traced) => match all_named(alloc, scene.lines.as_slice(), &lines, &traced.trace) {
             Ok(events) => Ok(events),
             Err(_) => Err((0, 1)), // as if memory was refused before the first line
         },

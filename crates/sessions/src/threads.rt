@@ -6,7 +6,7 @@ ghost use Rattle.sessions.specs.Playing.{MayPlay};
 ghost use Rattle.sessions.specs.Writing.{Writes};
 ghost use Rattle.sessions.specs.Performing.{IsRound, output_by};
 
-use crate::ending::{Performance, end, stopped};
+use crate::ending::{Performance, end_drawn, stopped};
 use crate::perform::begin;
 use crate::play::{Played, play_by_crew};
 use immediate::{ImmediateContext, RunCrew};
@@ -69,7 +69,7 @@ pub(crate) fn perform_in_threads<
     A: Allocator + Copy + Send + Sync,
     R: Threads + Wait + Sync,
     G: Gate + Sync,
->(rt: &R, alloc: A, workers: u32, gate: &G, text: Vec<u8, A>) -> Performance<A>
+>(rt: &R, alloc: A, workers: u32, gate: &G, text: Vec<u8, A>) -> Performance<ImmediateContext<A>, A>
     ensures { Writes text.items (output_by result.answers.items result.end) }
 {
     let (scene, immediate) = match begin(alloc, text) {
@@ -86,5 +86,5 @@ pub(crate) fn perform_in_threads<
     let crew = RunCrew::new(rt, &alloc, &bells, gate);
     let round = play_in_scope(alloc, &crew, &ports, passes, &lines, immediate);
     let deferred = settle(rt, ports, round.returned);
-    end(&scene, deferred, round.played)
+    end_drawn(&scene, deferred, round.played)
 }

@@ -1,14 +1,16 @@
 //! The calls of an immediate context with the trace of a pixel beside it.
 //!
-//! The trace goes past each list before it runs, so it has the items of a whole session, though the context stores
-//! none.
+//! The trace goes past each list before it runs or waits, and at the end past what is pending. So it has the items of a whole
+//! session, though the context stores none, and nothing runs but for a question, and for counts that a predicate may want.
 
-ghost use Rattle.std.specs.Prelude.{◌≡◌, ◌<◌, ◌∷◌, [], true, OnOk};
+ghost use Rattle.std.specs.Prelude.{◌≡◌, ◌<◌, ◌∷◌, [], ℕ, List, true, OnOk};
 ghost use Rattle.gfxspec.specs.declared.geometry.Size.{Size};
 ghost use Rattle.gfxspec.specs.Recorded.{queries_open};
-ghost use Rattle.gfxspec.specs.Refusals.{flush_rows};
-ghost use Rattle.gfxspec.specs.Session.{Executes, Flushes};
-ghost use Rattle.immediate.specs.Held.{Stays, Runs};
+ghost use Rattle.gfxspec.specs.Refusals.{AnswersBy, flush_rows};
+ghost use Rattle.gfxspec.specs.Session.{Step, Executes, Flushes};
+ghost use Rattle.meaning.specs.Standing.{Stands};
+ghost use Rattle.pixelhistory.specs.Standing.{TracesAll};
+ghost use Rattle.immediate.specs.Held.{context_of, Stays, Runs, Enqueues};
 ghost use Rattle.sessions.specs.Taking.{verb_of, IsHere, RanBy, run_rows, HasRun, TracesOn, TracesRun};
 ghost use Rattle.sessions.specs.Histories.{traces_beside};
 
@@ -75,14 +77,31 @@ impl<A: Allocator + Copy + Send> TracedContext<A> {
         self.context.flush_traced(&mut self.trace, self.x, self.y)
     }
 
-    /// Runs the pending commands and then a list, behind the trace.
+    /// Has the pending commands wait, behind the trace.
+    fn wait(&mut self) -> Result<(), GfxError>
+        ensures ran { Enqueues (flush_rows (queries_open self.old.context.pending)) [] true self.old.context self.new.context result }
+        ensures traced { OnOk result (TracesOn traces_beside self.old.context (Flushes ∷ []) self.old self.new) }
+    {
+        self.context.wait_traced(&mut self.trace, self.x, self.y)
+    }
+
+    /// Executes a list behind the pending commands, both of which the trace goes past and which may wait.
     fn execute(&mut self, list: &CommandList<A>, restore: bool) -> Result<(), GfxError>
-        ensures ran { Runs (flush_rows (queries_open self.old.context.pending)) list.now restore self.old.context self.new.context result }
+        ensures ran { Enqueues (flush_rows (queries_open self.old.context.pending)) list.now restore self.old.context self.new.context result }
         ensures traced { OnOk result (TracesOn traces_beside self.old.context (Executes list.now restore ∷ []) self.old self.new) }
     {
         let place = (self.x, self.y);
         self.context
             .execute_traced(list, restore, &mut self.trace, place.0, place.1)
+    }
+
+    /// Goes past what is pending with the trace, which has all of the session then. It runs nothing.
+    pub(crate) fn end(&mut self) -> Result<(), GfxError>
+        ensures answer { AnswersBy (flush_rows (queries_open self.old.context.pending)) result }
+        ensures traced { (steps : List Step) (x y : ℕ) → Stands self.old.context.surface.size steps (context_of self.old.context) → traces_beside self.old.context.surface.size steps x y self.old
+            → OnOk result (TracesAll self.old.context.surface.size steps x y self.new.trace) }
+    {
+        self.context.end_trace(&mut self.trace, self.x, self.y)
     }
 
     /// Runs what is pending, or executes a list that is here, behind the trace.
@@ -98,6 +117,7 @@ impl<A: Allocator + Copy + Send> TracedContext<A> {
         match running {
             Running::Settle => self.settle(),
             Running::Flush => self.flush(),
+            Running::FlushLine => self.wait(),
             Running::Execute(of, number, restore) => {
                 self.execute(finished_list(lists, of, number), restore)
             }

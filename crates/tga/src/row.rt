@@ -21,7 +21,20 @@ fn swapped(color: u32) -> u32
     color - red - 65_536 * blue + 65_536 * red + blue
 }
 
+/// Eight colours with red and blue in each other's place. The loop has nothing else, so that it becomes vectors.
+#[inline(always)]
+fn all_swapped(colors: [u32; 8]) -> [u32; 8]
+    ensures { (j : ℕ) → j < 8 → to_le_bytes w32 (slice_index result j) ≡ kept_color (to_le_bytes w32 (slice_index colors j)) }
+{
+    let mut kept = [0; 8];
+    for j in 0..8usize {
+        kept[j] = swapped(colors[j]);
+    }
+    kept
+}
+
 /// Stores eight colours, as the image keeps them.
+#[inline(always)]
 fn store_span(row: &mut [[u8; 4]; ROW], at: usize, colors: [u32; 8])
     requires { at + 8 ≤ 4096 }
     ensures len { length row.new ≡ 4096 }
@@ -29,9 +42,10 @@ fn store_span(row: &mut [[u8; 4]; ROW], at: usize, colors: [u32; 8])
         → slice_index_or row.new (at + j) [] ≡ kept_color (to_le_bytes w32 (slice_index colors j)) }
     ensures before { (x : ℕ) → x < at → slice_index_or row.new x [] ≡ slice_index_or row.old x [] }
 {
+    let kept = all_swapped(colors);
     let mut span = [[0; 4]; 8];
     for j in 0..8usize {
-        span[j] = swapped(colors[j]).to_le_bytes();
+        span[j] = kept[j].to_le_bytes();
     }
     row[at..at + 8].copy_from_slice(&span);
 }

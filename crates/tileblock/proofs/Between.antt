@@ -3,7 +3,7 @@ use Rattle.std.proofs.Common.{◌≡◌, ◌∙◌, ap, refl, arith, ℕ, ◌≤
 use Rattle.std.proofs.lemmas.Option.{same_Some}
 use Rattle.gfxspec.specs.declared.geometry.PixelRect.{PixelRect}
 use Rattle.gfxspec.specs.Tiles.{IsIn}
-use Rattle.tileblock.specs.declared.blocks.DepthBounds.{DepthBounds}
+use Rattle.tileblock.specs.declared.pixels.DepthBounds.{DepthBounds}
 use Rattle.tileblock.specs.Block.{span_of, value_at}
 use Rattle.tileblock.proofs.Spans.{filled_at, span_below, lane_below}
 

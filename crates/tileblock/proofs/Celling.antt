@@ -4,8 +4,8 @@ use Rattle.std.specs.Prelude.{slice_index_or, slice_set}
 use Rattle.std.proofs.lemmas.List.{get_or-replicate, length-replicate}
 use Rattle.std.proofs.lemmas.Option.{none-some, same_Some}
 use Rattle.std.proofs.lemmas.Bool.{cases_eq}
-use Rattle.tileblock.specs.declared.blocks.Cells.{Cells}
-use Rattle.tileblock.specs.declared.blocks.DepthBounds.{DepthBounds}
+use Rattle.tileblock.specs.declared.pixels.Cells.{Cells}
+use Rattle.tileblock.specs.declared.pixels.DepthBounds.{DepthBounds}
 use Rattle.tileblock.specs.Block.{Block}
 use Rattle.tileblock.specs.Cells.{CellLies, CellsLie, cells_of}
 

@@ -1,8 +1,8 @@
 -- What the depths of a block's rectangle lie between (this project's own).
 use Rattle.std.specs.Prelude.{ℕ, ◌≡◌, ◌≤◌, Option, Some, length}
 use Rattle.gfxspec.specs.Tiles.{IsIn}
-use Rattle.tileblock.specs.declared.blocks.DepthBounds.{DepthBounds}
-use Rattle.tileblock.specs.declared.blocks.Cells.{Cells}
+use Rattle.tileblock.specs.declared.pixels.DepthBounds.{DepthBounds}
+use Rattle.tileblock.specs.declared.pixels.Cells.{Cells}
 use Rattle.tileblock.specs.Block.{Block, IsBlock, pixel_at}
 use Rattle.tileblock.specs.Cells.{CellsLie}
 

@@ -1,7 +1,7 @@
 -- What the depths of a cell lie between, which is eight rows of a span (this project's own).
 use Rattle.std.specs.Prelude.{ℕ, ◌≡◌, ◌+◌, ◌*◌, ◌<◌, ◌≤◌, Option, Some, None, slice_index_or, replicate}
-use Rattle.tileblock.specs.declared.blocks.Cells.{Cells}
-use Rattle.tileblock.specs.declared.blocks.DepthBounds.{DepthBounds}
+use Rattle.tileblock.specs.declared.pixels.Cells.{Cells}
+use Rattle.tileblock.specs.declared.pixels.DepthBounds.{DepthBounds}
 use Rattle.tileblock.specs.Block.{Block}
 use Rattle.tileblock.specs.SpanStored.{lane_pixel}
 

@@ -1,6 +1,9 @@
 pub mod Block
+pub mod Cleared
 pub mod Bounds
 pub mod Cells
 pub mod Widening
 pub mod SpanStored
+pub mod QuadStored
 pub mod Surface
+pub mod Lending

@@ -1,114 +1,46 @@
-//! A tile's block: what its pixels hold.
+//! A tile's block: its stored pixels, and the clears that are noted and not done.
 
-use crate::extremes::Extremes;
+ghost use Rattle.std.specs.Prelude.{◌≡◌, ◌∷◌, [], vec_capacity};
+ghost use Rattle.tileblock.specs.Cleared.{stored_in, behind_color, behind_depth_stencil, behind_clears, HasRoom};
+
+use crate::pixels::{DepthBounds, TilePixels};
 use gfxspec::{DEPTH_MAX, DepthStencil, Pixel, PixelRect};
-use lanes::{select_bytes8, select8};
 use std::alloc::{AllocError, Allocator};
 use std::marker::Model;
 
-/// The stored values of a tile's pixels: span s of row y at place 4 * y + s.
-#[derive(Drop)]
-struct Spans {
-    colors: [[u32; 8]; 128],
-    depths: [[u32; 8]; 128],
-    /// Span s of row y at place 32 * s + y, so that the rows of a column of spans stand one behind the other.
-    stencils: [[u8; 8]; 128],
-    /// What the depths of cells lie between, where that is known of any.
-    cells: Option<Cells>,
-}
-
-impl Spans {
-    ghost use Rattle.std.specs.Prelude.{◌≡◌, ◌%◌, replicate, None};
-    ghost use Rattle.std.specs.Int.{w32, from_le_bytes};
-    ghost use Rattle.tileblock.specs.Block.{span_of, stencils_of, stored};
-
-    fn set(&mut self, x: u32, y: u32, pixel: Pixel)
-        ensures colors { self.new.colors ≡ stored self.old.colors (span_of x y) (x % 8) (from_le_bytes w32 pixel.rgba) }
-        ensures depths { self.new.depths ≡ stored self.old.depths (span_of x y) (x % 8) pixel.ds.depth }
-        ensures stencils { self.new.stencils ≡ stored self.old.stencils (stencils_of x y) (x % 8) pixel.ds.stencil }
-        ensures cells { self.new.cells ≡ None }
-    {
-        let at = (4 * (y % 32) + x % 32 / 8) as usize;
-        let lane = (x % 8) as usize;
-        self.colors[at][lane] = u32::from_le_bytes(pixel.rgba);
-        self.depths[at][lane] = pixel.ds.depth;
-        self.stencils[(32 * (x % 32 / 8) + y % 32) as usize][lane] = pixel.ds.stencil;
-        self.cells = None;
-    }
-
-    fn clear_color(&mut self, color: u32)
-        ensures { self.new ≡ record self.old { colors = replicate 128 (replicate 8 color) } }
-    {
-        self.colors = [[color; 8]; 128];
-    }
-
-    fn clear_depth_stencil(&mut self, value: DepthStencil)
-        ensures { self.new ≡ record self.old {
-          depths = replicate 128 (replicate 8 value.depth);
-          stencils = replicate 128 (replicate 8 value.stencil);
-          cells = None;
-        } }
-    {
-        self.depths = [[value.depth; 8]; 128];
-        self.stencils = [[value.stencil; 8]; 128];
-        self.cells = None;
-    }
-}
-
-/// What depths lie between.
-#[derive(Clone, Copy)]
-pub struct DepthBounds {
-    pub least: u32,
-    pub greatest: u32,
-}
-
-/// What the depths of a tile's cells lie between, where that is known. A cell is eight rows of a span: the k-th from the top in span s
-/// stands at place 4 * k + s.
-#[derive(Clone, Copy)]
-struct Cells {
-    bounds: [Option<DepthBounds>; 16],
-}
-
-impl Cells {
-    ghost use Rattle.std.specs.Prelude.{◌≡◌, ◌<◌, Some, length, slice_set};
-    ghost use Rattle.tileblock.specs.Cells.{cells_of};
-
-    /// Keeps what the depths of one cell lie between, beside what is known of the others.
-    fn keep(cells: &mut Option<Cells>, at: usize, bounds: DepthBounds)
-        requires at { at < 16 }
-        requires places { (k : Cells) → cells.old ≡ Some k → length k.bounds ≡ 16 }
-        ensures { cells.new ≡ Some (record { bounds = slice_set (cells_of cells.old).bounds at (Some bounds) }) }
-    {
-        match cells {
-            Some(known) => known.bounds[at] = Some(bounds),
-            None => {
-                let mut fresh = [None; 16];
-                fresh[at] = Some(bounds);
-                *cells = Some(Cells { bounds: fresh });
-            }
-        }
-    }
-}
-
-/// The pixels of a tile that lie on the target.
+/// What a tile of a target holds. A clear is noted, and done where something is drawn or stored behind it. So a tile that
+/// is cleared and not drawn on takes no time, and one on which nothing was ever drawn leaves its memory untouched.
 #[derive(Drop)]
 pub struct TileBlock<A: Allocator> {
     rect: PixelRect,
-    spans: Box<Spans, A>,
-    /// What the depths of the rectangle lie between, where that is known.
-    bounds: Option<DepthBounds>,
+    /// The stored pixels, or room for them.
+    stored: Vec<TilePixels, A>,
+    /// The colour that all pixels have, whatever is stored.
+    color: Option<[u8; 4]>,
+    /// The depth and the stencil value that they have, whatever is stored.
+    depth_stencil: Option<DepthStencil>,
 }
 
 impl<A: Allocator> Model for TileBlock<A> {
+    ghost use Rattle.std.specs.Prelude.{vec_capacity};
     ghost use Rattle.tileblock.specs.Block.{Block};
-    ghost use Rattle.tileblock.specs.Bounds.{IsBoundedBlock};
+    ghost use Rattle.tileblock.specs.Cleared.{behind_clears, HasRoom};
 
     ghost Value = { Block };
 
-    ghost view = { λ b. record { rect = b.rect; colors = b.spans.value.colors; depths = b.spans.value.depths; stencils = b.spans.value.stencils } };
+    ghost view = { λ b. behind_clears b.rect b.stored.items b.color b.depth_stencil };
 
-    ghost invariant = { λ b. IsBoundedBlock (record { rect = b.rect; colors = b.spans.value.colors; depths = b.spans.value.depths; stencils = b.spans.value.stencils }) b.bounds b.spans.value.cells };
+    ghost invariant = { λ b. HasRoom b.rect b.stored.items (vec_capacity b.stored) };
 }
+
+/// What a pixel of a new target holds.
+const OPENING: Pixel = Pixel {
+    rgba: [0; 4],
+    ds: DepthStencil {
+        depth: DEPTH_MAX,
+        stencil: 0,
+    },
+};
 
 /// A tile that was taken out of its target.
 #[derive(Drop)]
@@ -117,44 +49,70 @@ pub struct OpenTile<A: Allocator> {
     pub block: TileBlock<A>,
 }
 
+/// Does clears to pixels.
+fn clear(pixels: &mut TilePixels, color: Option<[u8; 4]>, depth_stencil: Option<DepthStencil>)
+    ensures { pixels.new ≡ behind_depth_stencil depth_stencil (behind_color color pixels.old) }
+{
+    if let Some(rgba) = color {
+        pixels.clear_color(rgba);
+    }
+    if let Some(value) = depth_stencil {
+        pixels.clear_depth_stencil(value);
+    }
+}
+
+/// Stores the pixels of a new target where none are stored yet.
+fn store_first<A: Allocator>(stored: &mut Vec<TilePixels, A>, rect: PixelRect)
+    requires { HasRoom rect stored.old.items (vec_capacity stored.old) }
+    ensures first { stored.new.items ≡ stored_in rect stored.old.items ∷ [] }
+    ensures room { HasRoom rect stored.new.items (vec_capacity stored.new) }
+{
+    if stored.is_empty() {
+        stored.push_reserved(TilePixels::new(rect));
+    }
+}
+
+/// Does clears to the stored pixels. Where none are stored yet, those of a new target are.
+// Apart: pixels are built on the stack, and who draws should not keep room for them.
+#[cold]
+#[inline(never)]
+fn store_cleared<A: Allocator>(
+    stored: &mut Vec<TilePixels, A>,
+    rect: PixelRect,
+    color: Option<[u8; 4]>,
+    depth_stencil: Option<DepthStencil>,
+)
+    requires { HasRoom rect stored.old.items (vec_capacity stored.old) }
+    ensures cleared { stored.new.items ≡ behind_clears rect stored.old.items color depth_stencil ∷ [] }
+    ensures room { HasRoom rect stored.new.items (vec_capacity stored.new) }
+{
+    store_first(stored, rect);
+    clear(&mut stored[0], color, depth_stencil);
+}
+
 impl<A: Allocator> TileBlock<A> {
-    ghost use Rattle.std.specs.Prelude.{◌≡◌, ◌≢◌, ◌<◌, ◌⊎◌, ◌+◌, ◌*◌, ℕ, IfOk, IfSome, slice_index, if◌then◌else◌};
+    ghost use Rattle.std.specs.Prelude.{◌≡◌, ◌≢◌, ◌<◌, ◌⊎◌, ◌+◌, ◌*◌, ℕ, IfOk, IfSome, slice_index};
+    ghost use Rattle.std.specs.Borrow.{sem};
     ghost use Rattle.std.specs.Int.{w32, to_le_bytes};
     ghost use Rattle.gfxspec.specs.Tiles.{IsIn};
     ghost use Rattle.gfxspec.specs.Items.{opening, after_item, ColorCleared, DepthStencilCleared};
     ghost use Rattle.gfxspec.specs.Tiles.{IsInTile};
-    ghost use Rattle.tileblock.specs.Block.{Block, pixel_at};
+    ghost use Rattle.tileblock.specs.Block.{pixel_at};
     ghost use Rattle.tileblock.specs.Bounds.{LieBetween};
-    ghost use Rattle.tileblock.specs.Cells.{CellLies};
-    ghost use Rattle.tileblock.specs.Widening.{HoldsRow, HoldsSpan, IsWider};
-    ghost use Rattle.lanes.specs.Stencil.{has};
-    ghost use Rattle.tileblock.specs.SpanStored.{SpanStored, lane_pixel};
+    ghost use Rattle.tileblock.specs.Lending.{LendsPixels};
 
     /// A tile of a new target.
-    // Apart: a block is built on the stack, and who makes a target should not keep room for it.
-    #[inline(never)]
     pub(crate) fn new(alloc: A, rect: PixelRect) -> Result<TileBlock<A>, AllocError>
         requires { IsInTile rect }
         ensures rect { IfOk result (λ b. b.rect ≡ rect) }
         ensures opening { IfOk result (λ b. (x y : ℕ) → IsIn rect x y → pixel_at b x y ≡ opening) }
     {
-        let spans = Box::new(
-            alloc,
-            Spans {
-                colors: [[0; 8]; 128],
-                depths: [[DEPTH_MAX; 8]; 128],
-                stencils: [[0; 8]; 128],
-                cells: None,
-            },
-        )?;
-        let bounds = Some(DepthBounds {
-            least: DEPTH_MAX,
-            greatest: DEPTH_MAX,
-        });
+        let stored = Vec::with_capacity(alloc, 1)?;
         Ok(TileBlock {
             rect,
-            spans,
-            bounds,
+            stored,
+            color: None,
+            depth_stencil: None,
         })
     }
 
@@ -162,7 +120,24 @@ impl<A: Allocator> TileBlock<A> {
     pub fn rect(&self) -> PixelRect
         ensures { result ≡ self.now.rect }
     {
-        self.rect
+        if self.stored.is_empty() {
+            return self.rect;
+        }
+        self.stored[0].rect()
+    }
+
+    /// The stored pixels, to be drawn on: what they hold is what the block holds.
+    #[inline(always)]
+    pub fn pixels_mut(&mut self) -> &mut TilePixels
+        ensures* writes_back { sem 𝓛 (LendsPixels A.row A.Allocator self.entry result) }
+        ensures value { result.now ≡ self.old }
+    {
+        if self.stored.is_empty() || self.color.is_some() || self.depth_stencil.is_some() {
+            store_cleared(&mut self.stored, self.rect, self.color, self.depth_stencil);
+            self.color = None;
+            self.depth_stencil = None;
+        }
+        &mut self.stored[0]
     }
 
     /// What a pixel of the rectangle holds.
@@ -170,134 +145,64 @@ impl<A: Allocator> TileBlock<A> {
         requires { IsIn self.now.rect x y }
         ensures { result ≡ pixel_at self.now x y }
     {
-        let at = (4 * (y % 32) + x % 32 / 8) as usize;
-        let lane = (x % 8) as usize;
+        let below = if self.stored.is_empty() {
+            OPENING
+        } else {
+            self.stored[0].get(x, y)
+        };
         Pixel {
-            rgba: self.spans.colors[at][lane].to_le_bytes(),
-            ds: DepthStencil {
-                depth: self.spans.depths[at][lane],
-                stencil: self.spans.stencils[(32 * (x % 32 / 8) + y % 32) as usize][lane],
-            },
+            rgba: self.color.unwrap_or(below.rgba),
+            ds: self.depth_stencil.unwrap_or(below.ds),
         }
     }
 
     /// The colours of eight pixels side by side, which are a span of a row; both are counted within the tile. A
     /// colour is one number, red in its low byte and alpha in its high one.
-    #[inline]
     pub fn color_span(&self, span: u32, row: u32) -> [u32; 8]
         requires span { span < 4 }
         requires row { row < 32 }
         ensures { (j : ℕ) → j < 8 → to_le_bytes w32 (slice_index result j)
             ≡ (pixel_at self.now (self.now.rect.left + 8 * span + j) (self.now.rect.top + row)).rgba }
     {
-        self.spans.colors[(4 * row + span) as usize]
+        if let Some(rgba) = self.color {
+            return [u32::from_le_bytes(rgba); 8];
+        }
+        if self.stored.is_empty() {
+            return [0; 8];
+        }
+        self.stored[0].color_span(span, row)
     }
 
-    /// The depths of eight pixels side by side, which are a span of a row; both are counted within the tile.
-    #[inline]
+    /// The depths of such eight pixels.
     pub fn depth_span(&self, span: u32, row: u32) -> [u32; 8]
         requires span { span < 4 }
         requires row { row < 32 }
         ensures { (j : ℕ) → j < 8 → slice_index result j
             ≡ (pixel_at self.now (self.now.rect.left + 8 * span + j) (self.now.rect.top + row)).ds.depth }
     {
-        self.spans.depths[(4 * row + span) as usize]
+        if let Some(value) = self.depth_stencil {
+            return [value.depth; 8];
+        }
+        if self.stored.is_empty() {
+            return [DEPTH_MAX; 8];
+        }
+        self.stored[0].depth_span(span, row)
     }
 
     /// The stencil values of such eight pixels.
-    #[inline]
     pub fn stencil_span(&self, span: u32, row: u32) -> [u8; 8]
         requires span { span < 4 }
         requires row { row < 32 }
         ensures { (j : ℕ) → j < 8 → slice_index result j
             ≡ (pixel_at self.now (self.now.rect.left + 8 * span + j) (self.now.rect.top + row)).ds.stencil }
     {
-        self.spans.stencils[(32 * span + row) as usize]
-    }
-
-    /// The stencil values of such eight pixels in two rows, of which the second is the next: they stand side by side.
-    #[inline]
-    pub fn stencil_rows(&self, span: u32, row: u32) -> ([u8; 8], [u8; 8])
-        requires span { span < 4 }
-        requires row { row + 1 < 32 }
-        ensures first { (j : ℕ) → j < 8 → slice_index result.0 j
-            ≡ (pixel_at self.now (self.now.rect.left + 8 * span + j) (self.now.rect.top + row)).ds.stencil }
-        ensures second { (j : ℕ) → j < 8 → slice_index result.1 j
-            ≡ (pixel_at self.now (self.now.rect.left + 8 * span + j) (self.now.rect.top + (row + 1))).ds.stencil }
-    {
-        let at = (32 * span + row) as usize;
-        (self.spans.stencils[at], self.spans.stencils[at + 1])
-    }
-
-    /// Stores the colours of such eight pixels.
-    #[inline]
-    pub fn set_color_span(&mut self, span: u32, row: u32, colors: [u32; 8])
-        requires span { span < 4 }
-        requires row { row < 32 }
-        ensures { SpanStored self.old self.new span row (λ j old. record old { rgba = to_le_bytes w32 (slice_index colors j) }) }
-    {
-        let at = (4 * row + span) as usize;
-        self.spans.colors[at] = colors;
-    }
-
-    /// Stores the colours of those of the eight pixels whose bits are set.
-    #[inline]
-    pub fn set_color_lanes(&mut self, span: u32, row: u32, bits: u8, colors: [u32; 8])
-        requires span { span < 4 }
-        requires row { row < 32 }
-        ensures { SpanStored self.old self.new span row (λ j old. if has bits j then record old { rgba = to_le_bytes w32 (slice_index colors j) } else old) }
-    {
-        let old = self.color_span(span, row);
-        self.set_color_span(span, row, select8(bits, &colors, &old));
-    }
-
-    /// Stores the depths of such eight pixels.
-    #[inline]
-    pub fn set_depth_span(&mut self, span: u32, row: u32, depths: [u32; 8])
-        requires span { span < 4 }
-        requires row { row < 32 }
-        ensures { SpanStored self.old self.new span row (λ j old. record old { ds = record { depth = slice_index depths j; stencil = old.ds.stencil } }) }
-    {
-        let at = (4 * row + span) as usize;
-        self.spans.depths[at] = depths;
-        if self.spans.cells.is_some() {
-            self.spans.cells = None;
+        if let Some(value) = self.depth_stencil {
+            return [value.stencil; 8];
         }
-        self.bounds = None;
-    }
-
-    /// Stores the depths of those of the eight pixels whose bits are set.
-    #[inline]
-    pub fn set_depth_lanes(&mut self, span: u32, row: u32, bits: u8, depths: [u32; 8])
-        requires span { span < 4 }
-        requires row { row < 32 }
-        ensures { SpanStored self.old self.new span row (λ j old. if has bits j then record old { ds = record { depth = slice_index depths j; stencil = old.ds.stencil } } else old) }
-    {
-        let old = self.depth_span(span, row);
-        self.set_depth_span(span, row, select8(bits, &depths, &old));
-    }
-
-    /// Stores the stencil values of such eight pixels. Other rows of the span keep theirs, past the rectangle too.
-    #[inline]
-    pub fn set_stencil_span(&mut self, span: u32, row: u32, stencils: [u8; 8])
-        requires span { span < 4 }
-        requires row { row < 32 }
-        ensures rows { (other j : ℕ) → other < 32 → j < 8 → other ≢ row → lane_pixel self.new span other j ≡ lane_pixel self.old span other j }
-        ensures stored { SpanStored self.old self.new span row (λ j old. record old { ds = record { depth = old.ds.depth; stencil = slice_index stencils j } }) }
-    {
-        let at = (32 * span + row) as usize;
-        self.spans.stencils[at] = stencils;
-    }
-
-    /// Stores the stencil values of those of the eight pixels whose bits are set.
-    #[inline]
-    pub fn set_stencil_lanes(&mut self, span: u32, row: u32, bits: u8, stencils: [u8; 8])
-        requires span { span < 4 }
-        requires row { row < 32 }
-        ensures { SpanStored self.old self.new span row (λ j old. if has bits j then record old { ds = record { depth = old.ds.depth; stencil = slice_index stencils j } } else old) }
-    {
-        let old = self.stencil_span(span, row);
-        self.set_stencil_span(span, row, select_bytes8(bits, &stencils, &old));
+        if self.stored.is_empty() {
+            return [0; 8];
+        }
+        self.stored[0].stencil_span(span, row)
     }
 
     /// Stores all of a pixel of the rectangle.
@@ -308,8 +213,7 @@ impl<A: Allocator> TileBlock<A> {
         ensures elsewhere { (u v : ℕ) → IsIn self.old.rect u v → (u ≢ x) ⊎ (v ≢ y)
             → pixel_at self.new u v ≡ pixel_at self.old u v }
     {
-        self.spans.set(x, y, pixel);
-        self.bounds = None;
+        self.pixels_mut().set(x, y, pixel);
     }
 
     /// Stores a colour in all pixels, whatever they hold.
@@ -318,7 +222,7 @@ impl<A: Allocator> TileBlock<A> {
         ensures pixels { (x y : ℕ) → IsIn self.old.rect x y
             → pixel_at self.new x y ≡ after_item (ColorCleared rgba) x y (pixel_at self.old x y) }
     {
-        self.spans.clear_color(u32::from_le_bytes(rgba));
+        self.color = Some(rgba);
     }
 
     /// Stores a depth and a stencil value in all pixels, whatever they hold.
@@ -327,11 +231,7 @@ impl<A: Allocator> TileBlock<A> {
         ensures pixels { (x y : ℕ) → IsIn self.old.rect x y → pixel_at self.new x y
             ≡ after_item (DepthStencilCleared value.depth value.stencil) x y (pixel_at self.old x y) }
     {
-        self.spans.clear_depth_stencil(value);
-        self.bounds = Some(DepthBounds {
-            least: value.depth,
-            greatest: value.depth,
-        });
+        self.depth_stencil = Some(value);
     }
 
     /// What the depths of the rectangle lie between, if that is known.
@@ -339,106 +239,15 @@ impl<A: Allocator> TileBlock<A> {
     pub fn depth_bounds(&self) -> Option<DepthBounds>
         ensures { IfSome result (λ d. LieBetween self.now d.least d.greatest) }
     {
-        self.bounds
-    }
-
-    /// Keeps what the depths of the rectangle lie between, until one is stored.
-    #[inline]
-    pub fn keep_bounds(&mut self, least: u32, greatest: u32)
-        requires { LieBetween self.old least greatest }
-        ensures { self.new ≡ self.old }
-    {
-        self.bounds = Some(DepthBounds { least, greatest });
-    }
-
-    /// What the depths of a row lie between, with those that were looked at before.
-    #[inline]
-    fn with_row(&self, row: u32, before: Extremes) -> Extremes
-        requires { row < 32 }
-        ensures row { HoldsRow self.now row result }
-        ensures before { IsWider before result }
-    {
-        let a = self.depth_span(0, row);
-        let b = self.depth_span(1, row);
-        let c = self.depth_span(2, row);
-        let d = self.depth_span(3, row);
-        let first = before.with(&a);
-        let second = first.with(&b);
-        let third = second.with(&c);
-        let last = third.with(&d);
-        last
-    }
-
-    /// What the depths of all rows lie between, lane by lane.
-    fn extremes(&self) -> Extremes
-        ensures rows { (row : ℕ) → row < 32 → HoldsRow self.now row result }
-        ensures tile { IsInTile self.now.rect }
-    {
-        let _rect = &self.rect;
-        let mut all = Extremes::none();
-        for row in 0..32u32 {
-            let more = self.with_row(row, all);
-            all = more;
+        if let Some(value) = self.depth_stencil {
+            return Some(DepthBounds {
+                least: value.depth,
+                greatest: value.depth,
+            });
         }
-        all
-    }
-
-    /// Looks at all depths, and keeps what those of the rectangle lie between, until one is stored.
-    #[inline(never)]
-    pub fn measure_bounds(&mut self)
-        ensures { self.new ≡ self.old }
-    {
-        let all = self.extremes();
-        self.keep_bounds(all.least_of_all(), all.greatest_of_all());
-    }
-
-    /// What the depths of a cell lie between, if that is known: of eight rows of a span, of which the first is row 8 * `cell`.
-    #[inline]
-    pub fn cell_bounds(&self, span: u32, cell: u32) -> Option<DepthBounds>
-        requires span { span < 4 }
-        requires cell { cell < 4 }
-        ensures { IfSome result (λ d. CellLies self.now span cell d.least d.greatest) }
-    {
-        match &self.spans.cells {
-            Some(cells) => cells.bounds[(4 * cell + span) as usize],
-            None => None,
+        if self.stored.is_empty() {
+            return None;
         }
-    }
-
-    /// Keeps what the depths of a cell lie between, until one is stored anywhere.
-    fn keep_cell(&mut self, span: u32, cell: u32, least: u32, greatest: u32)
-        requires span { span < 4 }
-        requires cell { cell < 4 }
-        requires lie { CellLies self.old span cell least greatest }
-        ensures { self.new ≡ self.old }
-    {
-        let at = (4 * cell + span) as usize;
-        Cells::keep(&mut self.spans.cells, at, DepthBounds { least, greatest });
-    }
-
-    /// What the depths of a cell lie between, lane by lane.
-    fn cell_extremes(&self, span: u32, cell: u32) -> Extremes
-        requires span { span < 4 }
-        requires cell { cell < 4 }
-        ensures { (k : ℕ) → k < 8 → HoldsSpan self.now span (8 * cell + k) result }
-    {
-        let mut all = Extremes::none();
-        for k in 0..8u32 {
-            let depths = self.depth_span(span, 8 * cell + k);
-            let more = all.with(&depths);
-            all = more;
-        }
-        all
-    }
-
-    /// Looks at the depths of a cell, and keeps what they lie between, until one is stored.
-    #[inline(never)]
-    pub fn measure_cell(&mut self, span: u32, cell: u32)
-        requires span { span < 4 }
-        requires cell { cell < 4 }
-        ensures { self.new ≡ self.old }
-    {
-        let all = self.cell_extremes(span, cell);
-        self.keep_cell(span, cell, all.least_of_all(), all.greatest_of_all());
+        self.stored[0].depth_bounds()
     }
 }

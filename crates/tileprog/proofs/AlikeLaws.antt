@@ -16,7 +16,7 @@ use Rattle.gfxspec.specs.Tiles.{IsIn}
 use Rattle.depthplane.specs.Place.{depth_of}
 use Rattle.lanes.specs.Stencil.{StencilRule}
 use Rattle.meaning.specs.Over.{sum_over}
-use Rattle.tileblock.specs.declared.blocks.DepthBounds.{DepthBounds}
+use Rattle.tileblock.specs.declared.pixels.DepthBounds.{DepthBounds}
 use Rattle.tileblock.specs.Block.{Block, pixel_at}
 use Rattle.tileblock.specs.Bounds.{LieBetween}
 use Rattle.tileword.specs.declared.edge_mask.EdgeMask.{EdgeMask}

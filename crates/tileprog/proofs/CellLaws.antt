@@ -15,7 +15,7 @@ use Rattle.depthplane.specs.Place.{depth_of}
 use Rattle.lanes.specs.Stencil.{StencilRule, reference_passes, stencil_after}
 use Rattle.tileblock.specs.Block.{Block, pixel_at}
 use Rattle.tileblock.specs.Cells.{CellLies}
-use Rattle.tileblock.specs.declared.blocks.DepthBounds.{DepthBounds}
+use Rattle.tileblock.specs.declared.pixels.DepthBounds.{DepthBounds}
 use Rattle.tileprog.specs.declared.brush.Brush.{Brush}
 use Rattle.tileprog.specs.declared.column.Column.{Column}
 use Rattle.tileprog.specs.declared.kind.Tests.TheVariants.{Stencil}

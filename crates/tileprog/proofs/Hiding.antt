@@ -23,7 +23,7 @@ use Rattle.classify.specs.declared.Class.TheVariants.{Cut}
 use Rattle.tileword.specs.declared.edge_mask.EdgeMask.{EdgeMask}
 use Rattle.tileword.specs.EdgeMask.{edge_bits}
 use Rattle.meaning.specs.Over.{sum_over}
-use Rattle.tileblock.specs.declared.blocks.DepthBounds.{DepthBounds}
+use Rattle.tileblock.specs.declared.pixels.DepthBounds.{DepthBounds}
 use Rattle.tileblock.specs.Block.{Block, pixel_at}
 use Rattle.tileblock.specs.Bounds.{LieBetween}
 use Rattle.binner.specs.declared.entry.StateEntry.{StateEntry}

@@ -22,3 +22,5 @@ pub mod AlikeLaws
 pub mod CellLaws
 pub mod Operating
 pub mod Leaving
+pub mod FourLanes
+pub mod FourRows

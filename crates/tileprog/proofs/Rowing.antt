@@ -118,7 +118,7 @@ module _ (s : Stroke) (old : Block) (span row x y cover : ℕ) (x_is : old.rect.
   pub row_missed : cover ≡ 0 → RowDrew s old old x y 0
   row_missed none =
       record {
-        drew = one_span s old old old span row x y y same x_is y_is at_least (rows_from s old x y y refl) (unchanged old span row same (λ j h. refl))
+        drew = one_span s old old old span row x y y same x_is y_is at_least (rows_from 8 s old x y y refl) (unchanged old span row same (λ j h. refl))
             (λ j h is p. lane_missed s old.rect x y cover sound lanes top bottom none j h p);
         count = sym (eight_none (λ j. stroke_count s old (x + j) y) (λ j h. ap one_if (lane_missed_count s old.rect x y cover sound lanes top bottom none j h (pixel_at old (x + j) y))));
         few = omega arith;
@@ -130,7 +130,7 @@ module _ (s : Stroke) (old : Block) (span row x y cover : ℕ) (x_is : old.rect.
       → SpanStored old new span row (drawn_lane s.brush cover moved) → ArePassed s.brush old span row cover moved bits → n ≡ eight (λ j. one_if (has bits j)) → n ≤ 8 → RowDrew s old new x y n
   row_drawn new moved bits n depth_is stored passed is few =
       record {
-        drew = one_span s old old new span row x y y (drawn_lane s.brush cover moved) x_is y_is at_least (rows_from s old x y y refl) stored
+        drew = one_span s old old new span row x y y (drawn_lane s.brush cover moved) x_is y_is at_least (rows_from 8 s old x y y refl) stored
             (lane_drawn s old.rect x y cover sound lanes top bottom moved depth_is);
         count = is ∙ eight_same _ _ (λ j h. ap one_if (lane_counted s old.rect x y cover sound lanes top bottom moved depth_is within (lane_pixel old span row) (λ j. pixel_at old (x + j) y)
             (λ j h. λ i. pixel_at old (x_is i + j) (y_is i)) bits passed.each j h));

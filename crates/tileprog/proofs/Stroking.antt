@@ -139,43 +139,43 @@ module _ (s : Stroke) (old mid new : Block) (span row x y top : ℕ) (change : �
 
 -- ---- one column more
 
-wider : (left x top bottom u v : ℕ) → left ≤ x → (in_box left x top bottom u v ≡ true → in_box x (x + 8) top bottom u v ≡ false)
-wider left x top bottom u v h = plain
+wider : (n left x top bottom u v : ℕ) → left ≤ x → (in_box left x top bottom u v ≡ true → in_box x (x + n) top bottom u v ≡ false)
+wider n left x top bottom u v h = plain
   where
-    plain : ((nat_le left u && nat_lt u x) && (nat_le top v && nat_lt v bottom)) ≡ true → ((nat_le x u && nat_lt u (x + 8)) && (nat_le top v && nat_lt v bottom)) ≡ false
+    plain : ((nat_le left u && nat_lt u x) && (nat_le top v && nat_lt v bottom)) ≡ true → ((nat_le x u && nat_lt u (x + n)) && (nat_le top v && nat_lt v bottom)) ≡ false
     plain e = grind (arith, nat_tests)
 
-either : (left x top bottom u v : ℕ) → left ≤ x → in_box left (x + 8) top bottom u v ≡ (if in_box left x top bottom u v then true else in_box x (x + 8) top bottom u v)
-either left x top bottom u v h = by (in_box left x top bottom u v) refl
+either : (n left x top bottom u v : ℕ) → left ≤ x → in_box left (x + n) top bottom u v ≡ (if in_box left x top bottom u v then true else in_box x (x + n) top bottom u v)
+either n left x top bottom u v h = by (in_box left x top bottom u v) refl
   where
-    done : ((nat_le left u && nat_lt u x) && (nat_le top v && nat_lt v bottom)) ≡ true → ((nat_le left u && nat_lt u (x + 8)) && (nat_le top v && nat_lt v bottom)) ≡ true
+    done : ((nat_le left u && nat_lt u x) && (nat_le top v && nat_lt v bottom)) ≡ true → ((nat_le left u && nat_lt u (x + n)) && (nat_le top v && nat_lt v bottom)) ≡ true
     done e = grind (arith, nat_tests)
 
-    left_over : ((nat_le left u && nat_lt u x) && (nat_le top v && nat_lt v bottom)) ≡ false → ((nat_le left u && nat_lt u (x + 8)) && (nat_le top v && nat_lt v bottom)) ≡ ((nat_le x u && nat_lt u (x + 8)) && (nat_le top v && nat_lt v bottom))
+    left_over : ((nat_le left u && nat_lt u x) && (nat_le top v && nat_lt v bottom)) ≡ false → ((nat_le left u && nat_lt u (x + n)) && (nat_le top v && nat_lt v bottom)) ≡ ((nat_le x u && nat_lt u (x + n)) && (nat_le top v && nat_lt v bottom))
     left_over e = grind (arith, nat_tests)
 
-    by : (b : Bool) → in_box left x top bottom u v ≡ b → in_box left (x + 8) top bottom u v ≡ (if b then true else in_box x (x + 8) top bottom u v)
+    by : (b : Bool) → in_box left x top bottom u v ≡ b → in_box left (x + n) top bottom u v ≡ (if b then true else in_box x (x + n) top bottom u v)
     by true e = done e
     by false e = left_over e
 
 -- ---- one row more
 
-lower : (x top y u v : ℕ) → top ≤ y → (in_box x (x + 8) top y u v ≡ true → in_box x (x + 8) y (y + 1) u v ≡ false)
-lower x top y u v h = plain
+lower : (n x top y u v : ℕ) → top ≤ y → (in_box x (x + n) top y u v ≡ true → in_box x (x + n) y (y + 1) u v ≡ false)
+lower n x top y u v h = plain
   where
-    plain : ((nat_le x u && nat_lt u (x + 8)) && (nat_le top v && nat_lt v y)) ≡ true → ((nat_le x u && nat_lt u (x + 8)) && (nat_le y v && nat_lt v (y + 1))) ≡ false
+    plain : ((nat_le x u && nat_lt u (x + n)) && (nat_le top v && nat_lt v y)) ≡ true → ((nat_le x u && nat_lt u (x + n)) && (nat_le y v && nat_lt v (y + 1))) ≡ false
     plain e = grind (arith, nat_tests)
 
-either_row : (x top y u v : ℕ) → top ≤ y → in_box x (x + 8) top (y + 1) u v ≡ (if in_box x (x + 8) top y u v then true else in_box x (x + 8) y (y + 1) u v)
-either_row x top y u v h = by (in_box x (x + 8) top y u v) refl
+either_row : (n x top y u v : ℕ) → top ≤ y → in_box x (x + n) top (y + 1) u v ≡ (if in_box x (x + n) top y u v then true else in_box x (x + n) y (y + 1) u v)
+either_row n x top y u v h = by (in_box x (x + n) top y u v) refl
   where
-    done : ((nat_le x u && nat_lt u (x + 8)) && (nat_le top v && nat_lt v y)) ≡ true → ((nat_le x u && nat_lt u (x + 8)) && (nat_le top v && nat_lt v (y + 1))) ≡ true
+    done : ((nat_le x u && nat_lt u (x + n)) && (nat_le top v && nat_lt v y)) ≡ true → ((nat_le x u && nat_lt u (x + n)) && (nat_le top v && nat_lt v (y + 1))) ≡ true
     done e = grind (arith, nat_tests)
 
-    left_over : ((nat_le x u && nat_lt u (x + 8)) && (nat_le top v && nat_lt v y)) ≡ false → ((nat_le x u && nat_lt u (x + 8)) && (nat_le top v && nat_lt v (y + 1))) ≡ ((nat_le x u && nat_lt u (x + 8)) && (nat_le y v && nat_lt v (y + 1)))
+    left_over : ((nat_le x u && nat_lt u (x + n)) && (nat_le top v && nat_lt v y)) ≡ false → ((nat_le x u && nat_lt u (x + n)) && (nat_le top v && nat_lt v (y + 1))) ≡ ((nat_le x u && nat_lt u (x + n)) && (nat_le y v && nat_lt v (y + 1)))
     left_over e = grind (arith, nat_tests)
 
-    by : (b : Bool) → in_box x (x + 8) top y u v ≡ b → in_box x (x + 8) top (y + 1) u v ≡ (if b then true else in_box x (x + 8) y (y + 1) u v)
+    by : (b : Bool) → in_box x (x + n) top y u v ≡ b → in_box x (x + n) top (y + 1) u v ≡ (if b then true else in_box x (x + n) y (y + 1) u v)
     by true e = done e
     by false e = left_over e
 
@@ -199,13 +199,13 @@ both_boxes s old mid new d e f apart joins was more = record {
         (λ i. step s (e u v) u v (step s (h i) u v (pixel_at old u v)))
         ∙ ap (λ b. step s (if b then true else e u v) u v (pixel_at old u v)) (sym h)
 
-pub one_column : (s : Stroke) (old mid new : Block) (left x top bottom : ℕ) → left ≤ x → Drew s old mid (in_box left x top bottom) → Drew s mid new (in_box x (x + 8) top bottom) → Drew s old new (in_box left (x + 8) top bottom)
-one_column s old mid new left x top bottom h was more =
-    both_boxes s old mid new (in_box left x top bottom) (in_box x (x + 8) top bottom) (in_box left (x + 8) top bottom) (λ u v. wider left x top bottom u v h) (λ u v. either left x top bottom u v h) was more
+pub one_column : (n : ℕ) (s : Stroke) (old mid new : Block) (left x top bottom : ℕ) → left ≤ x → Drew s old mid (in_box left x top bottom) → Drew s mid new (in_box x (x + n) top bottom) → Drew s old new (in_box left (x + n) top bottom)
+one_column n s old mid new left x top bottom h was more =
+    both_boxes s old mid new (in_box left x top bottom) (in_box x (x + n) top bottom) (in_box left (x + n) top bottom) (λ u v. wider n left x top bottom u v h) (λ u v. either n left x top bottom u v h) was more
 
-pub one_row : (s : Stroke) (old mid new : Block) (x top y : ℕ) → top ≤ y → Drew s old mid (in_box x (x + 8) top y) → Drew s mid new (in_box x (x + 8) y (y + 1)) → Drew s old new (in_box x (x + 8) top (y + 1))
-one_row s old mid new x top y h was more =
-    both_boxes s old mid new (in_box x (x + 8) top y) (in_box x (x + 8) y (y + 1)) (in_box x (x + 8) top (y + 1)) (λ u v. lower x top y u v h) (λ u v. either_row x top y u v h) was more
+pub one_row : (n : ℕ) (s : Stroke) (old mid new : Block) (x top y : ℕ) → top ≤ y → Drew s old mid (in_box x (x + n) top y) → Drew s mid new (in_box x (x + n) y (y + 1)) → Drew s old new (in_box x (x + n) top (y + 1))
+one_row n s old mid new x top y h was more =
+    both_boxes s old mid new (in_box x (x + n) top y) (in_box x (x + n) y (y + 1)) (in_box x (x + n) top (y + 1)) (λ u v. lower n x top y u v h) (λ u v. either_row n x top y u v h) was more
 
 -- ---- all columns
 
@@ -233,11 +233,11 @@ all_columns s old new left right low high h = record {
     by u v false e = either_way (in_box left right s.clip.top s.clip.bottom u v) (stroked s u v (pixel_at old u v)) (pixel_at old u v) (outside s u v (pixel_at old u v) e) ∙ sym (outside s u v (pixel_at old u v) e)
 
 -- a column before its first row, and behind its last
-pub rows_from : (s : Stroke) (old : Block) (x top y : ℕ) → y ≡ top → Drew s old old (in_box x (x + 8) top y)
-rows_from s old x top y e = none_drawn s old _ (λ u v is. ap (λ b. in_box x (x + 8) top b u v) e ∙ no_rows x (x + 8) top u v)
+pub rows_from : (n : ℕ) (s : Stroke) (old : Block) (x top y : ℕ) → y ≡ top → Drew s old old (in_box x (x + n) top y)
+rows_from n s old x top y e = none_drawn s old _ (λ u v is. ap (λ b. in_box x (x + n) top b u v) e ∙ no_rows x (x + n) top u v)
 
-pub rows_to : (s : Stroke) (old new : Block) (x top y bottom : ℕ) → y ≡ bottom → Drew s old new (in_box x (x + 8) top y) → Drew s old new (in_box x (x + 8) top bottom)
-rows_to s old new x top y bottom e h = same_done s old new _ _ (λ u v is. ap (λ b. in_box x (x + 8) top b u v) e) h
+pub rows_to : (n : ℕ) (s : Stroke) (old new : Block) (x top y bottom : ℕ) → y ≡ bottom → Drew s old new (in_box x (x + n) top y) → Drew s old new (in_box x (x + n) top bottom)
+rows_to n s old new x top y bottom e h = same_done s old new _ _ (λ u v is. ap (λ b. in_box x (x + n) top b u v) e) h
 
 -- columns before the first
 pub columns_from : (s : Stroke) (old : Block) (left top bottom : ℕ) → Drew s old old (in_box left left top bottom)

@@ -128,32 +128,32 @@ clip_inside clip r u v w e = plain e
     plain : (nat_le clip.left u && (nat_lt u clip.right && (nat_le clip.top v && nat_lt v clip.bottom))) ≡ true → IsIn r u v
     plain f = record { left = grind (arith, nat_tests, w.left); right = grind (arith, nat_tests, w.right); top = grind (arith, nat_tests, w.top); bottom = grind (arith, nat_tests, w.bottom) }
 
+-- a pixel that isn't drawn yet counts what it counted at first
+pub pixel_waits : (s : Stroke) (old mid : Block) (done : ℕ → ℕ → Bool) → IsWithin s.clip old.rect → Drew s old mid done → (u v : ℕ) → done u v ≡ false → stroke_count s mid u v ≡ stroke_count s old u v
+pixel_waits s old mid done w was u v waits = by (is_in_rect s.clip u v) refl
+  where
+    by : (b : Bool) → is_in_rect s.clip u v ≡ b → stroke_count s mid u v ≡ stroke_count s old u v
+    by true e =
+        let same = was.pixels u v (clip_inside s.clip old.rect u v w e) ∙ ap (λ b. if b then stroked s u v (pixel_at old u v) else pixel_at old u v) waits in
+        ap (λ p. one_if (stroke_passes s u v p)) same
+    by false e = none_outside s mid u v e ∙ sym (none_outside s old u v e)
+
 undrawn : (left x top bottom u v : ℕ) → x ≤ u → ((nat_le left u && nat_lt u x) && (nat_le top v && nat_lt v bottom)) ≡ false
 undrawn left x top bottom u v far = grind (arith, nat_tests)
 
 -- a column that isn't drawn yet counts what it counted at first
 pub count_waits : (s : Stroke) (old mid : Block) (left x top bottom : ℕ) → IsWithin s.clip old.rect → Drew s old mid (in_box left x top bottom) → (u v : ℕ) → x ≤ u → stroke_count s mid u v ≡ stroke_count s old u v
-count_waits s old mid left x top bottom w was u v far = by (is_in_rect s.clip u v) refl
-  where
-    by : (b : Bool) → is_in_rect s.clip u v ≡ b → stroke_count s mid u v ≡ stroke_count s old u v
-    by true e =
-        let same = was.pixels u v (clip_inside s.clip old.rect u v w e) ∙ ap (λ b. if b then stroked s u v (pixel_at old u v) else pixel_at old u v) (undrawn left x top bottom u v far) in
-        ap (λ p. one_if (stroke_passes s u v p)) same
-    by false e = none_outside s mid u v e ∙ sym (none_outside s old u v e)
+count_waits s old mid left x top bottom w was u v far = pixel_waits s old mid (in_box left x top bottom) w was u v (undrawn left x top bottom u v far)
 
-waiting : (x top y u : ℕ) → ((nat_le x u && nat_lt u (x + 8)) && (nat_le top y && nat_lt y y)) ≡ false
-waiting x top y u = grind (arith, nat_tests)
+waiting : (n x top y u : ℕ) → ((nat_le x u && nat_lt u (x + n)) && (nat_le top y && nat_lt y y)) ≡ false
+waiting n x top y u = grind (arith, nat_tests)
 
--- a row that isn't drawn yet counts what it counted at first
+-- so does a pixel of a row that isn't
+pub lane_waits : (n : ℕ) (s : Stroke) (old mid : Block) (x top y : ℕ) → IsWithin s.clip old.rect → Drew s old mid (in_box x (x + n) top y) → (u : ℕ) → stroke_count s mid u y ≡ stroke_count s old u y
+lane_waits n s old mid x top y w was u = pixel_waits s old mid (in_box x (x + n) top y) w was u y (waiting n x top y u)
+
 pub row_waits : (s : Stroke) (old mid : Block) (x top y : ℕ) → IsWithin s.clip old.rect → Drew s old mid (in_box x (x + 8) top y) → eight (λ j. stroke_count s mid (x + j) y) ≡ eight (λ j. stroke_count s old (x + j) y)
-row_waits s old mid x top y w was = eight_same _ _ (λ j h. by j (is_in_rect s.clip (x + j) y) refl)
-  where
-    by : (j : ℕ) (b : Bool) → is_in_rect s.clip (x + j) y ≡ b → stroke_count s mid (x + j) y ≡ stroke_count s old (x + j) y
-    by j true e =
-        let u = x + j in
-        let same = was.pixels u y (clip_inside s.clip old.rect u y w e) ∙ ap (λ b. if b then stroked s u y (pixel_at old u y) else pixel_at old u y) (waiting x top y u) in
-        ap (λ p. one_if (stroke_passes s u y p)) same
-    by j false e = none_outside s mid (x + j) y e ∙ sym (none_outside s old (x + j) y e)
+row_waits s old mid x top y w was = eight_same _ _ (λ j h. lane_waits 8 s old mid x top y w was (x + j))
 
 pub column_waits : (s : Stroke) (old mid : Block) (left x top bottom n : ℕ) → IsWithin s.clip old.rect → Drew s old mid (in_box left x top bottom) → column_sum x top n (stroke_count s mid) ≡ column_sum x top n (stroke_count s old)
 column_waits s old mid left x top bottom n w was =
@@ -172,6 +172,29 @@ pub all_counted : (s : Stroke) (old : Block) (n start passed : ℕ) → passed �
 all_counted s old n start passed was low high w =
     was ∙ columns_box n start s.clip.top (s.clip.bottom - s.clip.top) (stroke_count s old)
     ∙ box_is start (8 * n) s.clip old.rect (stroke_count s old) low high w (none_outside s old)
+
+-- ---- boxes side by side
+
+-- a box of so many columns, and one to its right
+pub box_wider : (x n m top rows : ℕ) (f : ℕ → ℕ → ℕ) → box_sum x n top rows f + box_sum (x + n) m top rows f ≡ box_sum x (n + m) top rows f
+box_wider x n m top rows f =
+    sym (sum_plus rows (λ i. sum_below n (λ j. f (x + j) (top + i))) (λ i. sum_below m (λ j. f (x + n + j) (top + i))))
+    ∙ same_sums rows _ _ (λ i l. plus_same _ _ _ _ refl (same_sums m _ _ (λ j k. ap (λ u. f u (top + i)) (assoc x n j))) ∙ sym (sum_split n m (λ j. f (x + j) (top + i))))
+  where
+    assoc : (a b d : ℕ) → a + b + d ≡ a + (b + d)
+    assoc a b d = omega arith
+
+pub box_none : (x n top rows : ℕ) (f : ℕ → ℕ → ℕ) → n ≡ 0 → 0 ≡ box_sum x n top rows f
+box_none x n top rows f e = sym (sum_zero rows) ∙ ap (λ k. box_sum x k top rows f) (sym e)
+
+-- one row more
+pub box_lower : (x n top rows : ℕ) (f : ℕ → ℕ → ℕ) → box_sum x n top rows f + sum_below n (λ j. f (x + j) (top + rows)) ≡ box_sum x n top (rows + 1) f
+box_lower x n top rows f = sym (sum_more rows (λ i. sum_below n (λ j. f (x + j) (top + i))))
+
+-- a box that isn't drawn yet counts what it counted at first
+pub box_waits : (s : Stroke) (old mid : Block) (left x top bottom n rows : ℕ) → IsWithin s.clip old.rect → Drew s old mid (in_box left x top bottom) → box_sum x n top rows (stroke_count s mid) ≡ box_sum x n top rows (stroke_count s old)
+box_waits s old mid left x top bottom n rows w was =
+    same_sums rows _ _ (λ i l. same_sums n _ _ (λ j h. count_waits s old mid left x top bottom w was (x + j) (top + i) (omega arith)))
 
 -- ---- sums over a rectangle
 

@@ -29,7 +29,9 @@ use Rattle.tileprog.specs.Counting.{one_if, stroke_count}
 use Rattle.tileprog.specs.Edges.{passes_edge, passes_edges}
 use Rattle.tileprog.specs.Painting.{painted_with, flipped_color, flipped, stands_for, PaintsAs}
 use Rattle.tileprog.specs.Passing.{triangle_count, IsTile}
+use Rattle.tileprog.specs.Spreads.{SpreadDrew}
 use Rattle.tileprog.specs.Strokes.{IsNamed, stroked}
+use Rattle.tileprog.specs.Under.{DrewUnder}
 use Rattle.tileprog.proofs.Summing.{sum_over_same, sum_over_none}
 
 -- ---- the class
@@ -159,3 +161,16 @@ module _ (p : TriSetup) (e : StateEntry) (m : EdgeMask) (clip r : PixelRect) (ti
   pub under_counts : (b : Brush) (flip : ℕ) → IsBrushOf b p e flip → (old : Block) → sum_over r (stroke_count (record { brush = b; plane = p.plane; mask = edge_bits m; clip = clip }) old) ≡ sum_over r (triangle_count m p e old)
   under_counts b flip k old =
       sum_over_same r _ _ (λ u v is. λ i. one_if (reach_is u v is i && (test_is b p e flip k u v (pixel_at old u v) i).passed))
+
+-- a stroke of a brush of the entry is the triangle's word
+pub drew_under : (p : TriSetup) (e : StateEntry) (m : EdgeMask) (clip : PixelRect) (old new : Block) → IsTile old.rect → IsClassOf (Cut (edge_bits m)) p.edges old.rect → IsBounded p e → ((u v : ℕ) → IsIn old.rect u v → is_in_rect clip u v ≡ is_in_rect p.bounds u v)
+    → (b : Brush) (flip : ℕ) → IsBrushOf b p e flip → (n bits : ℕ) → bits ≡ edge_bits m → SpreadDrew (record { brush = b; plane = p.plane; mask = bits; clip = clip }) old new n → DrewUnder m p e flip old new n
+drew_under p e m clip old new tile class bounded inside b flip k n bits is drew =
+    let S : ℕ → Type 0 = λ mask. SpreadDrew (record { brush = b; plane = p.plane; mask = mask; clip = clip }) old new n in
+    let d = subst S is drew in
+    record {
+      rect = d.drew.rect;
+      pixels = λ u v here. ap (flipped flip) (d.drew.pixels u v here) ∙ under_is p e m clip old.rect tile class bounded inside b flip k u v here old;
+      count = d.count ∙ under_counts p e m clip old.rect tile class bounded inside b flip k old;
+      few = d.few;
+    }

@@ -8,7 +8,7 @@ use Rattle.gfxspec.specs.Color.{BlendSetting, written_color}
 use Rattle.gfxspec.specs.DepthStencil.{DepthStencilSetting, FaceSetting, depth_passes}
 use Rattle.gfxspec.specs.Tiles.{IsIn}
 use Rattle.lanes.specs.Stencil.{StencilRule, stencil_after}
-use Rattle.tileblock.specs.declared.blocks.DepthBounds.{DepthBounds}
+use Rattle.tileblock.specs.declared.pixels.DepthBounds.{DepthBounds}
 use Rattle.tileblock.specs.Block.{Block, pixel_at}
 use Rattle.binner.specs.declared.entry.StateEntry.{StateEntry}
 use Rattle.binner.specs.declared.setup.TriSetup.{TriSetup}

@@ -10,7 +10,7 @@ use Rattle.gfxspec.specs.Tiles.{IsIn}
 use Rattle.depthplane.specs.Height.{DeepTriangle}
 use Rattle.depthplane.specs.Place.{depth_of}
 use Rattle.tileblock.specs.Block.{Block, pixel_at}
-use Rattle.tileblock.specs.declared.blocks.DepthBounds.{DepthBounds}
+use Rattle.tileblock.specs.declared.pixels.DepthBounds.{DepthBounds}
 use Rattle.tileprog.specs.declared.cells.Cell.{Cell}
 use Rattle.tileprog.specs.declared.column.Column.{Column}
 use Rattle.tileprog.specs.Edges.{passes_edges}

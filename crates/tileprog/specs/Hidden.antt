@@ -9,7 +9,7 @@ use Rattle.gfxspec.specs.Tiles.{IsIn}
 use Rattle.depthplane.specs.Place.{depth_of}
 use Rattle.binner.specs.declared.setup.TriSetup.{TriSetup}
 use Rattle.tileword.specs.declared.edge_mask.EdgeMask.{EdgeMask}
-use Rattle.tileblock.specs.declared.blocks.DepthBounds.{DepthBounds}
+use Rattle.tileblock.specs.declared.pixels.DepthBounds.{DepthBounds}
 
 -- no depth from `least` to `greatest` passes against any from `low` to `high`
 abbrev pub NonePasses : Compare → ℕ → ℕ → ℕ → ℕ → Type 0

@@ -11,9 +11,11 @@ pub mod Within
 pub mod Counting
 pub mod Sums
 pub mod Columns
+pub mod Quads
 pub mod Cells
 pub mod Passing
 pub mod Runs
 pub mod Several
 pub mod Programs
 pub mod Alike
+pub mod Under

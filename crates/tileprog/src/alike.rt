@@ -25,8 +25,7 @@ use gfxspec::{Compare, PixelRect};
 use lanes::StencilTest;
 use logicop::ColorWrite;
 use states::{BlendState, DepthStencilState};
-use std::alloc::Allocator;
-use tileblock::{DepthBounds, TileBlock};
+use tileblock::{DepthBounds, TilePixels};
 
 /// The comparison that holds where another doesn't.
 #[inline(always)]
@@ -131,7 +130,7 @@ pub(crate) fn alike_outcome(
 
 /// The stencil values of a tile are bytes. Nothing that is read is used, so nothing is left of the loop when it is compiled.
 #[inline(always)]
-fn read_bytes<A: Allocator>(block: &TileBlock<A>)
+fn read_bytes(block: &TilePixels)
     requires { IsInTile block.now.rect }
     ensures { AreBytes block.now }
 {
@@ -144,7 +143,7 @@ fn read_bytes<A: Allocator>(block: &TileBlock<A>)
 /// Stores in each pixel of a tile what the stencil's operation leaves where the stencil test passes, two rows of a span at a time; bit
 /// j of `bits` says whether the depth test passes in lane j.
 #[inline(always)]
-fn operate<A: Allocator>(block: &mut TileBlock<A>, test: &StencilTest, deep: bool, bits: u8)
+fn operate(block: &mut TilePixels, test: &StencilTest, deep: bool, bits: u8)
     requires tile { IsInTile block.old.rect }
     requires bits { (j : ℕ) → j < 8 → has bits j ≡ deep }
     ensures { Changed (operated test.now deep) block.old block.new }
@@ -179,8 +178,8 @@ fn stencil_test(state: &DepthStencilState, front: bool, reference: u8) -> Stenci
 
 /// A triangle that does the same at each pixel of a tile, all of which it reaches; the answer is how many pass.
 #[inline(never)]
-pub(crate) fn run_alike<A: Allocator>(
-    block: &mut TileBlock<A>,
+pub(crate) fn run_alike(
+    block: &mut TilePixels,
     triangle: &TriSetup,
     entry: &StateEntry,
     deep: bool,
@@ -218,8 +217,8 @@ pub(crate) fn is_open(entry: &StateEntry, whole: bool) -> bool
 
 /// A triangle that tests nothing over a tile, all pixels of which it reaches; the answer is how many there are.
 #[inline(never)]
-pub(crate) fn run_open<A: Allocator>(
-    block: &mut TileBlock<A>,
+pub(crate) fn run_open(
+    block: &mut TilePixels,
     flip: &mut u32,
     triangle: &TriSetup,
     entry: &StateEntry,

@@ -15,8 +15,7 @@ use crate::hidden::none_passes;
 use classify::{Class, classify};
 use edges::EdgeSet;
 use gfxspec::PixelRect;
-use std::alloc::Allocator;
-use tileblock::{DepthBounds, TileBlock};
+use tileblock::{DepthBounds, TilePixels};
 
 /// The pixels of a column in eight rows of the tile, from `row` on, and what is known of them: whether all named edges hold at each of
 /// them, or at none, and whether the depth test passes at all or at none.
@@ -132,12 +131,7 @@ fn outcome_between(range: DepthBounds, known: DepthBounds, brush: &Brush) -> Opt
 /// depths tells: by the triangle's corners, which decide most cells, and else by its plane. Where depths would be stored, that all pass is not
 /// told.
 #[inline(always)]
-fn deep_from<A: Allocator>(
-    block: &TileBlock<A>,
-    column: &Column<'_>,
-    cell: u32,
-    brush: &Brush,
-) -> Option<bool>
+fn deep_from(block: &TilePixels, column: &Column<'_>, cell: u32, brush: &Brush) -> Option<bool>
     requires column { IsColumn column.now block.now.rect }
     requires cell { cell < 4 }
     requires depth { brush.now.state.depth ≡ true }
@@ -159,8 +153,8 @@ fn deep_from<A: Allocator>(
 /// Whether the depth test of a brush passes at all covered pixels of a cell of a column, or at none, if that is asked: where depth is tested,
 /// only where the edges may hold.
 #[inline(always)]
-pub(crate) fn depth_outcome<A: Allocator>(
-    block: &TileBlock<A>,
+pub(crate) fn depth_outcome(
+    block: &TilePixels,
     column: &Column<'_>,
     cell: u32,
     covered: Option<bool>,
@@ -182,8 +176,8 @@ pub(crate) fn depth_outcome<A: Allocator>(
 /// Looks at the stored depths of a cell that is asked about, where nothing is known of them. A brush that stores depths doesn't look: the
 /// block would forget at once.
 #[inline(always)]
-pub(crate) fn look_at<A: Allocator>(
-    block: &mut TileBlock<A>,
+pub(crate) fn look_at(
+    block: &mut TilePixels,
     span: u32,
     cell: u32,
     covered: Option<bool>,

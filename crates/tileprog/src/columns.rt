@@ -14,14 +14,13 @@ use crate::rows::{depth_row, open_row, pixels_left};
 use crate::stencils::stencil_column;
 use depthplane::Walks;
 use edges::EdgeWalk;
-use std::alloc::Allocator;
-use tileblock::TileBlock;
+use tileblock::TilePixels;
 
 /// The rows of a column under a brush without tests, with the mask of its edges known to the loop, which walks a copy of its own: that stays
 /// in registers.
 #[inline(always)]
-fn open_rows<A: Allocator>(
-    block: &mut TileBlock<A>,
+fn open_rows(
+    block: &mut TilePixels,
     column: &Column<'_>,
     mask: u8,
     edges: &EdgeWalk<'_>,
@@ -48,8 +47,8 @@ fn open_rows<A: Allocator>(
 
 /// A column under a brush without tests; the answer is how many pixels pass. Where no edge is named, its loop has none.
 #[inline(never)]
-fn open_column<A: Allocator>(
-    block: &mut TileBlock<A>,
+fn open_column(
+    block: &mut TilePixels,
     column: &Column<'_>,
     edges: &EdgeWalk<'_>,
     brush: Brush,
@@ -68,8 +67,8 @@ fn open_column<A: Allocator>(
 
 /// The same under a brush that tests depth alone.
 #[inline(always)]
-fn depth_spans<A: Allocator, W: Walks>(
-    block: &mut TileBlock<A>,
+fn depth_spans<W: Walks>(
+    block: &mut TilePixels,
     column: &Column<'_>,
     mask: u8,
     edges: &EdgeWalk<'_>,
@@ -99,8 +98,8 @@ fn depth_spans<A: Allocator, W: Walks>(
 
 /// The same, with the mask of its edges known to the loop: where none is named, it has none.
 #[inline(always)]
-fn depth_rows<A: Allocator, W: Walks>(
-    block: &mut TileBlock<A>,
+fn depth_rows<W: Walks>(
+    block: &mut TilePixels,
     column: &Column<'_>,
     edges: &EdgeWalk<'_>,
     walk: &W,
@@ -121,8 +120,8 @@ fn depth_rows<A: Allocator, W: Walks>(
 /// The same where no depth has to be mended. It is a function of its own, and no second call of the same one, so that its loops are kept
 /// apart, and have no call in them.
 #[inline(always)]
-fn sure_depth_rows<A: Allocator, W: Walks>(
-    block: &mut TileBlock<A>,
+fn sure_depth_rows<W: Walks>(
+    block: &mut TilePixels,
     column: &Column<'_>,
     edges: &EdgeWalk<'_>,
     walk: &W,
@@ -139,8 +138,8 @@ fn sure_depth_rows<A: Allocator, W: Walks>(
 /// A column under a brush that tests depth alone; the answer is how many pixels pass. Whether all depths are sure is known to each of
 /// the loops, so that they have no call to mend one where they are.
 #[inline(always)]
-fn depth_column<A: Allocator, W: Walks>(
-    block: &mut TileBlock<A>,
+fn depth_column<W: Walks>(
+    block: &mut TilePixels,
     column: &Column<'_>,
     edges: &EdgeWalk<'_>,
     walk: &W,
@@ -160,8 +159,8 @@ fn depth_column<A: Allocator, W: Walks>(
 
 /// One column of spans, in the rows of the clip rectangle.
 #[inline(always)]
-pub(crate) fn draw_column<A: Allocator, W: Walks>(
-    block: &mut TileBlock<A>,
+pub(crate) fn draw_column<W: Walks>(
+    block: &mut TilePixels,
     column: &Column<'_>,
     edges: &EdgeWalk<'_>,
     walk: &W,

@@ -1,6 +1,6 @@
 //! A triangle over a tile.
 
-ghost use Rattle.std.specs.Prelude.{◌≡◌, ◌≤◌, ◌+◌};
+ghost use Rattle.std.specs.Prelude.{◌≡◌, ◌≤◌, ◌+◌, IfSome, IsNone};
 ghost use Rattle.gfxspec.specs.Limits.{side_bound};
 ghost use Rattle.gfxspec.specs.Tiles.{IsInTile};
 ghost use Rattle.meaning.specs.Over.{sum_over};
@@ -11,38 +11,38 @@ ghost use Rattle.tileprog.specs.Spreads.{IsOver, SpreadDrew, edges_begin, stroke
 ghost use Rattle.tileprog.specs.Strokes.{IsWithin, IsNamed, Stroked};
 
 use crate::brush::Brush;
-use crate::brushes::StencilBrush;
+use crate::brushes::{DepthBrush, StencilBrush};
 use crate::column::column_of;
 use crate::columns::draw_column;
 use crate::kind::{MadeTests, Tests};
+use crate::small::draw_small;
 use binner::TriSetup;
 use depthplane::{Plane, Walks};
 use edges::EdgeWalk;
 use gfxspec::{Compare, PixelRect};
 use lanes::StencilTest;
-use std::alloc::Allocator;
-use tileblock::{DepthBounds, TileBlock};
+use tileblock::{DepthBounds, TilePixels};
 
 /// A triangle over the pixels of a clip rectangle in a tile, with what is the same for all its columns of spans.
 #[derive(Drop)]
-struct TileTriangle<'a> {
-    plane: &'a Plane,
+pub(crate) struct TileTriangle<'a> {
+    pub(crate) plane: &'a Plane,
     /// The edges that are still to be tested, edge i as bit i.
-    mask: u8,
+    pub(crate) mask: u8,
     /// What the depths of the triangle lie between wherever it covers.
-    corners: DepthBounds,
-    brush: &'a Brush,
-    clip: PixelRect,
+    pub(crate) corners: DepthBounds,
+    pub(crate) brush: &'a Brush,
+    pub(crate) clip: PixelRect,
     /// The first of its spans in a row of the tile, and the one past the last.
-    first: u32,
-    past: u32,
+    pub(crate) first: u32,
+    pub(crate) past: u32,
 }
 
 /// A triangle in columns of spans, from where its walks begin; the answer is how many pixels pass. It stands where its tests are known, so
 /// that they are decided before the loops.
 #[inline(always)]
-fn draw_spans<A: Allocator, W: Walks>(
-    block: &mut TileBlock<A>,
+fn draw_spans<W: Walks>(
+    block: &mut TilePixels,
     triangle: &TileTriangle<'_>,
     mut edges: EdgeWalk<'_>,
     mut walk: W,
@@ -79,8 +79,8 @@ fn draw_spans<A: Allocator, W: Walks>(
 
 /// The same under a brush that tests depth alone, with the comparison known to each of the loops.
 #[inline(never)]
-fn draw_compared<A: Allocator, W: Walks>(
-    block: &mut TileBlock<A>,
+fn draw_compared<W: Walks>(
+    block: &mut TilePixels,
     triangle: &TileTriangle<'_>,
     edges: EdgeWalk<'_>,
     walk: W,
@@ -131,8 +131,8 @@ fn draw_compared<A: Allocator, W: Walks>(
 
 /// The same under other tests, which are asked for in each column.
 #[inline(never)]
-fn draw_others<A: Allocator, W: Walks>(
-    block: &mut TileBlock<A>,
+fn draw_others<W: Walks>(
+    block: &mut TilePixels,
     triangle: &TileTriangle<'_>,
     edges: EdgeWalk<'_>,
     walk: W,
@@ -149,8 +149,8 @@ fn draw_others<A: Allocator, W: Walks>(
 
 /// A triangle under tests that are made, from where its walks begin; the answer is how many pixels pass.
 #[inline(always)]
-fn draw_walked<A: Allocator, W: Walks>(
-    block: &mut TileBlock<A>,
+fn draw_walked<W: Walks>(
+    block: &mut TilePixels,
     triangle: &TileTriangle<'_>,
     edges: EdgeWalk<'_>,
     walk: W,
@@ -174,8 +174,8 @@ fn draw_walked<A: Allocator, W: Walks>(
 
 /// A triangle over the pixels of a clip rectangle in a tile, under tests that are made; the answer is how many pass.
 #[inline(never)]
-fn draw_tested<A: Allocator>(
-    block: &mut TileBlock<A>,
+fn draw_tested(
+    block: &mut TilePixels,
     triangle: &TriSetup,
     mask: u8,
     tests: &MadeTests<'_>,
@@ -217,9 +217,46 @@ fn draw_tested<A: Allocator>(
     draw_walked(block, &over, edges, walk, tests)
 }
 
+/// A small triangle under a brush that tests depth alone, in columns of four pixels, if its depths are sure and have no bias; the answer is
+/// how many pixels pass.
+#[inline(always)]
+pub(crate) fn draw_quads(
+    block: &mut TilePixels,
+    triangle: &TriSetup,
+    mask: u8,
+    brush: &DepthBrush,
+    clip: PixelRect,
+) -> Option<u32>
+    requires within { IsWithin clip block.old.rect }
+    requires tile { IsInTile block.old.rect }
+    requires wide { block.old.rect.left + 32 ≤ side_bound }
+    requires high { block.old.rect.top + 32 ≤ side_bound }
+    requires named { IsNamed triangle.now.plane mask block.old.rect }
+    ensures drew { IfSome result (SpreadDrew (record { brush = brush.now.brush; plane = triangle.now.plane; mask = mask; clip = clip }) block.old block.new) }
+    ensures none { IsNone result → block.new ≡ block.old }
+{
+    let rect = block.rect();
+    let first = (clip.left - rect.left) / 4;
+    let left = rect.left + 4 * first;
+    let plane = &triangle.plane;
+    let walk = plane.quads(left, clip.top)?;
+    let edges = triangle.edges.quads(left, clip.top);
+    let (least, greatest) = (triangle.least_depth, triangle.greatest_depth);
+    let over = TileTriangle {
+        plane,
+        mask,
+        corners: DepthBounds { least, greatest },
+        brush: &brush.brush,
+        clip,
+        first,
+        past: (clip.right - rect.left + 3) / 4,
+    };
+    Some(draw_small(block, &over, edges, walk, *brush))
+}
+
 /// A triangle over the pixels of a clip rectangle in a tile; the answer is how many pass.
-pub(crate) fn draw<A: Allocator>(
-    block: &mut TileBlock<A>,
+pub(crate) fn draw(
+    block: &mut TilePixels,
     triangle: &TriSetup,
     mask: u8,
     brush: &Brush,
@@ -237,8 +274,14 @@ pub(crate) fn draw<A: Allocator>(
     match brush.tests {
         Tests::Open => draw_tested(block, triangle, mask, &MadeTests::Nothing, brush, clip),
         Tests::Depth(func, write) => {
-            let tests = MadeTests::DepthAlone(func, write);
-            draw_tested(block, triangle, mask, &tests, brush, clip)
+            draw_tested(
+                block,
+                triangle,
+                mask,
+                &MadeTests::DepthAlone(func, write),
+                brush,
+                clip,
+            )
         }
         Tests::Stencil => {
             let tested = StencilBrush {

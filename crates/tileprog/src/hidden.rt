@@ -6,8 +6,7 @@ ghost use Rattle.tileprog.specs.Hidden.{none_passes, greatest_after, IsHidden, A
 
 use binner::StateEntry;
 use gfxspec::{Compare, PixelRect};
-use std::alloc::Allocator;
-use tileblock::{DepthBounds, TileBlock};
+use tileblock::{DepthBounds, TilePixels};
 
 /// Whether a triangle's bounds are as wide or as high as a tile. The vertices of a smaller one tell about as much of its depths as its
 /// plane does.
@@ -118,8 +117,8 @@ fn is_look_worth(func: Compare, passed: u32) -> bool {
 
 /// Keeps what the depths of a block lie between, where that is known. Behind a triangle of which many pixels passed, all depths are
 /// looked at, so that the bounds are exact again.
-pub(crate) fn keep_after<A: Allocator>(
-    block: &mut TileBlock<A>,
+pub(crate) fn keep_after(
+    block: &mut TilePixels,
     after: Option<DepthBounds>,
     func: Compare,
     passed: u32,

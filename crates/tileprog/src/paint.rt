@@ -13,7 +13,7 @@ use lanes::write8;
 use logicop::ColorWrite;
 use states::BlendState;
 use std::alloc::Allocator;
-use tileblock::TileBlock;
+use tileblock::{TileBlock, TilePixels};
 
 /// The write to stored colours that does to the colours that they stand for, where these bits are still to be flipped, what a blend state
 /// does with a source.
@@ -29,7 +29,7 @@ pub(crate) fn write_under(blend: &BlendState, rgba: [u8; 4], flip: u32) -> Color
 
 /// Does a write to each pixel of a tile. The loop has nothing else: what the write keeps is known to its inlined copies.
 #[inline(always)]
-fn write_tile<A: Allocator>(block: &mut TileBlock<A>, write: ColorWrite)
+fn write_tile(block: &mut TilePixels, write: ColorWrite)
     requires { IsInTile block.old.rect }
     ensures { Changed (written write) block.old block.new }
 {
@@ -42,12 +42,7 @@ fn write_tile<A: Allocator>(block: &mut TileBlock<A>, write: ColorWrite)
 /// Writes a colour to each pixel of a tile. Where all bits are kept, as under XOR, they are flipped later, and where none is, nothing of what was
 /// stored is left to be flipped.
 #[inline(always)]
-pub(crate) fn paint_tile<A: Allocator>(
-    block: &mut TileBlock<A>,
-    flip: &mut u32,
-    blend: &BlendState,
-    rgba: [u8; 4],
-)
+pub(crate) fn paint_tile(block: &mut TilePixels, flip: &mut u32, blend: &BlendState, rgba: [u8; 4])
     requires tile { IsInTile block.old.rect }
     ensures rect { block.new.rect ≡ block.old.rect }
     ensures pixels { (u v : ℕ) → IsIn block.old.rect u v → stands_for flip.new block.new u v ≡ painted blend.now rgba (stands_for flip.old block.old u v) }
@@ -74,6 +69,6 @@ pub(crate) fn flip_tile<A: Allocator>(block: &mut TileBlock<A>, flip: u32)
 {
     if flip != 0 {
         let keep = u32::MAX;
-        write_tile(block, ColorWrite { keep, flip });
+        write_tile(block.pixels_mut(), ColorWrite { keep, flip });
     }
 }

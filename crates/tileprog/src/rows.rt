@@ -19,8 +19,7 @@ use crate::spans::{
 };
 use depthplane::Walks;
 use edges::EdgeWalk;
-use std::alloc::Allocator;
-use tileblock::TileBlock;
+use tileblock::TilePixels;
 
 /// The pixels of a span that the clip's columns and the named edges leave. Where none is named, no edge is looked at;
 /// else all three are, which costs no more than those that are named.
@@ -41,8 +40,8 @@ fn lanes_left(column: &Column<'_>, mask: u8, edges: &EdgeWalk<'_>) -> u8
 /// The pixels of a column in a row of a block that the clip's columns and the named edges leave. The mask of the edges is handed over
 /// beside the column: where it is known to a loop, the loop has no edges.
 #[inline(always)]
-pub(crate) fn pixels_left<A: Allocator>(
-    block: &TileBlock<A>,
+pub(crate) fn pixels_left(
+    block: &TilePixels,
     column: &Column<'_>,
     mask: u8,
     row: u32,
@@ -65,8 +64,8 @@ pub(crate) fn pixels_left<A: Allocator>(
 
 /// Pixels of a row under a brush without tests; the answer is how many pass.
 #[inline(always)]
-pub(crate) fn open_row<A: Allocator>(
-    block: &mut TileBlock<A>,
+pub(crate) fn open_row(
+    block: &mut TilePixels,
     column: &Column<'_>,
     pixels: SpanPixels,
     brush: &Brush,
@@ -87,8 +86,8 @@ pub(crate) fn open_row<A: Allocator>(
 /// Pixels of a row under a brush that tests depth alone; the answer is how many pass. It stands in the loop over rows itself, so that
 /// the comparison is decided before the loop.
 #[inline(always)]
-pub(crate) fn depth_row<A: Allocator, W: Walks>(
-    block: &mut TileBlock<A>,
+pub(crate) fn depth_row<W: Walks>(
+    block: &mut TilePixels,
     column: &Column<'_>,
     pixels: SpanPixels,
     walk: &W,
@@ -111,8 +110,8 @@ pub(crate) fn depth_row<A: Allocator, W: Walks>(
 /// Pixels of a row under a brush with a stencil test; the answer is how many pass. Where the depth test's outcome is known, no depth is
 /// looked at.
 #[inline(always)]
-pub(crate) fn stencil_row<A: Allocator, W: Walks>(
-    block: &mut TileBlock<A>,
+pub(crate) fn stencil_row<W: Walks>(
+    block: &mut TilePixels,
     column: &Column<'_>,
     pixels: SpanPixels,
     walk: &W,
@@ -145,8 +144,8 @@ pub(crate) fn stencil_row<A: Allocator, W: Walks>(
 /// Pixels of a row under a brush with a stencil test, where the depth test passes at each of them or at none; the answer is how many
 /// pass. The stencil test is asked unless it is known to pass always.
 #[inline(always)]
-pub(crate) fn cut_row<A: Allocator>(
-    block: &mut TileBlock<A>,
+pub(crate) fn cut_row(
+    block: &mut TilePixels,
     column: &Column<'_>,
     pixels: SpanPixels,
     known: KnownTests,
@@ -168,8 +167,8 @@ pub(crate) fn cut_row<A: Allocator>(
 
 /// A span of which all pixels are covered under a brush with a stencil test; the answer is how many pixels pass.
 #[inline(always)]
-pub(crate) fn deep_row<A: Allocator, W: Walks>(
-    block: &mut TileBlock<A>,
+pub(crate) fn deep_row<W: Walks>(
+    block: &mut TilePixels,
     column: &Column<'_>,
     row: u32,
     walk: &W,
@@ -196,8 +195,8 @@ pub(crate) fn deep_row<A: Allocator, W: Walks>(
 /// how many pixels pass. The stencil test is asked unless it is known to pass always, and nothing is stored where nothing changes:
 /// loops over rows have these two as constants.
 #[inline(always)]
-pub(crate) fn alike_row<A: Allocator>(
-    block: &mut TileBlock<A>,
+pub(crate) fn alike_row(
+    block: &mut TilePixels,
     column: &Column<'_>,
     row: u32,
     known: KnownTests,
@@ -231,8 +230,8 @@ pub(crate) fn alike_row<A: Allocator>(
 /// read aren't used, so nothing is left of it when it is compiled. Two rows become one load where the loop over pairs isn't unrolled round
 /// them.
 #[inline(never)]
-pub(crate) fn operated_rows<A: Allocator>(
-    block: &mut TileBlock<A>,
+pub(crate) fn operated_rows(
+    block: &mut TilePixels,
     column: &Column<'_>,
     row: u32,
     deep: bool,

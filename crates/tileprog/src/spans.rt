@@ -15,8 +15,7 @@ use crate::brush::Brush;
 use crate::brushes::{DepthBrush, StencilBrush};
 use crate::pixels::SpanPixels;
 use lanes::{StencilTest, depth_mask, write8};
-use std::alloc::Allocator;
-use tileblock::TileBlock;
+use tileblock::TilePixels;
 
 /// What is known of the tests at the covered pixels of some rows: whether depth passes at each of them or at none, and whether the stencil
 /// test is known to pass always.
@@ -28,7 +27,7 @@ pub(crate) struct KnownTests {
 
 /// Writes the colours of these pixels.
 #[inline(always)]
-fn paint_span<A: Allocator>(block: &mut TileBlock<A>, pixels: SpanPixels, brush: &Brush)
+fn paint_span(block: &mut TilePixels, pixels: SpanPixels, brush: &Brush)
     ensures { SpanStored block.old block.new pixels.span pixels.row (painted_lane brush.now pixels.bits) }
 {
     let SpanPixels { span, row, bits } = pixels;
@@ -54,7 +53,7 @@ fn paint_span<A: Allocator>(block: &mut TileBlock<A>, pixels: SpanPixels, brush:
 
 /// Stores depths at these pixels.
 #[inline(always)]
-fn put_depths<A: Allocator>(block: &mut TileBlock<A>, pixels: SpanPixels, new: &[u32; 8])
+fn put_depths(block: &mut TilePixels, pixels: SpanPixels, new: &[u32; 8])
     ensures { SpanStored block.old block.new pixels.span pixels.row (deepened_lane pixels.bits new.now) }
 {
     let SpanPixels { span, row, bits } = pixels;
@@ -67,7 +66,7 @@ fn put_depths<A: Allocator>(block: &mut TileBlock<A>, pixels: SpanPixels, new: &
 
 /// Stores stencil values at these pixels.
 #[inline(always)]
-fn put_stencils<A: Allocator>(block: &mut TileBlock<A>, pixels: SpanPixels, new: &[u8; 8])
+fn put_stencils(block: &mut TilePixels, pixels: SpanPixels, new: &[u8; 8])
     ensures { SpanStored block.old block.new pixels.span pixels.row (stenciled_lane pixels.bits new.now) }
 {
     let SpanPixels { span, row, bits } = pixels;
@@ -80,12 +79,7 @@ fn put_stencils<A: Allocator>(block: &mut TileBlock<A>, pixels: SpanPixels, new:
 
 /// Those of these pixels at which depth passes, as bits.
 #[inline(always)]
-fn passed_depths<A: Allocator>(
-    block: &TileBlock<A>,
-    pixels: SpanPixels,
-    new: &[u32; 8],
-    brush: &DepthBrush,
-) -> u8
+fn passed_depths(block: &TilePixels, pixels: SpanPixels, new: &[u32; 8], brush: &DepthBrush) -> u8
     ensures { ArePassed brush.now.brush block.now pixels.span pixels.row pixels.bits new.now result }
 {
     pixels.bits & depth_mask(brush.func, new, &block.depth_span(pixels.span, pixels.row))
@@ -93,12 +87,7 @@ fn passed_depths<A: Allocator>(
 
 /// Stores depths at these pixels, if depths are to be stored.
 #[inline(always)]
-fn keep_depths<A: Allocator>(
-    block: &mut TileBlock<A>,
-    pixels: SpanPixels,
-    new: &[u32; 8],
-    write: bool,
-)
+fn keep_depths(block: &mut TilePixels, pixels: SpanPixels, new: &[u32; 8], write: bool)
     ensures { SpanStored block.old block.new pixels.span pixels.row (kept_lane write pixels.bits new.now) }
 {
     if write {
@@ -108,12 +97,7 @@ fn keep_depths<A: Allocator>(
 
 /// Stores the depths, if they are to be stored, and the colours of the pixels that pass.
 #[inline(always)]
-fn draw_passed<A: Allocator>(
-    block: &mut TileBlock<A>,
-    passed: SpanPixels,
-    new: &[u32; 8],
-    brush: &DepthBrush,
-)
+fn draw_passed(block: &mut TilePixels, passed: SpanPixels, new: &[u32; 8], brush: &DepthBrush)
     ensures { SpanStored block.old block.new passed.span passed.row (λ j p. painted_lane brush.now.brush passed.bits j (kept_lane brush.now.write passed.bits new.now j p)) }
 {
     keep_depths(block, passed, new, brush.write);
@@ -122,13 +106,7 @@ fn draw_passed<A: Allocator>(
 
 /// Bit j is set where depth passes at pixel j of a span, or isn't tested.
 #[inline(always)]
-fn deep_mask<A: Allocator>(
-    block: &TileBlock<A>,
-    span: u32,
-    row: u32,
-    new: &[u32; 8],
-    brush: &Brush,
-) -> u8
+fn deep_mask(block: &TilePixels, span: u32, row: u32, new: &[u32; 8], brush: &Brush) -> u8
     requires span { span < 4 }
     requires row { row < 32 }
     ensures { (j : ℕ) → j < 8 → has result j
@@ -143,8 +121,8 @@ fn deep_mask<A: Allocator>(
 
 /// Stores what the operations of a stencil test leave of the values at these pixels, unless each is kept.
 #[inline(always)]
-fn change_stencils<A: Allocator>(
-    block: &mut TileBlock<A>,
+fn change_stencils(
+    block: &mut TilePixels,
     pixels: SpanPixels,
     stored: &[u8; 8],
     passing: u8,
@@ -163,8 +141,8 @@ fn change_stencils<A: Allocator>(
 
 /// Tests stencil and depth at these pixels, and stores what the tests leave; the answer has a bit for each that passes.
 #[inline(always)]
-fn test_stencils<A: Allocator>(
-    block: &mut TileBlock<A>,
+fn test_stencils(
+    block: &mut TilePixels,
     pixels: SpanPixels,
     new: &[u32; 8],
     brush: &StencilBrush,
@@ -190,7 +168,7 @@ fn test_stencils<A: Allocator>(
 
 /// Draws these pixels under a brush without tests.
 #[inline(always)]
-pub(crate) fn draw_open<A: Allocator>(block: &mut TileBlock<A>, pixels: SpanPixels, brush: &Brush)
+pub(crate) fn draw_open(block: &mut TilePixels, pixels: SpanPixels, brush: &Brush)
     requires kind { tests_of brush.now.state ≡ Open }
     ensures block { (new : List ℕ) → SpanStored block.old block.new pixels.span pixels.row (drawn_lane brush.now pixels.bits new) }
     ensures bits { (new : List ℕ) → ArePassed brush.now block.old pixels.span pixels.row pixels.bits new pixels.bits }
@@ -201,8 +179,8 @@ pub(crate) fn draw_open<A: Allocator>(block: &mut TileBlock<A>, pixels: SpanPixe
 /// Draws these pixels under a brush that tests depth alone; the answer has a bit for each that passes. Where all eight pass, which is
 /// known once, whole spans are stored.
 #[inline(always)]
-pub(crate) fn draw_depths<A: Allocator>(
-    block: &mut TileBlock<A>,
+pub(crate) fn draw_depths(
+    block: &mut TilePixels,
     pixels: SpanPixels,
     new: &[u32; 8],
     brush: &DepthBrush,
@@ -231,8 +209,8 @@ pub(crate) fn draw_depths<A: Allocator>(
 
 /// Draws these pixels under a brush with a stencil test; the answer has a bit for each that passes.
 #[inline(always)]
-pub(crate) fn draw_stencils<A: Allocator>(
-    block: &mut TileBlock<A>,
+pub(crate) fn draw_stencils(
+    block: &mut TilePixels,
     pixels: SpanPixels,
     new: &[u32; 8],
     brush: &StencilBrush,
@@ -270,8 +248,8 @@ fn passing_mask(test: &StencilTest, always: bool, stored: &[u8; 8]) -> u8
 /// Draws these pixels under a brush with a stencil test, where the depth test is known to pass at each of them, or at none, and no depth
 /// is stored; the answer has a bit for each that passes.
 #[inline(always)]
-pub(crate) fn draw_alike<A: Allocator>(
-    block: &mut TileBlock<A>,
+pub(crate) fn draw_alike(
+    block: &mut TilePixels,
     pixels: SpanPixels,
     known: KnownTests,
     brush: &StencilBrush,
@@ -300,8 +278,8 @@ pub(crate) fn draw_alike<A: Allocator>(
 /// Does the operation of a stencil test that passes at all pixels of two rows of a span, where the depth test has one outcome at
 /// them. The rows stand side by side in the block, and are read, changed and stored together.
 #[inline(always)]
-pub(crate) fn operate_rows<A: Allocator>(
-    block: &mut TileBlock<A>,
+pub(crate) fn operate_rows(
+    block: &mut TilePixels,
     span: u32,
     row: u32,
     deep: bool,
@@ -343,8 +321,8 @@ pub(crate) fn is_still(deep: bool, brush: &StencilBrush) -> bool
 
 /// Those of these pixels that pass, where nothing changes. Nothing that is read is used, so nothing is left of it when it is compiled.
 #[inline(always)]
-pub(crate) fn keep_alike<A: Allocator>(
-    block: &TileBlock<A>,
+pub(crate) fn keep_alike(
+    block: &TilePixels,
     pixels: SpanPixels,
     deep: bool,
     brush: &StencilBrush,

@@ -14,9 +14,8 @@ use crate::rows::{alike_row, cut_row, deep_row, operated_rows, pixels_left, sten
 use crate::spans::{KnownTests, is_still, keeps_colors};
 use depthplane::Walks;
 use edges::{EdgeSet, EdgeWalk};
-use std::alloc::Allocator;
 use std::ops::Range;
-use tileblock::TileBlock;
+use tileblock::TilePixels;
 
 /// What is known of the depth test of a brush at every pixel.
 #[inline(always)]
@@ -33,8 +32,8 @@ fn untested(brush: &Brush) -> Option<bool>
 /// These rows of a column, one by one, from where the walks stand; the answer is how many pixels pass. Where depth isn't tested no depth is
 /// looked at.
 #[inline(never)]
-fn each_row<A: Allocator, W: Walks>(
-    block: &mut TileBlock<A>,
+fn each_row<W: Walks>(
+    block: &mut TilePixels,
     column: &Column<'_>,
     rows: Range<u32>,
     edges: EdgeWalk<'_>,
@@ -65,8 +64,8 @@ fn each_row<A: Allocator, W: Walks>(
 /// Eight rows of a column from `row` on, of which all pixels are covered and the depth test passes at all or at none; the answer is how
 /// many pass.
 #[inline(always)]
-fn alike_rows<A: Allocator>(
-    block: &mut TileBlock<A>,
+fn alike_rows(
+    block: &mut TilePixels,
     column: &Column<'_>,
     row: u32,
     known: KnownTests,
@@ -90,8 +89,8 @@ fn alike_rows<A: Allocator>(
 
 /// The same where the stencil test passes always and no colour changes, two rows at a time.
 #[inline(never)]
-fn paired_rows<A: Allocator>(
-    block: &mut TileBlock<A>,
+fn paired_rows(
+    block: &mut TilePixels,
     column: &Column<'_>,
     row: u32,
     deep: bool,
@@ -114,8 +113,8 @@ fn paired_rows<A: Allocator>(
 
 /// The same where the stencil test passes always: where nothing changes, pixels are only counted.
 #[inline(always)]
-fn sure_rows<A: Allocator>(
-    block: &mut TileBlock<A>,
+fn sure_rows(
+    block: &mut TilePixels,
     column: &Column<'_>,
     row: u32,
     deep: bool,
@@ -141,8 +140,8 @@ fn sure_rows<A: Allocator>(
 
 /// The same where the stencil test's outcome may be known: each loop over rows has what is known as a constant.
 #[inline(always)]
-fn known_rows<A: Allocator>(
-    block: &mut TileBlock<A>,
+fn known_rows(
+    block: &mut TilePixels,
     column: &Column<'_>,
     row: u32,
     deep: bool,
@@ -193,8 +192,8 @@ fn depths_below<W: Walks>(walk: &mut W, rows: u32)
 /// A cell from `row` on that an edge may cut and of which the depth test's outcome isn't known; the answer is how many pixels pass. The
 /// walks begin at the head of the column.
 #[inline(always)]
-fn walked_rows<A: Allocator, W: Walks>(
-    block: &mut TileBlock<A>,
+fn walked_rows<W: Walks>(
+    block: &mut TilePixels,
     column: &Column<'_>,
     row: u32,
     edges: &EdgeWalk<'_>,
@@ -216,8 +215,8 @@ fn walked_rows<A: Allocator, W: Walks>(
 /// A cell of which all pixels are covered and the depth test's outcome isn't known; the answer is how many pixels pass. The walk begins at
 /// the head of the column, and no edge is walked along.
 #[inline(never)]
-fn deep_rows<A: Allocator, W: Walks>(
-    block: &mut TileBlock<A>,
+fn deep_rows<W: Walks>(
+    block: &mut TilePixels,
     column: &Column<'_>,
     row: u32,
     walk: &W,
@@ -243,8 +242,8 @@ fn deep_rows<A: Allocator, W: Walks>(
 /// A cell that an edge may cut, in which the depth test passes at each covered pixel or at none, and the stencil test maybe at each; the
 /// answer is how many pixels pass.
 #[inline(always)]
-fn masked_rows<A: Allocator>(
-    block: &mut TileBlock<A>,
+fn masked_rows(
+    block: &mut TilePixels,
     column: &Column<'_>,
     row: u32,
     edges: &EdgeWalk<'_>,
@@ -272,8 +271,8 @@ fn masked_rows<A: Allocator>(
 
 /// The same: each loop over rows has what is known of the stencil test and of the depth test as constants.
 #[inline(never)]
-fn cut_rows<A: Allocator>(
-    block: &mut TileBlock<A>,
+fn cut_rows(
+    block: &mut TilePixels,
     column: &Column<'_>,
     row: u32,
     edges: &EdgeWalk<'_>,
@@ -310,8 +309,8 @@ fn cut_rows<A: Allocator>(
 
 /// A cell that an edge may cut; the answer is how many pixels pass.
 #[inline(always)]
-fn cut_cell<A: Allocator, W: Walks>(
-    block: &mut TileBlock<A>,
+fn cut_cell<W: Walks>(
+    block: &mut TilePixels,
     column: &Column<'_>,
     cell: &Cell,
     edges: &EdgeWalk<'_>,
@@ -332,8 +331,8 @@ fn cut_cell<A: Allocator, W: Walks>(
 
 /// A cell of a column; the answer is how many pixels pass.
 #[inline(always)]
-fn cell_rows<A: Allocator, W: Walks>(
-    block: &mut TileBlock<A>,
+fn cell_rows<W: Walks>(
+    block: &mut TilePixels,
     column: &Column<'_>,
     cell: &Cell,
     edges: &EdgeWalk<'_>,
@@ -360,8 +359,8 @@ fn cell_rows<A: Allocator, W: Walks>(
 
 /// A column in all rows of a tile, cell by cell. The set of its edges is there where one is named, which is known to the loop.
 #[inline(always)]
-fn each_cell<A: Allocator, W: Walks>(
-    block: &mut TileBlock<A>,
+fn each_cell<W: Walks>(
+    block: &mut TilePixels,
     column: &Column<'_>,
     set: Option<&EdgeSet>,
     edges: &EdgeWalk<'_>,
@@ -394,8 +393,8 @@ fn each_cell<A: Allocator, W: Walks>(
 
 /// A column in the rows of the clip rectangle, row by row.
 #[inline(always)]
-fn clipped_rows<A: Allocator, W: Walks>(
-    block: &mut TileBlock<A>,
+fn clipped_rows<W: Walks>(
+    block: &mut TilePixels,
     column: &Column<'_>,
     edges: &EdgeWalk<'_>,
     walk: &W,
@@ -413,8 +412,8 @@ fn clipped_rows<A: Allocator, W: Walks>(
 
 /// A column under a brush with a stencil test; the answer is how many pixels pass.
 #[inline(never)]
-pub(crate) fn stencil_column<A: Allocator, W: Walks>(
-    block: &mut TileBlock<A>,
+pub(crate) fn stencil_column<W: Walks>(
+    block: &mut TilePixels,
     column: &Column<'_>,
     set: &EdgeSet,
     edges: &EdgeWalk<'_>,

@@ -1,6 +1,6 @@
 //! A triangle's word on a tile's block.
 
-ghost use Rattle.std.specs.Prelude.{◌≡◌, ◌≤◌, ℕ, Some, IsTrue};
+ghost use Rattle.std.specs.Prelude.{◌≡◌, ◌≤◌, ℕ, Some, IfSome, IsNone, IsTrue};
 ghost use Rattle.gfxspec.specs.Items.{is_in_rect};
 ghost use Rattle.gfxspec.specs.Raster.{centre, covers};
 ghost use Rattle.gfxspec.specs.Tiles.{IsIn};
@@ -14,16 +14,19 @@ ghost use Rattle.tileprog.specs.Hidden.{DepthsLie, IsWhole};
 ghost use Rattle.tileprog.specs.Painting.{stands_for};
 ghost use Rattle.tileprog.specs.Passing.{triangle_count, IsTile};
 ghost use Rattle.tileprog.specs.Strokes.{IsWithin};
+ghost use Rattle.tileprog.specs.Under.{DrewUnder};
 
 use crate::alike::{alike_outcome, is_open, run_alike, run_open};
 use crate::brush::make_brush;
-use crate::draw::draw;
+use crate::brushes::DepthBrush;
+use crate::draw::{draw, draw_quads};
 use crate::hidden::{asks_plane, bounds_after, is_hidden, is_large, keep_after};
+use crate::kind::{Tests, tests_of};
 use crate::paint::write_under;
 use binner::{StateEntry, TriSetup};
 use gfxspec::PixelRect;
 use std::alloc::Allocator;
-use tileblock::TileBlock;
+use tileblock::{TileBlock, TilePixels};
 use tileword::EdgeMask;
 
 /// The pixels of a tile that lie in a triangle's bounds.
@@ -45,8 +48,8 @@ fn clipped(rect: PixelRect, bounds: PixelRect) -> PixelRect
 /// A triangle under a state entry over the pixels of a clip rectangle in a tile, of whose colours these bits are still to be flipped; the
 /// answer is how many pass.
 #[inline(never)]
-fn draw_under<A: Allocator>(
-    block: &mut TileBlock<A>,
+fn draw_under(
+    block: &mut TilePixels,
     triangle: &TriSetup,
     mask: EdgeMask,
     entry: &StateEntry,
@@ -58,14 +61,62 @@ fn draw_under<A: Allocator>(
     requires bounded { IsBounded triangle.now entry.now }
     requires within { IsWithin clip block.old.rect }
     requires inside { (u v : ℕ) → IsIn block.old.rect u v → is_in_rect clip u v ≡ is_in_rect triangle.now.bounds u v }
-    ensures rect { block.new.rect ≡ block.old.rect }
-    ensures pixels { (u v : ℕ) → IsIn block.old.rect u v → stands_for flip block.new u v ≡ triangle_by mask (Some triangle.now) (Some entry.now) u v (stands_for flip block.old u v) }
-    ensures count { result ≡ sum_over block.old.rect (triangle_count mask triangle.now entry.now block.old) }
-    ensures few { result ≤ 1024 }
+    ensures { DrewUnder mask triangle.now entry.now flip block.old block.new result }
 {
     let write = write_under(&entry.blend, triangle.rgba, flip);
     let brush = make_brush(entry.depth_stencil, triangle.front, entry.reference, write);
     draw(block, triangle, mask.bits(), &brush, clip)
+}
+
+/// A small triangle under a state entry, as `draw_under` draws it, in columns of four pixels; nothing is drawn where a stencil takes part, no
+/// depth is tested, or its depths aren't sure or have a bias.
+#[inline(always)]
+fn draw_quads_under(
+    block: &mut TilePixels,
+    triangle: &TriSetup,
+    mask: EdgeMask,
+    entry: &StateEntry,
+    clip: PixelRect,
+    flip: u32,
+) -> Option<u32>
+    requires tile { IsTile block.old.rect }
+    requires class { IsClassOf (Cut (edge_bits mask)) triangle.now.edges block.old.rect }
+    requires bounded { IsBounded triangle.now entry.now }
+    requires within { IsWithin clip block.old.rect }
+    requires inside { (u v : ℕ) → IsIn block.old.rect u v → is_in_rect clip u v ≡ is_in_rect triangle.now.bounds u v }
+    ensures drew { IfSome result (DrewUnder mask triangle.now entry.now flip block.old block.new) }
+    ensures none { IsNone result → block.new ≡ block.old }
+{
+    let Tests::Depth(func, write) = tests_of(&entry.depth_stencil) else {
+        return None;
+    };
+    let colors = write_under(&entry.blend, triangle.rgba, flip);
+    let brush = make_brush(entry.depth_stencil, triangle.front, entry.reference, colors);
+    let tested = DepthBrush { func, write, brush };
+    draw_quads(block, triangle, mask.bits(), &tested, clip)
+}
+
+/// A small triangle under a state entry, in columns of four pixels where it can be.
+#[inline(always)]
+fn draw_small_under(
+    block: &mut TilePixels,
+    triangle: &TriSetup,
+    mask: EdgeMask,
+    entry: &StateEntry,
+    clip: PixelRect,
+    flip: u32,
+) -> u32
+    requires tile { IsTile block.old.rect }
+    requires class { IsClassOf (Cut (edge_bits mask)) triangle.now.edges block.old.rect }
+    requires bounded { IsBounded triangle.now entry.now }
+    requires within { IsWithin clip block.old.rect }
+    requires inside { (u v : ℕ) → IsIn block.old.rect u v → is_in_rect clip u v ≡ is_in_rect triangle.now.bounds u v }
+    ensures { DrewUnder mask triangle.now entry.now flip block.old block.new result }
+{
+    match draw_quads_under(block, triangle, mask, entry, clip, flip) {
+        Some(passed) => passed,
+        None => draw_under(block, triangle, mask, entry, clip, flip),
+    }
 }
 
 /// Whether a triangle reaches each pixel of a tile, of which it reaches those of the clip rectangle that the named edges
@@ -113,8 +164,9 @@ fn depth_range(triangle: &TriSetup, rect: PixelRect, asked: bool, whole: bool) -
 
 /// A triangle that is less wide and less high than a tile, over the pixels of a clip rectangle: its vertices tell as much of its depths
 /// as its plane does, and whole tiles aren't asked about.
-fn run_small<A: Allocator>(
-    block: &mut TileBlock<A>,
+#[inline(never)]
+fn run_small(
+    block: &mut TilePixels,
     triangle: &TriSetup,
     mask: EdgeMask,
     entry: &StateEntry,
@@ -126,15 +178,12 @@ fn run_small<A: Allocator>(
     requires bounded { IsBounded triangle.now entry.now }
     requires within { IsWithin clip block.old.rect }
     requires inside { (u v : ℕ) → IsIn block.old.rect u v → is_in_rect clip u v ≡ is_in_rect triangle.now.bounds u v }
-    ensures rect { block.new.rect ≡ block.old.rect }
-    ensures pixels { (u v : ℕ) → IsIn block.old.rect u v → stands_for flip block.new u v ≡ triangle_by mask (Some triangle.now) (Some entry.now) u v (stands_for flip block.old u v) }
-    ensures count { result ≡ sum_over block.old.rect (triangle_count mask triangle.now entry.now block.old) }
-    ensures few { result ≤ 1024 }
+    ensures { DrewUnder mask triangle.now entry.now flip block.old block.new result }
 {
     let stored = block.depth_bounds();
     let (least, greatest) = (triangle.least_depth, triangle.greatest_depth);
     let after = bounds_after(entry, least, greatest, false, stored);
-    let passed = draw_under(block, triangle, mask, entry, clip, flip);
+    let passed = draw_small_under(block, triangle, mask, entry, clip, flip);
     keep_after(block, after, entry.depth_stencil.func(), passed);
     passed
 }
@@ -142,8 +191,8 @@ fn run_small<A: Allocator>(
 /// A triangle under a state entry over a tile, of whose colours bits may still have to be flipped; the answer is how many pixels pass.
 /// It stands by itself, so that a word whose triangle is hidden pays for none of what it keeps.
 #[inline(never)]
-fn run_triangle<A: Allocator>(
-    block: &mut TileBlock<A>,
+fn run_triangle(
+    block: &mut TilePixels,
     flip: &mut u32,
     triangle: &TriSetup,
     mask: EdgeMask,
@@ -210,5 +259,5 @@ pub(crate) fn run_unless_hidden<A: Allocator>(
     if hidden {
         return 0;
     }
-    run_triangle(block, flip, triangle, mask, entry)
+    run_triangle(block.pixels_mut(), flip, triangle, mask, entry)
 }

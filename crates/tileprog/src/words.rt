@@ -4,9 +4,9 @@ ghost use Rattle.std.specs.Prelude.{◌≡◌, ◌<◌, ◌≤◌, ◌+◌, ◌^
 ghost use Rattle.std.specs.Int.{bit_at};
 ghost use Rattle.gfxspec.specs.Tiles.{IsIn, tile_count, tile_rect};
 ghost use Rattle.meaning.specs.Over.{sum_over};
-ghost use Rattle.binner.specs.Program.{after_word, force_after};
+ghost use Rattle.binner.specs.Program.{after_word, color_put, depth_put, force_after};
 ghost use Rattle.binner.specs.Meaning.{WordFits};
-ghost use Rattle.tileprog.specs.Painting.{stands_behind, stands_for};
+ghost use Rattle.tileprog.specs.Painting.{stands_for};
 ghost use Rattle.tileprog.specs.Passing.{shown, word_passed, is_open, NamesState, HasGrown, AtMost, IsTile};
 ghost use Rattle.tileprog.specs.Runs.{RunsTo};
 
@@ -68,79 +68,50 @@ fn next_force<'a, A: Allocator + Copy>(
     }
 }
 
-/// What is still to be done to all pixels of a block, so that of clears with no triangle between them the last one alone is done: bits
-/// of its colours are to be flipped, and then a colour, or a depth and a stencil value, stored.
-#[derive(Clone, Copy)]
-pub(crate) struct Waiting {
-    pub(crate) flip: u32,
-    pub(crate) color: Option<[u8; 4]>,
-    pub(crate) depth_stencil: Option<DepthStencil>,
-}
-
-impl Waiting {
-    ghost use Rattle.std.specs.Prelude.{◌≡◌, None};
-
-    /// Bits to be flipped, and no clear.
-    fn flips(flip: u32) -> Self
-        ensures { result ≡ record { flip = flip; color = None; depth_stencil = None } }
-    {
-        Waiting {
-            flip,
-            color: None,
-            depth_stencil: None,
-        }
-    }
-}
-
-/// Does the clears that wait; the answer is what is to be flipped then.
-#[inline(always)]
-fn clear_waiting<A: Allocator>(waiting: Waiting, block: &mut TileBlock<A>) -> u32
+/// Clears the colours of a block, of which no bits are to be flipped then.
+fn clear_colors<A: Allocator>(block: &mut TileBlock<A>, flip: &mut u32, rgba: [u8; 4])
     ensures rect { block.new.rect ≡ block.old.rect }
-    ensures pixels { (u v : ℕ) → IsIn block.old.rect u v → stands_for result block.new u v ≡ stands_behind waiting block.old u v }
+    ensures pixels { (u v : ℕ) → IsIn block.old.rect u v → stands_for flip.new block.new u v ≡ color_put (Some rgba) (stands_for flip.old block.old u v) }
 {
-    let mut flip = waiting.flip;
-    if let Some(rgba) = waiting.color {
-        block.clear_color(rgba);
-        flip = 0;
-    }
-    if let Some(value) = waiting.depth_stencil {
-        block.clear_depth_stencil(value);
-    }
-    flip
+    block.clear_color(rgba);
+    *flip = 0;
 }
 
-/// Runs one word on a block for which something waits; the answer is how many pixels pass.
+/// Clears the depths and stencil values of a block, whatever bits of its colours are still to be flipped.
+fn clear_depths<A: Allocator>(block: &mut TileBlock<A>, value: DepthStencil)
+    ensures rect { block.new.rect ≡ block.old.rect }
+    ensures pixels { (flip u v : ℕ) → IsIn block.old.rect u v → stands_for flip block.new u v ≡ depth_put (Some value) (stands_for flip block.old u v) }
+{
+    block.clear_depth_stencil(value);
+}
+
+/// Runs one word on a block of whose colours bits are still to be flipped; the answer is how many pixels pass.
 #[inline(always)]
 fn run_word<A: Allocator + Copy>(
     compiled: &Compiled<A>,
     force: Option<&StateEntry>,
     word: Word,
     block: &mut TileBlock<A>,
-    waiting: &mut Waiting,
+    flip: &mut u32,
 ) -> u32
     requires tile { IsTile block.old.rect }
     requires fits { WordFits compiled.now.tables block.old.rect (shown force) word }
     ensures rect { block.new.rect ≡ block.old.rect }
-    ensures pixels { (u v : ℕ) → IsIn block.old.rect u v → stands_behind waiting.new block.new u v ≡ after_word compiled.now.tables (shown force.entry) word u v (stands_behind waiting.old block.old u v) }
-    ensures passed { result ≡ sum_over block.old.rect (word_passed compiled.now.tables (shown force.entry) word (stands_behind waiting.old block.old)) }
+    ensures pixels { (u v : ℕ) → IsIn block.old.rect u v → stands_for flip.new block.new u v ≡ after_word compiled.now.tables (shown force.entry) word u v (stands_for flip.old block.old u v) }
+    ensures passed { result ≡ sum_over block.old.rect (word_passed compiled.now.tables (shown force.entry) word (stands_for flip.old block.old)) }
 {
     match word {
         Word::State(_) => 0,
         Word::Tri(number, mask) => match force {
-            Some(entry) => {
-                let mut flip = clear_waiting(*waiting, block);
-                let passed = run_unless_hidden(block, &mut flip, compiled.tri(number), mask, entry);
-                *waiting = Waiting::flips(flip);
-                passed
-            }
+            Some(entry) => run_unless_hidden(block, flip, compiled.tri(number), mask, entry),
             None => unreachable!(),
         },
         Word::ClearC(number) => {
-            waiting.color = Some(compiled.color(number));
+            clear_colors(block, flip, compiled.color(number));
             0
         }
         Word::ClearDs(number) => {
-            waiting.depth_stencil = Some(compiled.depth_stencil(number));
+            clear_depths(block, compiled.depth_stencil(number));
             0
         }
     }
@@ -174,18 +145,17 @@ pub(crate) fn run_words<A: Allocator + Copy>(
     let _size = compiled.size();
     let mut counts = [0; 64];
     let mut force: Option<&StateEntry> = None;
-    let mut waiting = Waiting::flips(0);
+    let mut flip = 0;
     for number in compiled.words(tile) {
         let Some(word) = decode(number) else {
             unreachable!()
         };
-        let passed = run_word(compiled, force, word, block, &mut waiting);
+        let passed = run_word(compiled, force, word, block, &mut flip);
         if passed != 0 {
             count_word(&mut counts, force, passed);
         }
         force = next_force(compiled, force, word);
     }
-    let flip = clear_waiting(waiting, block);
     flip_tile(block, flip);
     counts
 }

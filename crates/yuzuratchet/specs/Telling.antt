@@ -4,7 +4,7 @@ use Rattle.inmemory.specs.declared.areas.Report.{Report as Plain}
 use Rattle.inmemory.specs.declared.areas.Status.{Status}
 use Rattle.inmemory.specs.declared.areas.Status.TheVariants.{Done, Refused, LinesTooSmall, ImageTooSmall, NoMemory}
 use Rattle.inmemory.specs.Areas.{Drew, Sized}
-use Rattle.inmemory.specs.declared.telling.EventTold.{EventTold}
+use Rattle.pixelevents.specs.declared.told.EventTold.{EventTold}
 use Rattle.inmemory.specs.declared.telling.HistoryReport.{HistoryReport as PlainHistory}
 use Rattle.inmemory.specs.declared.telling.HistoryEnd.{HistoryEnd}
 use Rattle.inmemory.specs.declared.telling.HistoryEnd.TheVariants as ends

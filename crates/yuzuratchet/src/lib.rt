@@ -15,7 +15,7 @@ mod report;
 use crate::areas::misfit_of;
 use crate::report::{history_told, told};
 pub use areas::Area;
-pub use inmemory::EventTold;
+pub use pixelevents::EventTold;
 pub use report::{HistoryReport, Report};
 use std::alloc::Global;
 

@@ -1,5 +1,6 @@
 use Rattle.std.proofs.Common.{rules, ◌≡◌, ◌≤◌, ◌<◌, length, refl}
-use Rattle.inmemory.specs.Histories.{events_filled, whole, few, none}
+use Rattle.pixelevents.specs.Named.{events_filled}
+use Rattle.inmemory.specs.Histories.{whole, few, none}
 use Rattle.inmemory.proofs.telling.history.Goals as goal
 
 pub returns-in-Err : goal.returns-in-Err

@@ -21,17 +21,17 @@ play_alone-played-requires-clause-may g c κs within = record {
   start = c.in-Ok.ensures.begun.new;
 }
 
-pub end-requires-clause-recorded : goal.end-requires-clause-recorded
-end-requires-clause-recorded g c =
+pub end_drawn-requires-clause-recorded : goal.end_drawn-requires-clause-recorded
+end_drawn-requires-clause-recorded g c =
     let played = c.play_alone-played in
     let lines = ap (λ (a : Asked). a.lines) played.ensures.frame ∙ c.record_alone-recorded.ensures ∙ c.in-Ok-deal.ensures ∙ c.as_slice.ensures in
     subst (λ ls. AreRecorded ls c.first_refused.result (missing_in played.result.interruption)) lines (c.first_refused.ensures (missing_in played.result.interruption) played.ensures.missing)
 
-pub end-requires-clause-played : goal.end-requires-clause-played
-end-requires-clause-played g c =
+pub end_drawn-requires-clause-played : goal.end_drawn-requires-clause-played
+end_drawn-requires-clause-played g c =
     let p = c.play_alone-played.result in
     subst (λ ls. HasPlayed c.in-Ok.begun.0.size ls p) (c.in-Ok-deal.ensures ∙ c.as_slice.ensures)
     (subst (λ s. HasPlayed s c.in-Ok-deal.lines p) c.in-Ok.ensures.begun.size_is (c.play_alone-played.ensures.played tt))
 
 pub returns : goal.returns
-returns g c = drawing (scene_value c.in-Ok.begun.0) _ c.in-Ok.ensures.begun.spells c.end.ensures.draws
+returns g c = drawing (scene_value c.in-Ok.begun.0) _ c.in-Ok.ensures.begun.spells c.end_drawn.ensures

@@ -1,61 +1,17 @@
-use Rattle.std.proofs.Common.{rules, ◌≤◌, ◌<◌, ◌∙◌, ap, sym, subst, refl, length}
-use Rattle.sessions.specs.Playing.{own_count, HasReached, IsInterrupted}
-use Rattle.std.proofs.lemmas.List.{get_or_past}
-use Rattle.recorders.specs.Dealing.{places_of}
-use Rattle.sessions.proofs.Steps.{more_inside, next_line, reached_next, interrupted, last_interrupted, none_reached, none_traced, traced_next}
+use Rattle.std.proofs.Common.{rules, ◌≡◌, sym, refl}
+use Rattle.std.specs.Prelude.{is_none, true, false}
+use Rattle.sessions.proofs.Steps.{interrupted_still, uninterrupted, last_made}
 use Rattle.sessions.proofs.play.play.Goals as goal
 
-pub loop-next-init : goal.loop-next-init
-loop-next-init g c = record {
-  below = search rules;
-  frame = refl;
-  right = refl;
-  agrees = λ ok. ok;
-  reached = λ ok. none_reached c.args.lines.now (g.C.RecordsCalls.held c.args.immediate) c.new-answers.result.items c.requires.may.sound c.requires.may.start (search rules);
-  traced = λ x y t ok. none_traced (g.C.RecordsCalls.held c.args.immediate).surface.size c.args.lines.now c.requires.may.sound g.C.RecordsCalls.traces x y c.args.immediate t;
-}
+pub returns-then-is_some-clause-played : goal.returns-then-is_some-clause-played
+returns-then-is_some-clause-played g c ok = interrupted_still _ _ _ c.take_lines-context.result.interruption (search rules) (c.take_lines-context.ensures.reached ok)
 
-pub take_verb-requires-clause-verb : goal.take_verb-requires-clause-verb
-take_verb-requires-clause-verb g c =
-    let few : c.loop-next.next < own_count c.args.lines.now = search rules in
-    (next_line _ _ _ c.requires.may.sound few c.line-place.ensures.line).is.verb
-
-pub returns-in-Err-clause-played : goal.returns-in-Err-clause-played
-returns-in-Err-clause-played g c ok =
+pub returns-clause-played : goal.returns-clause-played
+returns-clause-played g c ok =
     let size = (g.C.RecordsCalls.held c.args.immediate).surface.size in
-    let few : c.loop-next.next < own_count c.args.lines.now = search rules in
-    let next = next_line _ _ _ c.requires.may.sound few c.line-place.ensures.line in
-    let reached = c.loop-next.invariant.reached (c.take_verb.ensures.agrees ok) in
-    subst (λ p. IsInterrupted size c.args.lines.now p c.in-Err.why c.take_verb.new.answers.items) (sym c.line-place.ensures.place)
-    (interrupted size _ _ _ (g.C.RecordsCalls.held c.loop-next.context) _ next reached c.in-Err.why _ c.in-Err.ensures.untold c.in-Err.ensures.why)
-
-pub loop-next-preserved : goal.loop-next-preserved
-loop-next-preserved g c =
-    let size = (g.C.RecordsCalls.held c.args.immediate).surface.size in
-    let few : c.loop-next.next < own_count c.args.lines.now = search rules in
-    let next = next_line _ _ _ c.requires.may.sound few c.line-place.ensures.line in
-    let held = c.loop-next.invariant in
-    let taken = c.take_verb in
-    let right = taken.ensures.right ∙ held.right in
-    record {
-      below = more_inside c.loop-next.next (own_count c.args.lines.now) few;
-      frame = taken.ensures.frame ∙ held.frame;
-      right = right;
-      agrees = λ ok. held.agrees (taken.ensures.agrees ok);
-      reached = λ ok.
-          reached_next size _ _ _ (g.C.RecordsCalls.held c.loop-next.context) _ next (held.reached (taken.ensures.agrees ok)) (g.S.ListSource.right taken.new.lists) (g.C.RecordsCalls.held taken.new.context) _ (λ k n. ap (λ f. f k n) right ∙ c.requires.may.lists k n) c.in_default.ensures.accepted (c.in_default.ensures.taken ok) c.in_default.ensures.told;
-      traced = λ x y t ok.
-          traced_next size _ _ _ (g.C.RecordsCalls.held c.loop-next.context) c.loop-next.answers.items next (held.reached (taken.ensures.agrees ok)) g.C.RecordsCalls.traces (g.S.ListSource.right taken.new.lists) x y c.loop-next.context taken.new.context (λ k n. ap (λ f. f k n) right ∙ c.requires.may.lists k n) (c.in_default.ensures.traced ok) (held.traced x y t (taken.ensures.agrees ok));
-    }
-
-pub returns-in-Err-run-clause-played : goal.returns-in-Err-run-clause-played
-returns-in-Err-run-clause-played g c ok =
-    let size = (g.C.RecordsCalls.held c.args.immediate).surface.size in
-    let ls = c.args.lines.now in
-    let text = c.loop-next.answers.items in
-    let most : own_count ls ≤ c.loop-next.next = search rules in
-    let end = get_or_past (places_of 4 0 ls) c.loop-next.next (length ls) most in
-    let reached = subst (λ n. HasReached size ls n (g.C.RecordsCalls.held c.loop-next.context) text) end (c.loop-next.invariant.reached ok) in
-    let ran = c.requires.runs _ _ _ _ _ c.in-Err-run.ensures in
-    subst (λ n. IsInterrupted size ls n c.from.result text) (sym c.len.ensures)
-    (last_interrupted size ls (g.C.RecordsCalls.held c.loop-next.context) text c.from.result c.in-Err-run.refusal reached ran.cause c.from.ensures)
+    let p = c.take_lines-context.result in
+    let none : is_none p.interruption ≡ true = search rules in
+    let reached = uninterrupted _ _ p.interruption none (c.take_lines-context.ensures.reached ok) in
+    let r = c.behind_last in
+    last_made size c.args.lines.now (g.C.RecordsCalls.held p.context) p.answers.items reached r.result (search rules) g.C.RecordsCalls.held c.len.result _ c.run-last.result (search rules)
+    (c.requires.runs _ _ _ _ _ c.run-last.ensures) r.ensures.context r.ensures.interruption

@@ -22,18 +22,18 @@ play_in_scope-round-requires-clause-may g c κs within = record {
   start = c.in-Ok.ensures.begun.new;
 }
 
-pub end-requires-clause-recorded : goal.end-requires-clause-recorded
-end-requires-clause-recorded g c =
+pub end_drawn-requires-clause-recorded : goal.end_drawn-requires-clause-recorded
+end_drawn-requires-clause-recorded g c =
     let round = c.play_in_scope-round in
     let missing = missing_in round.result.played.interruption in
     subst (λ l. AreRecorded l c.settle-deferred.result missing) (c.in-Ok-deal.ensures ∙ c.as_slice.ensures) (c.settle-deferred.ensures.refused _ missing round.ensures.results round.ensures.missing)
 
-pub end-requires-clause-played : goal.end-requires-clause-played
-end-requires-clause-played g c =
+pub end_drawn-requires-clause-played : goal.end_drawn-requires-clause-played
+end_drawn-requires-clause-played g c =
     let round = c.play_in_scope-round in
     let p = round.result.played in
     subst (λ l. HasPlayed c.in-Ok.begun.0.size l p) (c.in-Ok-deal.ensures ∙ c.as_slice.ensures)
     (subst (λ s. HasPlayed s c.in-Ok-deal.lines p) c.in-Ok.ensures.begun.size_is (round.ensures.played (c.settle-deferred.ensures.agrees _ round.ensures.results)))
 
 pub returns : goal.returns
-returns g c = drawing (scene_value c.in-Ok.begun.0) _ c.in-Ok.ensures.begun.spells c.end.ensures.draws
+returns g c = drawing (scene_value c.in-Ok.begun.0) _ c.in-Ok.ensures.begun.spells c.end_drawn.ensures

@@ -1,11 +1,10 @@
 use Rattle.std.proofs.Common.{◌≡◌, ◌<◌, ℕ, [], length, get_or, slice_index}
 use Rattle.std.specs.Int.{w32, to_le_bytes}
-use Rattle.tga.specs.Image.{kept_color}
 use Rattle.tga.proofs.row.store_span.Given as goal
 
 abbrev pub invariant-loop-j : goal.invariant-loop-j
 invariant-loop-j l =
     record {
       len : length l.span ≡ 8;
-      here : (k : ℕ) → k < l.j → get_or l.span k [] ≡ kept_color (to_le_bytes w32 (slice_index l.colors k));
+      here : (k : ℕ) → k < l.j → get_or l.span k [] ≡ to_le_bytes w32 (slice_index l.kept k);
     }

@@ -7,7 +7,7 @@ use Rattle.tileprog.proofs.Places.{ColumnsChanged, no_columns, more_rows_changed
 use Rattle.tileprog.proofs.alike.operate.Goals as goal
 
 pub returns-then-keeps : goal.returns-then-keeps
-returns-then-keeps g c =
+returns-then-keeps c =
     let b = c.args.block.now in
     let test = c.args.test.now in
     record {
@@ -21,20 +21,20 @@ returns-then-keeps g c =
     }
 
 pub loop-pair-init : goal.loop-pair-init
-loop-pair-init g c =
+loop-pair-init c =
     let none : 0 ≡ 2 * 0 = omega arith in
     let b = c.args.block.now in
     let f = operated c.args.test.now c.args.deep in
     record { so_far = subst (λ at. ColumnsChanged f b b at) none (no_columns f b) }
 
 pub loop-pair-preserved : goal.loop-pair-preserved
-loop-pair-preserved g c =
+loop-pair-preserved c =
     record {
       so_far = more_rows_changed (operated c.args.test.now c.args.deep) c.args.block.now c.loop-pair.block _ c.loop-pair.pair c.requires.tile c.loop-pair.invariant.so_far c.operate_rows.ensures;
     }
 
 pub returns : goal.returns
-returns g c =
+returns c =
     let n = c.loop-pair.pair in
     let done : n ≡ 64 = search rules in
     let all : 2 * n ≡ 128 = omega (arith, done) in

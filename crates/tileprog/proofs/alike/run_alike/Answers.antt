@@ -9,16 +9,16 @@ use Rattle.tileprog.proofs.Lanes.{has_all}
 use Rattle.tileprog.proofs.alike.run_alike.Goals as goal
 
 pub operate-requires-clause-bits : goal.operate-requires-clause-bits
-operate-requires-clause-bits g c = λ j h. has_all 255 j refl h
+operate-requires-clause-bits c = λ j h. has_all 255 j refl h
 
 pub returns-then-deep-clause-pixels : goal.returns-then-deep-clause-pixels
-returns-then-deep-clause-pixels g c = λ flip u v is.
+returns-then-deep-clause-pixels c = λ flip u v is.
     let b = c.args.block.now in
     ap (flipped flip) (c.operate.ensures.pixels u v is ∙ (λ i. operated (c.stencil_test-test.ensures i) (sym c.if-deep.true i) (pixel_at b u v)))
     ∙ alike_pixel c.args.triangle.now c.args.entry.now c.args.deep c.requires.alike b u v (c.requires.outcome u v is) flip
 
 pub returns-then-deep-clause-count : goal.returns-then-deep-clause-count
-returns-then-deep-clause-count g c =
+returns-then-deep-clause-count c =
     let t = c.args.triangle.now in
     let e = c.args.entry.now in
     let b = c.args.block.now in
@@ -27,13 +27,13 @@ returns-then-deep-clause-count g c =
     ∙ all_counted b.rect (λ u v. (outcome t e u v (pixel_at b u v)).passed) (λ u v is. alike_passes t e c.args.deep c.requires.alike b u v (c.requires.outcome u v is) ∙ c.if-deep.true)
 
 pub returns-clause-pixels : goal.returns-clause-pixels
-returns-clause-pixels g c = λ flip u v is.
+returns-clause-pixels c = λ flip u v is.
     let b = c.args.block.now in
     ap (flipped flip) (c.operate-2.ensures.pixels u v is ∙ (λ i. operated (c.stencil_test-test.ensures i) (sym c.if-deep.false i) (pixel_at b u v)))
     ∙ alike_pixel c.args.triangle.now c.args.entry.now c.args.deep c.requires.alike b u v (c.requires.outcome u v is) flip
 
 pub returns-clause-count : goal.returns-clause-count
-returns-clause-count g c =
+returns-clause-count c =
     let t = c.args.triangle.now in
     let e = c.args.entry.now in
     let b = c.args.block.now in

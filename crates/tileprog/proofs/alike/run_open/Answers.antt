@@ -6,11 +6,11 @@ use Rattle.tileprog.proofs.AlikeLaws.{open_pixel, open_passes, all_counted}
 use Rattle.tileprog.proofs.alike.run_open.Goals as goal
 
 pub returns-clause-pixels : goal.returns-clause-pixels
-returns-clause-pixels g c = λ u v is.
+returns-clause-pixels c = λ u v is.
     c.paint_tile.ensures.pixels u v is ∙ open_pixel c.args.triangle.now c.args.entry.now c.requires.open c.args.block.now u v c.args.flip.now
 
 pub returns-clause-count : goal.returns-clause-count
-returns-clause-count g c =
+returns-clause-count c =
     let t = c.args.triangle.now in
     let e = c.args.entry.now in
     let b = c.args.block.now in

@@ -4,14 +4,14 @@ use Rattle.gfxspec.specs.declared.geometry.PixelRect.{PixelRect}
 use Rattle.gfxspec.specs.Raster.{centre, covers}
 use Rattle.depthplane.specs.Place.{depth_of}
 use Rattle.tileblock.specs.Cells.{CellLies}
-use Rattle.tileblock.specs.declared.blocks.DepthBounds.{DepthBounds}
+use Rattle.tileblock.specs.declared.pixels.DepthBounds.{DepthBounds}
 use Rattle.tileprog.specs.Alike.{HasOutcome}
 use Rattle.tileprog.specs.Cells.{InRows, HaveOutcome, IsUnwritten}
 use Rattle.tileprog.proofs.CellLaws.{joined, cell_has}
 use Rattle.tileprog.proofs.cells.deep_from.Goals as goal
 
 pub returns-then-is_some : goal.returns-then-is_some
-returns-then-is_some g c =
+returns-then-is_some c =
     let k = c.args.column.now in
     let b = c.args.block.now in
     let s = c.args.brush.now.state in
@@ -26,7 +26,7 @@ returns-then-is_some g c =
     c.outcome_between-near.ensures.deep c.outcome_between-near.ensures.unwritten
 
 pub returns : goal.returns
-returns g c =
+returns c =
     let k = c.args.column.now in
     let b = c.args.block.now in
     let s = c.args.brush.now.state in

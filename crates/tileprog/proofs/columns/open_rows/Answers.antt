@@ -5,7 +5,7 @@ use Rattle.tileprog.proofs.Columning.{no_row, row_more, all_rows}
 use Rattle.tileprog.proofs.columns.open_rows.Goals as goal
 
 pub loop-row-preserved : goal.loop-row-preserved
-loop-row-preserved g c =
+loop-row-preserved c =
     let k = c.args.column.now in
     let s = stroke_in c.args.brush k in
     let old = c.args.block.now in
@@ -22,14 +22,14 @@ loop-row-preserved g c =
     }
 
 pub returns : goal.returns
-returns g c =
+returns c =
     let k = c.args.column.now in
     let s = stroke_in c.args.brush k in
     let old = c.args.block.now in
     all_rows s old c.loop-row.block k.x (old.rect.top + c.loop-row.row) c.loop-row.passed (search rules) c.loop-row.invariant.so_far (search rules)
 
 pub loop-row-init : goal.loop-row-init
-loop-row-init g c =
+loop-row-init c =
     let k = c.args.column.now in
     let s = stroke_in c.args.brush k in
     let old = c.args.block.now in

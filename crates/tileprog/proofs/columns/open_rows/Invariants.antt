@@ -3,7 +3,7 @@ use Rattle.tileprog.specs.Columns.{SoFar, stroke_in}
 use Rattle.tileprog.proofs.columns.open_rows.Given as goal
 
 abbrev pub invariant-loop-row : goal.invariant-loop-row
-invariant-loop-row g l =
+invariant-loop-row l =
     let k = l.fn.column in
     record {
       edges : l.edges ≡ record l.fn.edges { triangle = k.plane.now.triangle; x = k.x; y = l.fn.block.rect.top + l.row };

@@ -3,7 +3,7 @@ use Rattle.tileprog.proofs.Hiding.{vertices_within}
 use Rattle.tileprog.proofs.draw.draw_tested.Goals as goal
 
 pub draw_walked-requires-clause-over : goal.draw_walked-requires-clause-over
-draw_walked-requires-clause-over g c =
+draw_walked-requires-clause-over c =
     record {
       within = c.requires.within;
       tile = c.requires.tile;
@@ -19,7 +19,7 @@ draw_walked-requires-clause-over g c =
     }
 
 pub draw_walked-requires-2-clause-over : goal.draw_walked-requires-2-clause-over
-draw_walked-requires-2-clause-over g c =
+draw_walked-requires-2-clause-over c =
     record {
       within = c.requires.within;
       tile = c.requires.tile;

@@ -5,7 +5,7 @@ use Rattle.tileprog.proofs.Painted.{flips_later, paints_all}
 use Rattle.tileprog.proofs.paint.paint_tile.Goals as goal
 
 pub returns-then-write-clause-pixels : goal.returns-then-write-clause-pixels
-returns-then-write-clause-pixels g c = λ u v is.
+returns-then-write-clause-pixels c = λ u v is.
     let b = c.args.block.now in
     let rgba = c.args.rgba in
     let ls : length rgba ≡ 4 = search rules in
@@ -14,7 +14,7 @@ returns-then-write-clause-pixels g c = λ u v is.
     (flips_later c.args.blend.now c.of_state-write.result rgba _ c.of_state-write.ensures c.from_le_bytes.ensures ls hs (value_at b.colors (span_of u v) (u % 8)) c.args.flip.now (search rules) c.if-write.true)
 
 pub returns-then-write-eq0-clause-pixels : goal.returns-then-write-eq0-clause-pixels
-returns-then-write-eq0-clause-pixels g c = λ u v is.
+returns-then-write-eq0-clause-pixels c = λ u v is.
     let b = c.args.block.now in
     let rgba = c.args.rgba in
     let ls : length rgba ≡ 4 = search rules in
@@ -24,7 +24,7 @@ returns-then-write-eq0-clause-pixels g c = λ u v is.
     (paints_all c.args.blend.now c.of_state-write.result rgba _ c.of_state-write.ensures c.from_le_bytes.ensures ls hs (value_at b.colors (span_of u v) (u % 8)) c.args.flip.now (search rules) c.if-write-eq0.true)
 
 pub returns-clause-pixels : goal.returns-clause-pixels
-returns-clause-pixels g c = λ u v is.
+returns-clause-pixels c = λ u v is.
     let b = c.args.block.now in
     ap (flipped c.args.flip.now) (c.write_tile-2.ensures.pixels u v is)
     ∙ ap (λ (x : List ℕ). record { rgba = x; ds = (pixel_at b u v).ds }) (c.write_under.ensures.gives (value_at b.colors (span_of u v) (u % 8)))

@@ -8,10 +8,10 @@ use Rattle.tileprog.proofs.Places.{none_changed, more_changed, all_changed}
 use Rattle.tileprog.proofs.paint.write_tile.Goals as goal
 
 pub loop-at-init : goal.loop-at-init
-loop-at-init g c = record { so_far = none_changed (written c.args.write) c.args.block.now }
+loop-at-init c = record { so_far = none_changed (written c.args.write) c.args.block.now }
 
 pub loop-at-preserved : goal.loop-at-preserved
-loop-at-preserved g c =
+loop-at-preserved c =
     let w = c.args.write in
     let mid = c.loop-at.block in
     let at = c.loop-at.at in
@@ -28,4 +28,4 @@ loop-at-preserved g c =
     }
 
 pub returns : goal.returns
-returns g c = all_changed (written c.args.write) c.args.block.now c.loop-at.block c.loop-at.at c.requires (search rules) c.loop-at.invariant.so_far
+returns c = all_changed (written c.args.write) c.args.block.now c.loop-at.block c.loop-at.at c.requires (search rules) c.loop-at.invariant.so_far

@@ -4,7 +4,7 @@ use Rattle.tileprog.proofs.Rowing.{all_lanes_covered}
 use Rattle.tileprog.proofs.rows.alike_row.Goals as goal
 
 pub returns-then-still : goal.returns-then-still
-returns-then-still g c =
+returns-then-still c =
     let k = c.args.column.now in
     let old = c.args.block.now in
     let row = c.args.row in
@@ -12,7 +12,7 @@ returns-then-still g c =
     old c.keep_alike-kept.result c.lanes_in.result c.keep_alike-kept.ensures.block c.keep_alike-kept.ensures.bits c.lanes_in.ensures.value c.lanes_in.ensures.few
 
 pub returns : goal.returns
-returns g c =
+returns c =
     let k = c.args.column.now in
     let old = c.args.block.now in
     let row = c.args.row in

@@ -9,7 +9,7 @@ use Rattle.tileprog.proofs.Operating.{IsCoveredRow, row_operated}
 use Rattle.tileprog.proofs.rows.operated_rows.Goals as goal
 
 pub returns : goal.returns
-returns g c =
+returns c =
     let k = c.args.column.now in
     let b = c.args.brush.now.brush in
     let plane = k.plane.now in

@@ -3,13 +3,13 @@ use Rattle.tileprog.proofs.Rowing.{lanes_at, row_decides}
 use Rattle.tileprog.proofs.rows.pixels_left.Goals as goal
 
 pub lanes_left-bits-requires-clause-decides : goal.lanes_left-bits-requires-clause-decides
-lanes_left-bits-requires-clause-decides g c =
+lanes_left-bits-requires-clause-decides c =
     let k = c.args.column.now in
     let rect = c.args.block.now.rect in
     row_decides k.plane.now k.mask rect k.clip c.args.edges.now k.x (rect.top + c.args.row) c.requires.column.named c.requires.column.within c.requires.column.tile c.requires.edges.begun c.requires.edges.place c.requires.row.top c.requires.row.bottom
 
 pub returns-clause-left : goal.returns-clause-left
-returns-clause-left g c =
+returns-clause-left c =
     let k = c.args.column.now in
     let y = c.args.block.now.rect.top + c.args.row in
     record {

@@ -9,7 +9,7 @@ use Rattle.tileprog.proofs.CellLaws.{alike_lane, alike_bit}
 use Rattle.tileprog.proofs.spans.draw_alike.Goals as goal
 
 pub returns-clause-block : goal.returns-clause-block
-returns-clause-block g c = λ new known.
+returns-clause-block c = λ new known.
     let b = c.args.brush.now.brush in
     let old = c.args.block.now in
     let cover = c.args.pixels.bits in
@@ -26,7 +26,7 @@ returns-clause-block g c = λ new known.
     (λ e. is ∙ sym (known j h e)) (has_both cover _ j _ (has_both passing all j (has all j) refl)))
 
 pub returns-clause-bits : goal.returns-clause-bits
-returns-clause-bits g c = λ new known.
+returns-clause-bits c = λ new known.
     let b = c.args.brush.now.brush in
     let old = c.args.block.now in
     let cover = c.args.pixels.bits in

@@ -9,7 +9,7 @@ use Rattle.tileprog.proofs.Lanes.{kept_drawn}
 use Rattle.tileprog.proofs.spans.draw_depths.Goals as goal
 
 pub returns-then-bits-clause-block : goal.returns-then-bits-clause-block
-returns-then-bits-clause-block g c =
+returns-then-bits-clause-block c =
     let b = c.args.brush.now.brush in
     let cover = c.args.pixels.bits in
     changed _ _ _ _ _ _ c.draw_passed.ensures (λ j h.
@@ -19,7 +19,7 @@ returns-then-bits-clause-block g c =
     kept_drawn b c.args.brush.now.func c.args.brush.now.write c.args.brush.now.kind z (has cover j) (has 255 j) p (kept_lane c.args.brush.now.write 255 c.args.new.now j p) passes refl)
 
 pub returns-else-bits-clause-block : goal.returns-else-bits-clause-block
-returns-else-bits-clause-block g c =
+returns-else-bits-clause-block c =
     let b = c.args.brush.now.brush in
     let bits = c.passed_depths-bits.result in
     changed _ _ _ _ _ _ c.draw_passed-else-bits.ensures (λ j h.

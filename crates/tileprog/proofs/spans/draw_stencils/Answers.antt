@@ -7,7 +7,7 @@ use Rattle.tileprog.proofs.Lanes.{both_lanes}
 use Rattle.tileprog.proofs.spans.draw_stencils.Goals as goal
 
 pub returns-clause-block : goal.returns-clause-block
-returns-clause-block g c =
+returns-clause-block c =
     let b = c.args.brush.now.brush in
     let old = c.args.block.now in
     let bits = c.test_stencils-bits.result in

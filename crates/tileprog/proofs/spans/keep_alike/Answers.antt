@@ -8,7 +8,7 @@ use Rattle.tileprog.proofs.CellLaws.{still_lane, still_bit}
 use Rattle.tileprog.proofs.spans.keep_alike.Goals as goal
 
 pub returns-clause-block : goal.returns-clause-block
-returns-clause-block g c = λ new known.
+returns-clause-block c = λ new known.
     let b = c.args.brush.now.brush in
     let old = c.args.block.now in
     let cover = c.args.pixels.bits in
@@ -23,7 +23,7 @@ returns-clause-block g c = λ new known.
     (has cover j) _ (slice_index colors j) (fits j) (c.color_span-colors.ensures j h) (λ e. sym (known j h e)) (has_both cover c.all_lanes.result j deep (c.all_lanes.ensures j h)))
 
 pub returns-clause-bits : goal.returns-clause-bits
-returns-clause-bits g c = λ new known.
+returns-clause-bits c = λ new known.
     let b = c.args.brush.now.brush in
     let old = c.args.block.now in
     let cover = c.args.pixels.bits in

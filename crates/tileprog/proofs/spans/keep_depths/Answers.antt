@@ -6,13 +6,13 @@ use Rattle.tileprog.proofs.Spanning.{changed, unchanged}
 use Rattle.tileprog.proofs.spans.keep_depths.Goals as goal
 
 pub returns-then-write : goal.returns-then-write
-returns-then-write g c =
+returns-then-write c =
     changed _ _ _ _ _ _ c.put_depths.ensures (λ j h.
     let p = lane_pixel c.args.block.now c.args.pixels.span c.args.pixels.row j in
     ap (λ t. if t then deepened_lane c.args.pixels.bits c.args.new.now j p else p) (sym c.if-write.true))
 
 pub returns-else-write : goal.returns-else-write
-returns-else-write g c =
+returns-else-write c =
     unchanged _ _ _ _ (λ j h.
     let p = lane_pixel c.args.block.now c.args.pixels.span c.args.pixels.row j in
     ap (λ t. if t then deepened_lane c.args.pixels.bits c.args.new.now j p else p) (sym c.if-write.false))

@@ -5,7 +5,7 @@ use Rattle.tileprog.proofs.Spanning.{changed}
 use Rattle.tileprog.proofs.spans.operate_rows.Goals as goal
 
 pub returns : goal.returns
-returns g c =
+returns c =
     let old = c.args.block.now in
     let mid = c.set_stencil_span.new.self in
     let test = c.args.test.now in

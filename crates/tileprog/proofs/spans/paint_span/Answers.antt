@@ -9,11 +9,11 @@ use Rattle.tileprog.proofs.Lanes.{has_all, has_none, lane_painted, lane_kept, la
 use Rattle.tileprog.proofs.spans.paint_span.Goals as goal
 
 pub returns-then-bits-eq0 : goal.returns-then-bits-eq0
-returns-then-bits-eq0 g c =
+returns-then-bits-eq0 c =
     unchanged _ _ _ _ (λ j h. lane_unpainted c.args.brush.now (lane_pixel c.args.block.now c.args.pixels.span c.args.pixels.row j) (has c.args.pixels.bits j) (has_none c.args.pixels.bits j c.if-bits-eq0.true))
 
 pub returns-then-write-eq0 : goal.returns-then-write-eq0
-returns-then-write-eq0 g c =
+returns-then-write-eq0 c =
     let b = c.args.brush.now in
     let bits = c.args.pixels.bits in
     let old = c.color_span-old.result in
@@ -25,7 +25,7 @@ returns-then-write-eq0 g c =
     (ap (λ t. if t then b.write.flip else q) (sym (has_all bits j c.if-bits.true h)))))
 
 pub returns-then-write-eq0-2 : goal.returns-then-write-eq0-2
-returns-then-write-eq0-2 g c =
+returns-then-write-eq0-2 c =
     let b = c.args.brush.now in
     let old = c.color_span-old.result in
     let small : (j : ℕ) → slice_index old j < 2 ^ 32 = search rules in
@@ -34,7 +34,7 @@ returns-then-write-eq0-2 g c =
     (kept_all (slice_index old j) b.write.keep b.write.flip (small j) c.if-write.true c.if-write-eq0-2.true))
 
 pub returns-then-bits-2 : goal.returns-then-bits-2
-returns-then-bits-2 g c =
+returns-then-bits-2 c =
     let b = c.args.brush.now in
     let bits = c.args.pixels.bits in
     let new = c.write8-new.result in
@@ -48,7 +48,7 @@ returns-then-bits-2 g c =
     (ap (λ t. if t then n else q) (sym (has_all bits j c.if-bits-2.true h)))))
 
 pub returns-else-bits-2 : goal.returns-else-bits-2
-returns-else-bits-2 g c =
+returns-else-bits-2 c =
     let b = c.args.brush.now in
     let old = c.color_span-old.result in
     let small : (j : ℕ) → slice_index old j < 2 ^ 32 = search rules in

@@ -6,7 +6,7 @@ use Rattle.tileprog.proofs.Lanes.{has_both, depth_passes}
 use Rattle.tileprog.proofs.spans.passed_depths.Goals as goal
 
 pub returns : goal.returns
-returns g c =
+returns c =
     record {
       each = λ j h.
           let p = lane_pixel c.args.block.now c.args.pixels.span c.args.pixels.row j in

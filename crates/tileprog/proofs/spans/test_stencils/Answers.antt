@@ -8,7 +8,7 @@ use Rattle.tileprog.proofs.spans.test_stencils.Goals.{else-depth-via-then-depth+
 use Rattle.tileprog.proofs.spans.test_stencils.Goals as goal
 
 pub returns-then-write-clause-block : goal.returns-then-write-clause-block
-returns-then-write-clause-block g c =
+returns-then-write-clause-block c =
     let b = c.args.brush.now.brush in
     let old = c.args.block.now in
     let both = joined old c.change_stencils.new.block c.put_depths.new.block c.args.pixels.span c.args.pixels.row _ _ c.change_stencils.ensures c.put_depths.ensures in
@@ -24,7 +24,7 @@ returns-then-write-clause-block g c =
     (has_both c.args.pixels.bits _ j _ (has_both c.passes-passing.result c.deep_mask-deep.result j deep refl)) written after))
 
 pub returns-else-depth-clause-block : goal.returns-else-depth-clause-block
-returns-else-depth-clause-block g c =
+returns-else-depth-clause-block c =
     let b = c.args.brush.now.brush in
     let old = c.args.block.now in
     let unwritten : false ≡ (b.state.depth && b.state.write) = elim c.else-depth.branch [
@@ -41,7 +41,7 @@ returns-else-depth-clause-block g c =
     (stencil_lane b c.args.brush.now.kind (slice_index c.args.new.now j) p.ds (has c.args.pixels.bits j) passing deep (has c.args.pixels.bits j && (passing && deep)) false _ passes (c.deep_mask-deep.ensures j h) refl unwritten after))
 
 pub returns-then-write-clause-bits : goal.returns-then-write-clause-bits
-returns-then-write-clause-bits g c =
+returns-then-write-clause-bits c =
     record {
       each = λ j h.
           let p = lane_pixel c.args.block.now c.args.pixels.span c.args.pixels.row j in
@@ -51,7 +51,7 @@ returns-then-write-clause-bits g c =
     }
 
 pub returns-else-depth-clause-bits : goal.returns-else-depth-clause-bits
-returns-else-depth-clause-bits g c =
+returns-else-depth-clause-bits c =
     record {
       each = λ j h.
           let p = lane_pixel c.args.block.now c.args.pixels.span c.args.pixels.row j in

@@ -6,7 +6,7 @@ use Rattle.tileprog.proofs.Columning.{row_behind, rows_are}
 use Rattle.tileprog.proofs.stencils.alike_rows.Goals as goal
 
 pub loop-at-preserved : goal.loop-at-preserved
-loop-at-preserved g c =
+loop-at-preserved c =
     let k = c.args.column.now in
     let plane = k.plane.now in
     let s = stroke_in c.args.brush.now.brush k in
@@ -27,7 +27,7 @@ loop-at-preserved g c =
     }
 
 pub returns : goal.returns
-returns g c =
+returns c =
     let k = c.args.column.now in
     let plane = k.plane.now in
     let s = stroke_in c.args.brush.now.brush k in

@@ -8,7 +8,7 @@ use Rattle.tileprog.proofs.Columning.{none_yet, rows_are, rows_drawn_behind}
 use Rattle.tileprog.proofs.stencils.paired_rows.Goals as goal
 
 pub loop-pair-init : goal.loop-pair-init
-loop-pair-init g c =
+loop-pair-init c =
     let k = c.args.column.now in
     let plane = k.plane.now in
     let s = stroke_in c.args.brush.now.brush k in
@@ -22,7 +22,7 @@ loop-pair-init g c =
     }
 
 pub loop-pair-preserved : goal.loop-pair-preserved
-loop-pair-preserved g c =
+loop-pair-preserved c =
     let k = c.args.column.now in
     let plane = k.plane.now in
     let s = stroke_in c.args.brush.now.brush k in
@@ -50,7 +50,7 @@ loop-pair-preserved g c =
     }
 
 pub returns : goal.returns
-returns g c =
+returns c =
     let k = c.args.column.now in
     let plane = k.plane.now in
     let s = stroke_in c.args.brush.now.brush k in
@@ -61,7 +61,7 @@ returns g c =
     rows_are s plane old c.loop-pair.block k.x (old.rect.top + c.args.row) (old.rect.top + at) (old.rect.top + c.args.row) (old.rect.top + (c.args.row + 8)) c.loop-pair.passed c.loop-pair.invariant.continues refl refl (omega (arith, done))
 
 pub operated_rows-more-requires-clause-deep : goal.operated_rows-more-requires-clause-deep
-operated_rows-more-requires-clause-deep g c =
+operated_rows-more-requires-clause-deep c =
     let at = c.args.row + 2 * c.loop-pair.pair in
     let deep = c.loop-pair.invariant.deep in
     record {
@@ -70,7 +70,7 @@ operated_rows-more-requires-clause-deep g c =
     }
 
 pub operated_rows-more-requires-clause-covered : goal.operated_rows-more-requires-clause-covered
-operated_rows-more-requires-clause-covered g c =
+operated_rows-more-requires-clause-covered c =
     let at = c.args.row + 2 * c.loop-pair.pair in
     let k = c.args.column.now in
     part_covered k.mask c.args.column.now.plane.now.triangle c.args.block.now.rect c.loop-pair.block.rect k.x c.args.row at (at + 2) (c.args.row + 8) (omega arith) (omega arith) c.loop-pair.invariant.rect c.requires.covered

@@ -4,7 +4,7 @@ use Rattle.tileprog.specs.Columns.{Continues, stroke_in}
 use Rattle.tileprog.proofs.stencils.paired_rows.Given as goal
 
 abbrev pub invariant-loop-pair : goal.invariant-loop-pair
-invariant-loop-pair g l =
+invariant-loop-pair l =
     let c = l.column in
     let old = l.fn.block in
     let at = l.row + 2 * l.pair in

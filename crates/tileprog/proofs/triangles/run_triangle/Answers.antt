@@ -25,14 +25,14 @@ held o deep whole is h =
     subst P is h
 
 pub depth_range-least-requires-clause-whole : goal.depth_range-least-requires-clause-whole
-depth_range-least-requires-clause-whole g c = λ both.
+depth_range-least-requires-clause-whole c = λ both.
     let t = c.args.triangle.now in
     let r = c.rect-rect.result in
     let class = subst (λ r. IsClassOf (Cut (edge_bits c.args.mask)) t.edges r) (sym c.rect-rect.ensures) c.requires.class in
     whole_covered t c.args.mask c.clipped-clip.result r class (c.is_whole-whole.ensures both)
 
 pub returns-then-clip-clause-pixels : goal.returns-then-clip-clause-pixels
-returns-then-clip-clause-pixels g c = λ u v is.
+returns-then-clip-clause-pixels c = λ u v is.
     let r = c.args.block.now.rect in
     let p = c.args.triangle.now in
     let clip = c.clipped-clip.result in
@@ -42,7 +42,7 @@ returns-then-clip-clause-pixels g c = λ u v is.
     nothing_left p c.args.entry.now c.args.mask clip r c.requires.tile c.requires.class c.requires.bounded inside empty u v is (stands_for c.args.flip.now c.args.block.now u v)
 
 pub returns-then-clip-clause-count : goal.returns-then-clip-clause-count
-returns-then-clip-clause-count g c =
+returns-then-clip-clause-count c =
     let r = c.args.block.now.rect in
     let p = c.args.triangle.now in
     let clip = c.clipped-clip.result in
@@ -52,14 +52,14 @@ returns-then-clip-clause-count g c =
     none_counted p c.args.entry.now c.args.mask clip r c.requires.tile c.requires.class c.requires.bounded inside empty c.args.block.now
 
 pub run_small-requires-clause-inside : goal.run_small-requires-clause-inside
-run_small-requires-clause-inside g c =
+run_small-requires-clause-inside c =
     let p = c.args.triangle.now in
     let clip = c.clipped-clip.result in
     let P : PixelRect → Type 0 = λ r. (u v : ℕ) → IsIn r u v → is_in_rect clip u v ≡ is_in_rect p.bounds u v in
     subst P c.rect-rect.ensures c.clipped-clip.ensures.pixels
 
 pub returns-then-open-clause-pixels : goal.returns-then-open-clause-pixels
-returns-then-open-clause-pixels g c = λ u v is.
+returns-then-open-clause-pixels c = λ u v is.
     let t = c.args.triangle.now in
     let b = c.args.block.now in
     let clip = c.clipped-clip.result in
@@ -71,7 +71,7 @@ returns-then-open-clause-pixels g c = λ u v is.
     ∙ drawn_everywhere t c.args.entry.now c.args.mask b (whole_reached t c.args.entry.now c.args.mask clip b.rect c.requires.tile c.requires.class c.requires.bounded inside every) u v is (stands_for c.args.flip.now b u v)
 
 pub returns-then-open-clause-count : goal.returns-then-open-clause-count
-returns-then-open-clause-count g c =
+returns-then-open-clause-count c =
     let t = c.args.triangle.now in
     let b = c.args.block.now in
     let clip = c.clipped-clip.result in
@@ -83,15 +83,15 @@ returns-then-open-clause-count g c =
     ∙ counted_everywhere t c.args.entry.now c.args.mask b (whole_reached t c.args.entry.now c.args.mask clip b.rect c.requires.tile c.requires.class c.requires.bounded inside every)
 
 pub returns-then-hidden-clause-pixels : goal.returns-then-hidden-clause-pixels
-returns-then-hidden-clause-pixels g c = λ u v is.
+returns-then-hidden-clause-pixels c = λ u v is.
     hidden_pixel c.args.triangle.now c.args.entry.now c.args.mask c.args.block.now c.requires.class c.depth_range-least.result.0 c.depth_range-least.result.1 (lie_in c.args.triangle.now c.rect-rect.result c.args.block.now.rect c.depth_range-least.result.0 c.depth_range-least.result.1 c.rect-rect.ensures c.depth_range-least.ensures) c.depth_bounds-stored.result c.depth_bounds-stored.ensures (c.is_hidden-hidden.ensures c.if-hidden.true) c.args.flip.now u v is
 
 pub returns-then-hidden-clause-count : goal.returns-then-hidden-clause-count
-returns-then-hidden-clause-count g c =
+returns-then-hidden-clause-count c =
     hidden_count c.args.triangle.now c.args.entry.now c.args.mask c.args.block.now c.requires.class c.depth_range-least.result.0 c.depth_range-least.result.1 (lie_in c.args.triangle.now c.rect-rect.result c.args.block.now.rect c.depth_range-least.result.0 c.depth_range-least.result.1 c.rect-rect.ensures c.depth_range-least.ensures) c.depth_bounds-stored.result c.depth_bounds-stored.ensures (c.is_hidden-hidden.ensures c.if-hidden.true)
 
 pub run_alike-requires-clause-outcome : goal.run_alike-requires-clause-outcome
-run_alike-requires-clause-outcome g c =
+run_alike-requires-clause-outcome c =
     let t = c.args.triangle.now in
     let e = c.args.entry.now in
     let b = c.args.block.now in
@@ -105,7 +105,7 @@ run_alike-requires-clause-outcome g c =
     has (whole_covered t c.args.mask c.clipped-clip.result b.rect c.requires.class every)
 
 pub returns-in-Some-clause-pixels : goal.returns-in-Some-clause-pixels
-returns-in-Some-clause-pixels g c = λ u v is.
+returns-in-Some-clause-pixels c = λ u v is.
     let t = c.args.triangle.now in
     let b = c.args.block.now in
     let clip = c.clipped-clip.result in
@@ -118,7 +118,7 @@ returns-in-Some-clause-pixels g c = λ u v is.
     ∙ drawn_everywhere t c.args.entry.now c.args.mask b (whole_reached t c.args.entry.now c.args.mask clip b.rect c.requires.tile c.requires.class c.requires.bounded inside every) u v is (stands_for c.args.flip.now b u v)
 
 pub returns-in-Some-clause-count : goal.returns-in-Some-clause-count
-returns-in-Some-clause-count g c =
+returns-in-Some-clause-count c =
     let t = c.args.triangle.now in
     let b = c.args.block.now in
     let clip = c.clipped-clip.result in
@@ -131,14 +131,14 @@ returns-in-Some-clause-count g c =
     ∙ counted_everywhere t c.args.entry.now c.args.mask b (whole_reached t c.args.entry.now c.args.mask clip b.rect c.requires.tile c.requires.class c.requires.bounded inside every)
 
 pub draw_under-passed-requires-clause-inside : goal.draw_under-passed-requires-clause-inside
-draw_under-passed-requires-clause-inside g c =
+draw_under-passed-requires-clause-inside c =
     let p = c.args.triangle.now in
     let clip = c.clipped-clip.result in
     let P : PixelRect → Type 0 = λ r. (u v : ℕ) → IsIn r u v → is_in_rect clip u v ≡ is_in_rect p.bounds u v in
     subst P c.rect-rect.ensures c.clipped-clip.ensures.pixels
 
 pub keep_after-requires : goal.keep_after-requires
-keep_after-requires g c =
+keep_after-requires c =
     let p = c.args.triangle.now in
     let clip = c.clipped-clip.result in
     let P : PixelRect → Type 0 = λ r. (u v : ℕ) → IsIn r u v → is_in_rect clip u v ≡ is_in_rect p.bounds u v in
@@ -149,5 +149,5 @@ keep_after-requires g c =
     c.requires.tile c.requires.class c.requires.bounded inside (lie_in c.args.triangle.now c.rect-rect.result c.args.block.now.rect c.depth_range-least.result.0 c.depth_range-least.result.1 c.rect-rect.ensures c.depth_range-least.ensures) c.depth_bounds-stored.ensures all c.bounds_after-after.ensures c.draw_under-passed.ensures.rect c.draw_under-passed.ensures.pixels
 
 pub returns-clause-pixels : goal.returns-clause-pixels
-returns-clause-pixels g c = λ u v is.
+returns-clause-pixels c = λ u v is.
     ap (λ (b : Block). stands_for c.args.flip.now b u v) c.keep_after.ensures ∙ c.draw_under-passed.ensures.pixels u v is

@@ -5,8 +5,7 @@ use Rattle.gfxspec.specs.Tiles.{IsIn}
 use Rattle.tileblock.specs.Block.{pixel_at}
 use Rattle.binmem.specs.Lists.{words_of}
 use Rattle.binner.specs.Meaning.{ProgramFits}
-use Rattle.tileprog.specs.Painting.{stands_behind, stands_for}
-use Rattle.tileprog.specs.declared.words.Waiting.{Waiting}
+use Rattle.tileprog.specs.Painting.{stands_for}
 use Rattle.tileprog.specs.Passing.{shown, IsTile}
 use Rattle.tileprog.proofs.Totals.{ProgramLeft, WordCounted, all_left, next_fits, names_state, one_done, none_left, counted_some, counted_none, passed_few}
 use Rattle.tileprog.proofs.Painted.{stands_itself}
@@ -25,9 +24,8 @@ loop-number-init g c =
     let at_first : c.into_iter-number-iterator.result ≡ numbers = search rules in
     record {
       rect = refl;
-      left = subst (λ (w : Waiting). ProgramLeft m.tables numbers c.into_iter-number-iterator.result _ opening.rect (pixel_at opening) (stands_behind w opening) _) (sym c.flips-waiting.ensures)
-          (subst (λ rest. ProgramLeft m.tables numbers rest _ opening.rect (pixel_at opening) (stands_for 0 opening) _) (sym at_first)
-          (all_left m.tables numbers opening.rect (pixel_at opening) (stands_for 0 opening) _ (stands_itself opening) fits (sound.short k) refl));
+      left = subst (λ rest. ProgramLeft m.tables numbers rest _ opening.rect (pixel_at opening) (stands_for 0 opening) _) (sym at_first)
+          (all_left m.tables numbers opening.rect (pixel_at opening) (stands_for 0 opening) _ (stands_itself opening) fits (sound.short k) refl);
     }
 
 pub next_force-force-requires : goal.next_force-force-requires
@@ -37,7 +35,7 @@ next_force-force-requires g c =
     let opening = c.args.block.now in
     let is : decoded c.in-Some.number ≡ Some c.in-Some-decode.word = sym c.decode.ensures.value ∙ c.in-Some-decode.is in
     names_state m.tables opening.rect (shown c.loop-number.force) c.in-Some-decode.word
-    (next_fits m.tables numbers opening.rect (pixel_at opening) c.loop-number.number-iterator c.next.new.self c.in-Some.number c.in-Some-decode.word c.in-Some.ensures.steps is (shown c.loop-number.force) (stands_behind c.loop-number.waiting c.loop-number.block) c.loop-number.counts
+    (next_fits m.tables numbers opening.rect (pixel_at opening) c.loop-number.number-iterator c.next.new.self c.in-Some.number c.in-Some-decode.word c.in-Some.ensures.steps is (shown c.loop-number.force) (stands_for c.loop-number.flip c.loop-number.block) c.loop-number.counts
     c.loop-number.invariant.left)
 
 pub count_word-requires-clause-few : goal.count_word-requires-clause-few
@@ -45,7 +43,7 @@ count_word-requires-clause-few g c =
     let m = c.args.compiled.now in
     let opening = c.args.block.now in
     let tile = tile_is m.size c.args.tile opening.rect c.size-size.ensures.sound.size c.requires.tile c.requires.rect in
-    passed_few m.tables (shown c.loop-number.force) c.in-Some-decode.word c.loop-number.block.rect (stands_behind c.loop-number.waiting c.loop-number.block) c.run_word-passed.result c.run_word-passed.ensures.passed (subst IsTile (sym c.loop-number.invariant.rect) tile)
+    passed_few m.tables (shown c.loop-number.force) c.in-Some-decode.word c.loop-number.block.rect (stands_for c.loop-number.flip c.loop-number.block) c.run_word-passed.result c.run_word-passed.ensures.passed (subst IsTile (sym c.loop-number.invariant.rect) tile)
 
 pub loop-number-preserved : goal.loop-number-preserved
 loop-number-preserved g c =
@@ -55,7 +53,7 @@ loop-number-preserved g c =
     let e = shown c.loop-number.force in
     let w = c.in-Some-decode.word in
     let mid = c.loop-number.block in
-    let stood = stands_behind c.loop-number.waiting mid in
+    let stood = stands_for c.loop-number.flip mid in
     let same = c.loop-number.invariant.rect in
     let ran = c.run_word-passed in
     let is : decoded c.in-Some.number ≡ Some w = sym c.decode.ensures.value ∙ c.in-Some-decode.is in
@@ -66,7 +64,7 @@ loop-number-preserved g c =
     ] in
     record {
       rect = ran.ensures.rect ∙ same;
-      left = one_done m.tables numbers opening.rect (pixel_at opening) c.loop-number.number-iterator c.next.new.self c.in-Some.number w c.in-Some.ensures.steps is e (shown c.next_force-force.result) stood (stands_behind ran.new.waiting ran.new.block) c.loop-number.counts c.if-passed-ne0.counts
+      left = one_done m.tables numbers opening.rect (pixel_at opening) c.loop-number.number-iterator c.next.new.self c.in-Some.number w c.in-Some.ensures.steps is e (shown c.next_force-force.result) stood (stands_for ran.new.flip ran.new.block) c.loop-number.counts c.if-passed-ne0.counts
           c.loop-number.invariant.left c.next_force-force.ensures (λ u v inside. ran.ensures.pixels u v (subst (λ (r : PixelRect). IsIn r u v) (sym same) inside)) (subst (λ r. WordCounted m.tables e w r stood c.loop-number.counts c.if-passed-ne0.counts) same counted)
           (tile_is m.size c.args.tile opening.rect c.size-size.ensures.sound.size c.requires.tile c.requires.rect);
     }
@@ -74,18 +72,15 @@ loop-number-preserved g c =
 pub flip_tile-requires : goal.flip_tile-requires
 flip_tile-requires g c =
     let tile = tile_is c.args.compiled.now.size c.args.tile c.args.block.now.rect c.size-size.ensures.sound.size c.requires.tile c.requires.rect in
-    (subst IsTile (sym (c.clear_waiting-flip.ensures.rect ∙ c.loop-number.invariant.rect)) tile).place
+    (subst IsTile (sym c.loop-number.invariant.rect) tile).place
 
 pub returns : goal.returns
 returns g c =
     let opening = c.args.block.now in
     let same = c.loop-number.invariant.rect in
-    let cleared = c.clear_waiting-flip.ensures in
-    none_left c.args.compiled.now.tables (words_of c.args.compiled.now.numbers c.args.tile) opening c.args.compiled.now c.args.tile c.loop-number.number-iterator (shown c.loop-number.force) (stands_behind c.loop-number.waiting c.loop-number.block) c.flip_tile.new.block c.loop-number.counts
-    refl refl c.in-None.ensures.steps.0 (c.flip_tile.ensures.rect ∙ cleared.rect ∙ same)
-    (λ u v inside.
-    let here = subst (λ (r : PixelRect). IsIn r u v) (sym same) inside in
-    c.flip_tile.ensures.pixels u v (subst (λ (r : PixelRect). IsIn r u v) (sym cleared.rect) here) ∙ cleared.pixels u v here) c.loop-number.invariant.left
+    none_left c.args.compiled.now.tables (words_of c.args.compiled.now.numbers c.args.tile) opening c.args.compiled.now c.args.tile c.loop-number.number-iterator (shown c.loop-number.force) (stands_for c.loop-number.flip c.loop-number.block) c.flip_tile.new.block c.loop-number.counts
+    refl refl c.in-None.ensures.steps.0 (c.flip_tile.ensures.rect ∙ same)
+    (λ u v inside. c.flip_tile.ensures.pixels u v (subst (λ (r : PixelRect). IsIn r u v) (sym same) inside)) c.loop-number.invariant.left
 
 pub size-size-requires : goal.size-size-requires
 size-size-requires g c κs = search rules

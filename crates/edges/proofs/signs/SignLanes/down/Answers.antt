@@ -7,4 +7,4 @@ pub returns : goal.returns
 returns c = λ e left top x y h.
     let f : FitsSigned w32 c.args.self.across = search rules in
     let g : FitsSigned w32 c.args.self.below = search rules in
-    simp to_z-of_z (signs_below c.args.self e left top x y g h)
+    simp to_z-of_z (signs_below 8 c.args.self.lanes c.args.self.across c.args.self.below e left top x y g h)

@@ -15,7 +15,7 @@ pub overflow_cast-result : goal.overflow_cast-result
 overflow_cast-result c =
     let at = c.self.invariant in
     let w = c.self.inside in
-    compared_fits at_least (replicate 8 0) (any_below w.first.lanes w.second.lanes w.third.lanes) refl (long_any w.first.lanes w.second.lanes w.third.lanes at.first.eight at.second.eight at.third.eight)
+    compared_fits at_least (replicate 8 0) (any_below w.first.lanes w.second.lanes w.third.lanes) refl (long_any 8 w.first.lanes w.second.lanes w.third.lanes at.first.long at.second.long at.third.long)
 
 pub returns : goal.returns
 returns c =
@@ -23,13 +23,13 @@ returns c =
     let at = c.self.invariant in
     let t = triangle_of w.triangle.now in
     let any = any_below w.first.lanes w.second.lanes w.third.lanes in
-    let long = long_any w.first.lanes w.second.lanes w.third.lanes at.first.eight at.second.eight at.third.eight in
+    let long = long_any 8 w.first.lanes w.second.lanes w.third.lanes at.first.long at.second.long at.third.long in
     let P : EdgePlace → Type 0 = λ p. (j : ℕ) → j < 8 → IsNearBegin p j → (bit_at (compared at_least (replicate 8 0) any refl long) j == 1) ≡ covers p.triangle (centre (p.x + j) p.y) in
     subst P c.self.view_is (λ j h near.
     bit_at-compared at_least (replicate 8 0) any refl long j h
     ∙ ap (λ n. at_least n (slice_index_or any j 0)) (get_or-replicate 8 j 0 0 h)
-    ∙ any_tells w.first.lanes w.second.lanes w.third.lanes at.first.eight at.second.eight at.third.eight j _ _ _ h
-    (lane_tells w.first (edge t 0) w.left w.top w.x w.y at.first (first_not_flat t at.real) at.left at.top j h near.column near.row)
-    (lane_tells w.second (edge t 1) w.left w.top w.x w.y at.second (second_not_flat t at.real) at.left at.top j h near.column near.row)
-    (lane_tells w.third (edge t 2) w.left w.top w.x w.y at.third (third_not_flat t at.real) at.left at.top j h near.column near.row)
+    ∙ any_tells 8 w.first.lanes w.second.lanes w.third.lanes at.first.long at.second.long at.third.long j _ _ _ h
+    (lane_tells 8 w.first.lanes w.first.across w.first.below (edge t 0) w.left w.top w.x w.y at.first (first_not_flat t at.real) at.left at.top j h near.column near.row)
+    (lane_tells 8 w.second.lanes w.second.across w.second.below (edge t 1) w.left w.top w.x w.y at.second (second_not_flat t at.real) at.left at.top j h near.column near.row)
+    (lane_tells 8 w.third.lanes w.third.across w.third.below (edge t 2) w.left w.top w.x w.y at.third (third_not_flat t at.real) at.left at.top j h near.column near.row)
     ∙ all_cover t at.real (w.x + j) w.y)

@@ -1,8 +1,8 @@
 use Rattle.std.proofs.Common.{sym, subst, true, []}
-use Rattle.immediate.specs.Held.{Ran}
+use Rattle.immediate.specs.Held.{Executed, Ran}
 use Rattle.sessions.specs.declared.run.Running.{Running}
 use Rattle.sessions.specs.Taking.{RanBy, run_rows, HasRun}
-use Rattle.sessions.proofs.Ran.{run_is, enqueue_is, settle_is, list_taken}
+use Rattle.sessions.proofs.Ran.{run_is, ran_executed, enqueue_is, settle_is, list_taken}
 use Rattle.sessions.proofs.play.fn.play_alone.play.Goals as goal
 
 pub returns-in-Settle : goal.returns-in-Settle
@@ -20,6 +20,14 @@ returns-in-Flush g c =
     let new = c.flush_alone.new.self in
     subst (λ (r : Running). HasRun (RanBy (g.S.ListSource.agrees s) (g.S.ListSource.right s) r old new) (run_rows r old) c.flush_alone.result) (sym c.in-Flush.is)
     (run_is [] true (Ran [] true old new) old new c.flush_alone.result c.flush_alone.ensures (λ ran. ran))
+
+pub returns-in-FlushLine : goal.returns-in-FlushLine
+returns-in-FlushLine g c =
+    let s = c.args.lists.now in
+    let old = c.args.context.now in
+    let new = c.flush_alone-in-FlushLine.new.self in
+    subst (λ (r : Running). HasRun (RanBy (g.S.ListSource.agrees s) (g.S.ListSource.right s) r old new) (run_rows r old) c.flush_alone-in-FlushLine.result) (sym c.in-FlushLine.is)
+    (run_is [] true (Executed [] true old new) old new c.flush_alone-in-FlushLine.result c.flush_alone-in-FlushLine.ensures (ran_executed [] true old new))
 
 pub returns-in-Execute : goal.returns-in-Execute
 returns-in-Execute g c =

@@ -1,0 +1,14 @@
+use Rattle.std.proofs.Common.{arith}
+use Rattle.edges.proofs.packed.PackedEdges.quads.Goals as goal
+
+pub invariant_of-result : goal.invariant_of-result
+invariant_of-result c =
+    let packed = c.self.invariant in
+    record {
+      first = c.of.ensures _ packed.first;
+      second = c.of-2.ensures _ packed.second;
+      third = c.of-3.ensures _ packed.third;
+      real = packed.real;
+      left = omega arith;
+      top = omega arith;
+    }

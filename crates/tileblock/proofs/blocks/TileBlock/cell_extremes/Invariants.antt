@@ -1,8 +1,0 @@
-use Rattle.std.proofs.Common.{ℕ, ◌<◌, ◌+◌, ◌*◌}
-use Rattle.tileblock.specs.Widening.{HoldsSpan}
-use Rattle.tileblock.proofs.blocks.TileBlock.cell_extremes.Given as goal
-
-abbrev pub invariant-loop-k : goal.invariant-loop-k
-invariant-loop-k g l = record {
-  rows : (i : ℕ) → i < l.k → HoldsSpan l.self l.span (8 * l.cell + i) l.all;
-}

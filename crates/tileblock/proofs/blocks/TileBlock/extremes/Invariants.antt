@@ -1,8 +1,0 @@
-use Rattle.std.proofs.Common.{ℕ, ◌<◌}
-use Rattle.tileblock.specs.Widening.{HoldsRow}
-use Rattle.tileblock.proofs.blocks.TileBlock.extremes.Given as goal
-
-abbrev pub invariant-loop-row : goal.invariant-loop-row
-invariant-loop-row g l = record {
-  rows : (r : ℕ) → r < l.row → HoldsRow l.self r l.all;
-}

@@ -1,6 +1,0 @@
-use Rattle.tileblock.proofs.Widening.{cell_between}
-use Rattle.tileblock.proofs.blocks.TileBlock.measure_cell.Goals as goal
-
-pub keep_cell-requires-clause-lie : goal.keep_cell-requires-clause-lie
-keep_cell-requires-clause-lie g c =
-    cell_between c.args.self.now c.cell_extremes-all.result c.args.span c.args.cell c.least_of_all.result c.greatest_of_all.result c.cell_extremes-all.ensures c.least_of_all.ensures c.greatest_of_all.ensures
