@@ -405,12 +405,14 @@ SIDES = {
 
 
 def script(name: str, frames: int) -> str:
-    """The script of a scene with so many frames."""
+    """The script of a scene with so many frames, each of which ends with a flush: else one that hides those before it
+    would be the only one to be drawn."""
     side = SIDES.get(name, SIDE)
     scene = Scene(side, side)
     add_frame = SCENES[name](scene)
     for _ in range(frames):
         add_frame(scene.immediate)
+        scene.immediate.flush()
     return scene.script()
 
 
