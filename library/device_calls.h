@@ -67,6 +67,9 @@ struct line_told {
          (on, x, y, pixel))                                                                                            \
     CALL(uint32_t, yz_handle_device_get_data, (struct handle *on, uint32_t query, uint64_t *count),                    \
          (on, query, count))                                                                                           \
+    CALL(uint32_t, yz_handle_device_history,                                                                           \
+         (struct handle *on, uint32_t x, uint32_t y, struct yuzuratchet_event *events, size_t room, uint64_t *count),  \
+         (on, x, y, events, room, count))                                                                              \
     CALL(uint32_t, yz_handle_device_read_colors,                                                                       \
          (struct handle *on, uint32_t y, uint32_t left, bool bgra, void *row, size_t pixels),                          \
          (on, y, left, bgra, row, pixels))                                                                             \

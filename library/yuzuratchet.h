@@ -145,8 +145,9 @@ struct yuzuratchet_history_report {
  * Tells the history of a pixel of a script: of the items that the immediate context draws and clears those that touch
  * the pixel, in their order, each with what it found and left there. They go to the front of `events`, which has room
  * for so many; what lies behind them is as it was. Where a line is refused or has a fault, as yuzuratchet_draw takes
- * the script, there is no history. Returns the status: done, refused, events too small, pixel range, or why an area
- * doesn't fit, and then nothing was written, the report included.
+ * the script, there is no history. For the history up to a line give as `script_size` the size of the script up to
+ * that line's end, its line feed included, where no query is open. Returns the status: done, refused, events too small,
+ * pixel range, or why an area doesn't fit, and then nothing was written, the report included.
  */
 uint32_t yuzuratchet_history(const uint8_t *script, size_t script_size, uint32_t x, uint32_t y,
                              struct yuzuratchet_event *events, size_t room, struct yuzuratchet_history_report *report);

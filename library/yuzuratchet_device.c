@@ -9,6 +9,7 @@
 
 _Static_assert(sizeof(yz_vertex) == 16 && _Alignof(yz_vertex) == 4, "a vertex has no gaps");
 _Static_assert(sizeof(yz_pixel) == 12 && _Alignof(yz_pixel) == 4, "a pixel is as the proved functions have it");
+_Static_assert(sizeof(struct yuzuratchet_event) == 48 && _Alignof(struct yuzuratchet_event) == 8, "so is an event");
 _Static_assert(sizeof(struct depth_stencil) == 52, "a description is as the proved functions have it");
 _Static_assert(sizeof(size_t) == 8 && sizeof(void *) == 8, "sizes and addresses have 64 bits");
 
@@ -23,6 +24,7 @@ void rattle_dealloc(void *block);
 /* Where a slice of nothing lies. */
 static const yz_vertex no_vertex;
 static const uint16_t no_index;
+static struct yuzuratchet_event no_event;
 
 static bool is_area(const void *at, size_t count, size_t each, size_t align) {
     const uintptr_t address = (uintptr_t)at;
@@ -122,6 +124,16 @@ yz_result yz_device_pixel(yz_device *device, uint32_t x, uint32_t y, yz_pixel *p
     return yz_handle_device_pixel(HANDLE(device), x, y, pixel);
 }
 
+yz_result yz_device_history(yz_device *device, uint32_t x, uint32_t y, struct yuzuratchet_event *events, size_t room,
+                            uint64_t *count) {
+    ENTER(device, DEVICE);
+    if (count == NULL || (events == NULL && room != 0)) return YZ_NULL_POINTER;
+    if (!is_area(events, room, sizeof *events, _Alignof(struct yuzuratchet_event))) return YZ_BAD_AREA;
+    struct yuzuratchet_event *const at = room == 0 ? &no_event : events;
+    const yz_result result = yz_handle_device_history(HANDLE(device), x, y, at, room, count);
+    return result == YZ_OK && *count > room ? YZ_EVENTS_TOO_SMALL : result;
+}
+
 static yz_result read_row(struct handle *device, enum yz_plane plane, uint32_t y, uint32_t left, void *row,
                           size_t pixels) {
     switch (plane) {
@@ -200,8 +212,9 @@ const char *yz_result_name(yz_result result) {
         NAME(YZ_DRAW_RANGE), NAME(YZ_INDEX_RANGE), NAME(YZ_TOPOLOGY_UNSET), NAME(YZ_SCISSOR_RECT), NAME(YZ_QUERY_OPEN),
         NAME(YZ_QUERY_NOT_OPEN), NAME(YZ_QUERY_NUMBER), NAME(YZ_QUERY_LEFT_OPEN), NAME(YZ_LIST_TOO_LONG),
         NAME(YZ_TOO_MANY_ISSUES), NAME(YZ_PIXEL_RANGE), NAME(YZ_NOT_ISSUED), NAME(YZ_PREDICATE_IN_LIST),
-        NAME(YZ_BAD_DESCRIPTION), NAME(YZ_NULL_POINTER), NAME(YZ_BAD_AREA), NAME(YZ_LINE_FORM), NAME(YZ_ACTOR),
-        NAME(YZ_COMMAND), NAME(YZ_ARGUMENT_COUNT), NAME(YZ_ARGUMENT), NAME(YZ_NO_SUCH_LIST)
+        NAME(YZ_BAD_DESCRIPTION), NAME(YZ_NULL_POINTER), NAME(YZ_BAD_AREA), NAME(YZ_EVENTS_TOO_SMALL),
+        NAME(YZ_LINE_FORM), NAME(YZ_ACTOR), NAME(YZ_COMMAND), NAME(YZ_ARGUMENT_COUNT), NAME(YZ_ARGUMENT),
+        NAME(YZ_NO_SUCH_LIST)
 #undef NAME
     };
     const char *const name = result < sizeof names / sizeof *names ? names[result] : NULL;
@@ -214,6 +227,7 @@ const char *yz_result_text(yz_result result) {
         case YZ_BAD_DESCRIPTION: return "a choice is none, or a description has a size that no version of it had";
         case YZ_NULL_POINTER: return "a pointer is null";
         case YZ_BAD_AREA: return "an area is misaligned, too large or too small";
+        case YZ_EVENTS_TOO_SMALL: return "the area has no room for all events";
         default: return yuzuratchet_refusal_text(result);
     }
 }

@@ -79,6 +79,8 @@ enum yz_results {
     YZ_NULL_POINTER = 33,
     /* An area is misaligned, is 2^63 bytes or more, runs past the last address, or has no room for the rows. */
     YZ_BAD_AREA = 34,
+    /* Of yz_device_history alone: the area has no room for all events. It is as it was. */
+    YZ_EVENTS_TOO_SMALL = 35,
     /* What is wrong with a line of a script (docs/SCRIPT.md). */
     YZ_LINE_FORM = 101,
     YZ_ACTOR = 103,
@@ -237,6 +239,14 @@ YZ_MUST_USE yz_result yz_device_pixel(yz_device *device, uint32_t x, uint32_t y,
  * BAD_AREA, PIXEL_RANGE, QUERY_OPEN, OUT_OF_MEMORY. An empty rectangle is a flush. */
 YZ_MUST_USE yz_result yz_device_read(yz_device *device, enum yz_plane plane, const yz_rect *rect, void *bytes,
                                      size_t size, size_t stride);
+
+/* The history of a pixel under the pending commands, which run none: what each clear and triangle that touches the pixel
+ * found and left there, from what it holds before them. A call that runs or executes leaves none of them pending.
+ * `count` is how many events there are; where `room` is for all, they go to the front of `events`, which may be null
+ * where `room` is 0. An event has line 0; `item` counts what is pending, and so does `command`, of which a state that is
+ * kept is the first. Refused with PIXEL_RANGE, QUERY_OPEN, OUT_OF_MEMORY, and EVENTS_TOO_SMALL, with the count told. */
+YZ_MUST_USE yz_result yz_device_history(yz_device *device, uint32_t x, uint32_t y, struct yuzuratchet_event *events,
+                                        size_t room, uint64_t *count);
 
 /* ---- a script, line by line */
 

@@ -1,6 +1,6 @@
 /*
  * What calls by objects do at their edges: null pointers, bad descriptions and areas, refusals that leave all as it
- * was, each request for memory refused in turn, and eight threads that record beside one another.
+ * was, histories of pixels, each request for memory refused in turn, and eight threads that record beside one another.
  */
 #include <pthread.h>
 
@@ -127,6 +127,78 @@ static void refusals(void) {
     CHECK(yz_device_get_data(device, 5, &count) == YZ_OK && count == 0);
     CHECK(yz_device_pixel(device, 63, 63, &pixel) == YZ_OK && pixel.depth == 16777215 && pixel.alpha == 0);
     yz_list_destroy(list), yz_context_destroy(context), yz_device_destroy(device);
+}
+
+/* ---- histories of pixels */
+
+enum { EVENTS = 4 };
+static struct yuzuratchet_event events[EVENTS];
+static uint64_t count;
+
+/* Asks for the history of a pixel, into events of which each byte is 99; whether the call ends with this result. */
+static bool tells(yz_device *device, uint32_t x, uint32_t y, size_t room, yz_result wanted) {
+    memset(events, 99, sizeof events);
+    return yz_device_history(device, x, y, events, room, &count) == wanted;
+}
+
+/* Whether nothing was told behind so many events. */
+static bool are_left(size_t from) {
+    return all_are((const uint8_t *)(events + from), (EVENTS - from) * sizeof *events, 99);
+}
+
+/* A clear, and the same triangle twice: the second is hidden. What is pending runs none for a history. */
+static void pending(yz_device *device) {
+    static const struct yuzuratchet_event told[] = {
+        {0, 0, 0, 0, 16777215, 16777215, {0, 0, 0, 0}, {1, 2, 3, 4}, 0, 0, 1, 1, 1},
+        {1, 0, 3, 0, 16777215, 0, {1, 2, 3, 4}, {200, 30, 40, 255}, 0, 0, 1, 1, 1},
+        {2, 0, 4, 0, 0, 0, {200, 30, 40, 255}, {200, 30, 40, 255}, 0, 0, 1, 0, 0}};
+    CHECK(yz_device_clear_color(device, 1, 2, 3, 4) == YZ_OK);
+    CHECK(yz_device_set_topology(device, YZ_TRIANGLE_LIST) == YZ_OK);
+    CHECK(yz_device_set_vertices(device, CORNERS, 3) == YZ_OK);
+    CHECK(yz_device_draw(device, 3, 0) == YZ_OK && yz_device_draw(device, 3, 0) == YZ_OK);
+    for (int again = 0; again < 2; again++) {
+        CHECK(tells(device, 31, 31, EVENTS, YZ_OK) && count == 3 && are_left(3));
+        CHECK(memcmp(events, told, sizeof told) == 0);
+        CHECK(tells(device, 31, 32, EVENTS, YZ_OK) && count == 1 && are_left(1));
+        CHECK(memcmp(events, told, sizeof *told) == 0);
+    }
+    CHECK(tells(device, 31, 31, 3, YZ_OK) && count == 3 && memcmp(events, told, sizeof told) == 0 && are_left(3));
+    CHECK(tells(device, 31, 31, 2, YZ_EVENTS_TOO_SMALL) && count == 3 && are_left(0));
+    CHECK(yz_device_history(device, 31, 31, NULL, 0, &count) == YZ_EVENTS_TOO_SMALL && count == 3);
+}
+
+/* What was executed lies before what is pending, whether it has run or waits; the kept state is the first command. */
+static void behind_an_execution(yz_device *device) {
+    yz_context *context = NULL;
+    yz_list *list = NULL;
+    CHECK(yz_context_create(&context) == YZ_OK && yz_context_clear_depth_stencil(context, 77, 5) == YZ_OK);
+    CHECK(yz_context_finish(context, 0, &list) == YZ_OK && yz_device_execute(device, list, 1) == YZ_OK);
+    CHECK(tells(device, 31, 31, EVENTS, YZ_OK) && count == 0 && are_left(0));
+    CHECK(yz_device_history(device, 31, 31, NULL, 0, &count) == YZ_OK && count == 0);
+    CHECK(yz_device_clear_color(device, 9, 8, 7, 6) == YZ_OK && yz_device_draw(device, 3, 0) == YZ_OK);
+    static const struct yuzuratchet_event told[] = {
+        {0, 0, 1, 0, 77, 77, {200, 30, 40, 255}, {9, 8, 7, 6}, 5, 5, 1, 1, 1},
+        {1, 0, 2, 0, 77, 0, {9, 8, 7, 6}, {200, 30, 40, 255}, 5, 5, 1, 1, 1}};
+    CHECK(tells(device, 31, 31, EVENTS, YZ_OK) && count == 2 && are_left(2));
+    CHECK(memcmp(events, told, sizeof told) == 0);
+    CHECK(yz_device_flush(device) == YZ_OK && tells(device, 31, 31, EVENTS, YZ_OK) && count == 0);
+    yz_list_destroy(list), yz_context_destroy(context);
+}
+
+static void histories(void) {
+    yz_device *const device = created();
+    CHECK(tells(device, 0, 0, EVENTS, YZ_OK) && count == 0 && are_left(0));
+    pending(device), behind_an_execution(device);
+    count = 5;
+    CHECK(tells(device, 64, 0, EVENTS, YZ_PIXEL_RANGE) && tells(device, 0, 64, EVENTS, YZ_PIXEL_RANGE));
+    CHECK(yz_device_begin(device, 0) == YZ_OK && tells(device, 0, 0, EVENTS, YZ_QUERY_OPEN));
+    CHECK(yz_device_history(device, 0, 0, NULL, 1, &count) == YZ_NULL_POINTER);
+    CHECK(yz_device_history(device, 0, 0, events, EVENTS, NULL) == YZ_NULL_POINTER);
+    CHECK(yz_device_history(NULL, 0, 0, events, EVENTS, &count) == YZ_NULL_POINTER);
+    CHECK(tells(device, 0, 0, SIZE_MAX / sizeof *events, YZ_BAD_AREA));
+    CHECK(yz_device_history(device, 0, 0, (void *)((uint8_t *)events + 4), 1, &count) == YZ_BAD_AREA);
+    CHECK(count == 5 && are_left(0));
+    yz_device_destroy(device);
 }
 
 /* ---- lines of a script */
@@ -290,6 +362,7 @@ int main(void) {
     colours();
     depths();
     refusals();
+    histories();
     lines_stay();
     lines_of_nothing();
     results();

@@ -3,15 +3,20 @@
 from __future__ import annotations
 
 import os
+import random
 import subprocess
 import sys
 import threading
 from concurrent.futures import ThreadPoolExecutor
+from dataclasses import replace
 from pathlib import Path
 
 import compare_calls
 import numpy as np
+import plain_device
 import pytest
+import random_scenes
+from compare_histories import plain
 from conftest import DATA, TOP, gallery_names
 
 from yuzuratchet import (
@@ -30,10 +35,14 @@ from yuzuratchet.calls import Device, LiveContext
 from yuzuratchet.errors import ProgramFailed, WrongType
 from yuzuratchet.images import load
 from yuzuratchet.library import run_library
+from yuzuratchet.reader import parse
 from yuzuratchet.recipes import count_overlaps
 from yuzuratchet.results import Result
 from yuzuratchet.scene import Context
 from yuzuratchet.shapes import draw_triangles, rectangle
+from yuzuratchet.words import IMMEDIATE
+
+Place = tuple[int, int]
 
 # the slowest scripts take seconds
 SLOW = ("large", "largest-target")
@@ -301,3 +310,75 @@ def test_threads_record_one_scene() -> None:
         thread.join()
     assert sum(line.word == "exec" for line in scene.lines) == 160
     assert np.array_equal(run(scene).image, device.image)
+
+
+RUNS = ("flush", "exec", "query", "pixel")
+
+
+def pending_events(scene: Scene, places: list[Place]) -> dict[Place, list[plain_device.Event]]:
+    """What the plain evaluation has of pixels behind the last line that runs or executes."""
+    own = [(at, line) for at, line in enumerate(scene.lines, 2) if line.actor == IMMEDIATE]
+    ran = [(at, line) for at, line in own if line.word in RUNS]
+    at, last = ran[-1] if ran else (1, None)
+    # (the state that is kept behind a run is the first pending command)
+    kept = last is not None and (last.word != "exec" or last.arguments[2] == 1)
+    commands = {
+        line: number for number, (line, _) in enumerate((it for it in own if it[0] > at), kept)
+    }
+    before = plain_device.Histories(scene.width, scene.height, [])
+    before.take_all(parse(scene.script())[2][: at - 1])
+    told = plain_device.histories(scene.script(), places)
+    return {
+        place: [
+            replace(it, item=it.item - before.items, line=0, command=commands[it.line])
+            for it in told[place]
+            if it.line > at
+        ]
+        for place in places
+    }
+
+
+def check_pending(scene: Scene, places: list[Place]) -> int:
+    """Holds the histories of a device on which a scene's calls were made against the plain ones; how many events."""
+    wanted = pending_events(scene, places)
+    with Device(scene.width, scene.height) as device:
+        device.replay(scene)
+        for again in range(2):
+            found = {place: device.immediate.history(*place) for place in places}
+            assert {place: [*map(plain, told)] for place, told in found.items()} == wanted, again
+    return sum(map(len, wanted.values()))
+
+
+def test_the_history_of_what_is_pending() -> None:
+    """Of random scenes with and without a last run, against the plain evaluation."""
+    chance, events = random.Random(7), 0
+    for number in range(20):
+        scene = random_scenes.random_scene(chance, number, asked=0)
+        places = [(chance.randrange(scene.width), chance.randrange(scene.height)) for _ in range(5)]
+        try:
+            events += check_pending(scene, places)
+        except CallRefused:
+            continue
+    assert events > 150
+
+
+def test_a_history_runs_nothing() -> None:
+    device = Device(4, 4)
+    immediate = device.immediate
+    assert immediate.history(1, 1) == []
+    for number in range(70):
+        immediate.clear_color((number, 0, 0, 255))
+    told = immediate.history(1, 1)
+    assert [it.item for it in told] == [it.command for it in told] == [*range(70)]
+    assert [it.after.colour[0] for it in told] == [*range(70)]
+    assert {it.line for it in told} == {0} and all(it.passed for it in told)
+    assert told[1].before == told[0].after and told[0].before.depth == 16777215
+    for place in ((4, 0), (0, 4)):
+        with pytest.raises(CallRefused, match="pixel"):
+            immediate.history(*place)
+    immediate.flush()
+    assert immediate.history(1, 1) == []
+    immediate.begin(3)
+    with pytest.raises(CallRefused) as refused:
+        immediate.history(1, 1)
+    assert refused.value.number == 9

@@ -43,6 +43,19 @@ def test_explain(scene: Path, program: Path, capsys: pytest.CaptureFixture[str])
     )
 
 
+def test_explain_up_to_a_line(
+    tmp_path: Path, program: Path, capsys: pytest.CaptureFixture[str]
+) -> None:
+    script = tmp_path / "steps.txt"
+    script.write_text(STEPS + "nonsense\n")
+    words = ["explain", str(script), "0", "0", "--program", str(program)]
+    assert main([*words, "--at", "6"]) == 0
+    told = capsys.readouterr().out.splitlines()
+    assert told[0].endswith("holds colour 1 2 3 4, depth 5 (0.0000), stencil 0")
+    assert [it.split()[0] for it in told[3:] if it[0] != " "] == ["2", "6"]
+    assert main([*words, "--at", "11"]) == 2 and main(words) == 1
+
+
 def test_explain_tells_of_a_script_that_is_refused(
     tmp_path: Path, program: Path, capsys: pytest.CaptureFixture[str]
 ) -> None:
@@ -205,6 +218,23 @@ def test_draw_a_plane(tmp_path: Path, program: Path) -> None:
     white, black = [255, 255, 255, 255], [0, 0, 0, 255]
     assert drawn(tmp_path, program, "--plane", "depth") == [[white, black], [black, black]]
     assert drawn(tmp_path, program, "--plane", "stencil") == [[black] * 2] * 2
+
+
+def test_draw_how_often_pixels_were_touched(tmp_path: Path, program: Path) -> None:
+    """The least is dark blue, the most nearly white, and none black."""
+    least, most, none = [20, 20, 90, 255], [255, 255, 200, 255], [0, 0, 0, 255]
+    assert drawn(tmp_path, program, "--plane", "overdraw") == [[most, least], [least, least]]
+    assert drawn(tmp_path, program, "--plane", "overdraw", "--at", "5") == [[least] * 2] * 2
+    assert drawn(tmp_path, program, "--plane", "overdraw", "--at", "1") == [[none] * 2] * 2
+
+
+def test_draw_what_the_last_line_changed(tmp_path: Path, program: Path) -> None:
+    """Red where the colour, green where the depth."""
+    none, both = [0, 0, 0, 255], [255, 255, 0, 255]
+    changed = ["--plane", "changed"]
+    assert drawn(tmp_path, program, *changed, "--at", "6") == [[both, none], [none, none]]
+    assert drawn(tmp_path, program, *changed, "--at", "7") == [[[255, 0, 0, 255]] * 2] * 2
+    assert drawn(tmp_path, program, *changed) == [[none] * 2] * 2
 
 
 def test_draw_from_and_to_standard_streams(scene: Path, program: Path) -> None:

@@ -3,7 +3,9 @@
 from __future__ import annotations
 
 import random
+from typing import Sequence
 
+import numpy as np
 import plain_device
 import pytest
 import random_scenes
@@ -11,11 +13,12 @@ import random_scenes
 from yuzuratchet import Scene
 from yuzuratchet.covering import (
     Covered,
+    Edges,
+    Point,
     SnappedTriangles,
     depth_at,
     snapped,
     triangle_places,
-    weights_at,
 )
 from yuzuratchet.explanation import Covering
 from yuzuratchet.limits import DEEPEST, STRIP_CUT
@@ -27,6 +30,13 @@ from yuzuratchet.unrolling import Unrolled
 LEFT_TOP = (128, 128), (2176, 128), (128, 2176)
 RIGHT_BOTTOM = (2176, 128), (2176, 2176), (128, 2176)
 ON_LEFT, ON_TOP, ON_DIAGONAL, ON_RIGHT = (128, 1152), (1152, 128), (1152, 1152), (2176, 1152)
+
+
+def weights_at(corners: Sequence[Point], centre: Point) -> list[int] | None:
+    """The weights of one triangle at a point, or None where it doesn't cover it."""
+    x, y = np.array(corners, np.int64)[:, :, None].transpose(1, 0, 2)
+    weights, covering = Edges.of(x, y).weights_at(centre)
+    return list(map(int, weights[:, 0])) if covering.size else None
 
 
 def draws_of(scene: Scene) -> list[Item]:
@@ -50,7 +60,7 @@ def test_coordinates_go_to_the_nearest_part_and_at_ties_to_the_even_one() -> Non
 
 
 @pytest.mark.parametrize("corners", [LEFT_TOP, LEFT_TOP[::-1]])
-def test_left_and_top_edges_belong_to_a_triangle(corners: tuple[tuple[int, int], ...]) -> None:
+def test_left_and_top_edges_belong_to_a_triangle(corners: tuple[Point, ...]) -> None:
     assert weights_at(corners, ON_LEFT) and weights_at(corners, ON_TOP)
     assert weights_at(corners, ON_DIAGONAL) is None
 

@@ -216,6 +216,21 @@ def test_what_is_asked_is_told(how: How) -> None:
     assert told == [wanted]
 
 
+def test_up_to_a_line(how: How) -> None:
+    text = "target 2 2\ni clearc 1 2 3 4\ni begin 0\ni cleards 5 6\ni end 0\ni clearc 7 7 7 7\n"
+    scene = read_script(text)
+    found = {at: explain(scene, 1, 0, at=at, **how) for at in (1, 2, 4, 6)}
+    assert {at: [step.item.number for step in it.steps] for at, it in found.items()} == {
+        1: [],
+        2: [2],
+        4: [2, 4],
+        6: [2, 4, 6],
+    }
+    assert found[4].content == Content((1, 2, 3, 4), 5, 6)
+    with pytest.raises(ArgumentError):
+        explain(scene, 0, 0, at=7, **how)
+
+
 def test_an_older_library_draws_step_by_step(
     history_library: Path, monkeypatch: pytest.MonkeyPatch
 ) -> None:

@@ -18,7 +18,7 @@ import random_scenes
 import yuzuratchet.library
 from yuzuratchet import ArgumentError, LibraryMissing, Scene, ScriptRefused, read_script
 from yuzuratchet.errors import CallRefused, ProgramFailed
-from yuzuratchet.history import EVENT, history, overdraw
+from yuzuratchet.history import EVENT, history
 from yuzuratchet.library import EVENT_SIZE
 
 NEW = (0, 0, 0, 0), 16_777_215, 0
@@ -181,14 +181,33 @@ def test_room_for_fewer_events_than_there_are(history_library: str) -> None:
         assert history(text, 0, 0, library=history_library, room=room) == events
 
 
-def test_how_often_pixels_were_touched(history_library: str) -> None:
-    text = "target 16 8\ni clearc 1 2 3 4\ni topology 4\n"
-    text += f"{vertices((0, 5, 5, 5), (4, 9, 9, 9))}i draw 6 0\n"
-    counts = overdraw(read_script(text), 1, 0, 13, 1, library=history_library)
-    assert counts.tolist() == [[2, 2, 2, 3, 3, 3, 2, 2, 2, 2, 1, 1]]
-    assert overdraw(read_script(text), 3, 3, 3, 5, library=history_library).shape == (2, 0)
-    with pytest.raises(ArgumentError):
-        overdraw(read_script(text), 0, 0, 17, 1, library=history_library)
+def test_the_history_up_to_a_line(history_library: str) -> None:
+    """It is the beginning of the history over all lines: a line of the immediate context is no part of
+    it before, and all of it behind."""
+    chance, compared, number = random.Random(7), 0, 0
+    while compared < 60:
+        scene = random_scenes.random_scene(chance, number, asked=0, kinds=compare_histories.KINDS)
+        number, (x, y) = number + 1, (chance.randrange(scene.width), chance.randrange(scene.height))
+        try:
+            whole = scene.history(x, y, library=history_library)
+        except ScriptRefused:
+            continue
+        last = len(scene.lines) + 1
+        for at in {1, last, *(chance.randrange(1, last + 1) for _ in range(6))}:
+            found = scene.history(x, y, at=at, library=history_library)
+            assert found == [it for it in whole if it.line <= at]
+            compared += len(found)
+
+
+def test_lines_that_there_are_not_and_a_query_that_is_open(history_library: str) -> None:
+    text = b"target 2 2\ni begin 0\ni clearc 1 2 3 4\ni end 0\ni draw 3 0\n"
+    (event,) = history(text, 0, 0, at=3, library=history_library)
+    assert (event.line, history(text, 0, 0, at=2, library=history_library)) == (3, [])
+    for line in (0, 6):
+        with pytest.raises(ArgumentError, match="is not in 1 to 5"):
+            history(text, 0, 0, at=line, library=history_library)
+    with pytest.raises(ScriptRefused):
+        history(text, 0, 0, at=5, library=history_library)
 
 
 @pytest.mark.parametrize(("x", "y"), [(2, 0), (0, 2), (-1, 0), (2**32, 0)])

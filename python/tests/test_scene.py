@@ -530,3 +530,18 @@ def test_the_text_of_a_line_is_made_once(monkeypatch: pytest.MonkeyPatch) -> Non
         scene.immediate.draw(3)
         scene.script()
     assert len(made) == len(scene.lines) == 53
+
+
+def test_a_scene_up_to_a_line() -> None:
+    """Queries that are open there are ended, and names of its lines stay."""
+    scene = Scene(2, 2)
+    with scene.label("ground"), scene.immediate.counted(3):
+        scene.immediate.clear_color("#010203")
+    scene.label("more")
+    scene.immediate.clear_depth_stencil()
+    assert scene.up_to(3).script() == "target 2 2\ni begin 3\ni clearc 1 2 3 255\ni end 3\n"
+    assert scene.up_to(5).script() == scene.script() and not scene.up_to(1).lines
+    assert [*scene.up_to(3).labels] == [(2, "ground")]
+    for line in (0, 6):
+        with pytest.raises(ArgumentError, match="is not in 1 to 5"):
+            scene.up_to(line)

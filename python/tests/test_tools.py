@@ -135,6 +135,8 @@ def test_each_file_is_a_tool_or_a_module() -> None:
         ("bench/scenes.py", "clear", "0"),
         ("bench/suites.py", "--scripts", "3"),
         ("bench/suites.py", "--program", "/no/such/program"),
+        ("bench/unchecked.py",),
+        ("bench/unchecked.py", "--clone", "/no/such/clone", "program"),
         ("bench/run.py", "nothing"),
         ("bench/run.py", "clear", "--runs", "0"),
         ("bench/run.py", "clear", "--workers", "16"),

@@ -22,7 +22,8 @@ import { triangles } from "./assembly.js";
  */
 
 /** Parts of a pixel to which corners are snapped. */
-const GRID = 256;
+export const GRID = 256;
+const CULL_FRONT = "2", CULL_BACK = "3";
 const ROW = 7, DEPTH = 2, COLOUR = 3;
 /** @type {[number, number][]} the edges, each opposite to the corner of its place */
 const EDGES = [[1, 2], [2, 0], [0, 1]];
@@ -39,6 +40,29 @@ export function snapped(place, unit) {
 }
 
 /**
+ * @typedef {{x: number, y: number, right: number, down: number, least: number}} Edge where an edge begins, how far it
+ * goes where its triangle goes clockwise, and the least weight of a point that belongs to the triangle
+ */
+
+/**
+ * The edges of a triangle, each opposite to the corner of its place, and which way it goes: 1 is clockwise, -1
+ * anticlockwise, and 0 neither.
+ *
+ * @param {number[]} x
+ * @param {number[]} y
+ * @returns {{turn: number, edges: Edge[]}}
+ */
+export function edgesOf(x, y) {
+    const turn = Math.sign((x[1] - x[0]) * (y[2] - y[0]) - (y[1] - y[0]) * (x[2] - x[0]));
+    const edges = EDGES.map(([p, q]) => {
+        const right = turn * (x[q] - x[p]), down = turn * (y[q] - y[p]);
+        // (a left edge goes up, and a top one to the right)
+        return { x: x[p], y: y[p], right, down, least: down < 0 || (down === 0 && right > 0) ? 0 : 1 };
+    });
+    return { turn, edges };
+}
+
+/**
  * How much of a triangle's area lies opposite to each corner, seen from a point on the grid, or null where it doesn't
  * cover the point. Below 0 where it goes anticlockwise.
  *
@@ -47,17 +71,24 @@ export function snapped(place, unit) {
  * @param {Pixel} centre
  */
 export function weightsAt(x, y, centre) {
-    const area = (x[1] - x[0]) * (y[2] - y[0]) - (y[1] - y[0]) * (x[2] - x[0]);
-    const turn = Math.sign(area);
+    const { turn, edges } = edgesOf(x, y);
     const weights = [];
-    for (const [p, q] of EDGES) {
-        const right = turn * (x[q] - x[p]), down = turn * (y[q] - y[p]);
-        const weight = right * (centre.y - y[p]) - down * (centre.x - x[p]);
-        // (a left edge goes up, and a top one to the right, where the triangle goes clockwise)
-        if (weight < 0 || (weight === 0 && !(down < 0 || (down === 0 && right > 0)))) return null;
+    for (const edge of edges) {
+        const weight = edge.right * (centre.y - edge.y) - edge.down * (centre.x - edge.x);
+        if (weight < edge.least) return null;
         weights.push(turn * weight);
     }
     return weights;
+}
+
+/**
+ * Whether the cull mode drops a triangle whose front is seen, or whose back is.
+ *
+ * @param {string} cull the number of a `raster` line
+ * @param {boolean} isFront
+ */
+export function isCulled(cull, isFront) {
+    return cull === (isFront ? CULL_FRONT : CULL_BACK);
 }
 
 /**

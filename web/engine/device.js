@@ -8,10 +8,14 @@ import { ColorWriteEnable, ComparisonFunc, CullMode, LogicOp, Plane, StencilOp }
 import { channels, signed, storedDepth, vertexBytes, whole } from "./units.js";
 
 /** @typedef {import("./module.js").Module} Module */
+/** @typedef {import("./module.js").Event} Event */
 /** @typedef {import("./targa.js").Picture} Picture */
 /** @typedef {import("./units.js").Colour} Colour */
 /** @typedef {import("./units.js").Vertices} Vertices */
-/** @typedef {{x: number, y: number, colour: number[], depth: number, stencil: number}} PixelValue */
+/**
+ * @typedef {{x: number, y: number, colour: number[], depth: number, stencil: number, touched?: number}} PixelValue what
+ * a pixel holds, and how often it was touched, where that is asked for
+ */
 /**
  * @typedef {{cullMode?: number, frontCounterClockwise?: boolean, scissorEnable?: boolean, depthBias?: number}} Raster
  */
@@ -31,6 +35,8 @@ import { channels, signed, storedDepth, vertexBytes, whole } from "./units.js";
 const CONTEXTS = 8;
 // sizes in bytes, as C has them
 const ADDRESS = 8, COUNT = 8, PIXEL = 12, PLAYED = 3 * COUNT + 176;
+// how many events are expected of a pixel, and the answer where there are more
+const EXPECTED_EVENTS = 64, EVENTS_TOO_SMALL = 35;
 const DEVICE_DESC = 16, RASTER_DESC = 24, DEPTH_STENCIL_DESC = 64, BLEND_DESC = 24;
 
 /** Why a call was refused: `number` is that of yz_result, and `name` its name. */
@@ -406,6 +412,28 @@ export class ImmediateContext extends Context {
             const told = new DataView(module.calls.memory.buffer, Number(area), PIXEL);
             const colour = [4, 5, 6, 7].map((at) => told.getUint8(at));
             return { x, y, colour, depth: told.getUint32(0, true), stencil: told.getUint8(8) };
+        });
+    }
+
+    /**
+     * What each clear and triangle that is pending does to a pixel that it touches. None of them runs for it; what runs
+     * or executes leaves none pending. An event has line 0; `item` counts what is pending and `command` the calls, of
+     * which a state that is kept is the first.
+     *
+     * @param {number} x
+     * @param {number} y
+     * @param {number} [room] how many events are expected
+     * @returns {Event[]}
+     */
+    history(x, y, room = EXPECTED_EVENTS) {
+        const { module, at } = this.held;
+        return module.lent(COUNT + module.layout.event.size * room, (area) => {
+            const events = area + BigInt(COUNT);
+            const result = module.objects.yz_device_history(at, ...wholes({ x, y }), events, BigInt(room), area);
+            const count = Number(new DataView(module.calls.memory.buffer).getBigUint64(Number(area), true));
+            if (result === EVENTS_TOO_SMALL) return this.history(x, y, count);
+            lookAt(module, "device_history", result);
+            return module.eventsIn(events, count);
         });
     }
 }

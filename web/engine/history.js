@@ -3,12 +3,14 @@
 // What touched the pixel, and what it found and left there, is the device's history of it. Which triangles cover it and
 // why some of them don't touch it follows from the script's own numbers. The package's `explain` tells the same.
 
-import { Triangles } from "./covering.js";
+import { Triangles, isCulled } from "./covering.js";
+import { overdraw } from "./overdraw.js";
 
 /** @typedef {import("./covering.js").Covering} Covering */
 /** @typedef {import("./device.js").PixelValue} PixelValue */
 /** @typedef {import("./language.js").Tables} Tables */
 /** @typedef {import("./module.js").Event} Event */
+/** @typedef {import("./planes.js").Values} Values */
 /** @typedef {import("./player.js").Player} Player */
 /** @typedef {import("./session.js").Item} Item */
 /** @typedef {import("./session.js").Performed} Performed */
@@ -38,7 +40,7 @@ export const OUTCOMES = {
     depth: "the depth test fails",
 };
 const STATES = ["raster", "scissor", "ds", "blend"];
-const CULL_FRONT = "2", CULL_BACK = "3";
+const EVERYWHERE = [0, 0, Infinity, Infinity];
 
 /**
  * Whether two values of a pixel are the same.
@@ -61,6 +63,20 @@ export class PixelHistory {
         this.script = player.script;
         this.tables = tables;
         this.triangles = new Triangles(player.script, tables.limits);
+        /** @type {{line: number, plane: Values} | null} how often pixels were touched, behind a line */
+        this.counted = null;
+    }
+
+    /** How often each pixel was touched, where that was counted, or null. */
+    get known() {
+        return this.counted?.line === this.player.line ? this.counted.plane : null;
+    }
+
+    /** How often each pixel was touched. */
+    get touched() {
+        const plane = this.known || overdraw(this);
+        this.counted = { line: this.player.line, plane };
+        return plane;
     }
 
     /**
@@ -115,8 +131,7 @@ export class PixelHistory {
      * @param {{x: number, y: number}} pixel
      */
     covering(item, pixel) {
-        const [, front, , bias = "0"] = this.stateOf(item, "raster").split(" ");
-        return this.triangles.on(item, pixel, { isCounterClockwise: front === "1", bias: Number(bias) });
+        return this.triangles.on(item, pixel, this.rasterizerOf(item));
     }
 
     /**
@@ -131,10 +146,21 @@ export class PixelHistory {
     refusal(performed, item, covering, { x, y }) {
         if (this.player.withholds(performed, item)) return "leftOut";
         if (!covering) return null;
-        const [cull, , isCut] = this.stateOf(item, "raster").split(" ");
-        if (cull === (covering.isFront ? CULL_FRONT : CULL_BACK)) return "culled";
-        const [left, top, right, bottom] = this.stateOf(item, "scissor").split(" ").map(Number);
-        return isCut === "1" && !(left <= x && x < right && top <= y && y < bottom) ? "scissor" : null;
+        const { cull, box } = this.rasterizerOf(item);
+        if (isCulled(cull, covering.isFront)) return "culled";
+        return box.left <= x && x < box.right && box.top <= y && y < box.bottom ? null : "scissor";
+    }
+
+    /**
+     * How the triangles of a draw are culled, biased, and cut by the scissor rectangle, if it acts.
+     *
+     * @param {Item} item
+     */
+    rasterizerOf(item) {
+        const [cull, front, isCut, bias = "0"] = this.stateOf(item, "raster").split(" ");
+        const scissor = isCut === "1" ? this.stateOf(item, "scissor").split(" ").map(Number) : EVERYWHERE;
+        const [left, top, right, bottom] = scissor;
+        return { cull, isCounterClockwise: front === "1", bias: Number(bias), box: { left, top, right, bottom } };
     }
 
     /**

@@ -45,6 +45,8 @@ export class Kept {
         this.player = null;
         /** @type {PixelHistory | null} */
         this.history = null;
+        /** @type {import("./changes.js").Contents | null} what the target held where it was last asked what changed */
+        this.contents = null;
     }
 
     /**

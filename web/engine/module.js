@@ -172,12 +172,23 @@ export class Module {
             this.bytes(text, script.length).set(script);
             const status = this.calls.yuzuratchet_history(
                 text, BigInt(script.length), pixel.x, pixel.y, events, BigInt(most), report);
-            const told = new DataView(this.calls.memory.buffer, Number(report), texts);
+            const told = new DataView(this.calls.memory.buffer, Number(report), reported.size);
             const count = Number(told.getBigUint64(reported.count, true));
             if (status === tooSmall.number) return this.history(script, pixel, count);
             if (status !== done.number) throw new Error(`${this.textOf(status)} (${status})`);
-            return Array.from({ length: count }, (_, at) => eventOf(told, reported.size + event.size * at, event));
+            return this.eventsIn(events, count);
         });
+    }
+
+    /**
+     * So many events in an area.
+     *
+     * @param {bigint} area
+     * @param {number} count
+     */
+    eventsIn(area, count) {
+        const { event } = this.layout, told = new DataView(this.calls.memory.buffer, Number(area), event.size * count);
+        return Array.from({ length: count }, (_, at) => eventOf(told, event.size * at, event));
     }
 
     /**

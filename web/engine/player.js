@@ -2,7 +2,6 @@
 
 import { Device } from "./device.js";
 import { record } from "./recording.js";
-import { bytesOf } from "./script.js";
 import { Session } from "./session.js";
 import { Plane } from "./states.js";
 
@@ -45,13 +44,7 @@ export class Player {
 
     /** The lines whose calls were made, and behind them the ends of the queries that are open. */
     get text() {
-        const { open } = this.session.context("i");
-        const lines = this.script.slice(1, this.line);
-        const ends = bytesOf([...open.keys()].map((query) => `i end ${query}\n`).join(""));
-        const text = new Uint8Array(lines.length + ends.length);
-        text.set(lines);
-        text.set(ends, lines.length);
-        return text;
+        return this.session.text;
     }
 
     /**

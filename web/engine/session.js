@@ -1,13 +1,14 @@
 // What the contexts of a script hold behind a line: states by the lines that set them, what is recorded and pending,
 // and what ran.
 
+import { Script, bytesOf } from "./script.js";
+
 /** The words that set a state. */
 export const KINDS = ["topology", "vb", "ib", "raster", "scissor", "ds", "blend", "predicate"];
 
 export const DRAWING = new Set(["draw", "drawi", "clearc", "cleards"]);
 const RUNNING = new Set(["flush", "query", "pixel"]);
 
-/** @typedef {import("./script.js").Script} Script */
 /** @typedef {Record<string, number>} State of each kind the line that set it, or 0 where it is the default */
 /**
  * @typedef {{line: number, word: string, state: State, command: number}} Item a draw or a clear, with the state that it
@@ -153,6 +154,16 @@ export class Session {
         if (list) this.perform(list, line, line);
     }
 
+    /** The lines that were taken, and the ends of the queries that are open behind them, while which nothing runs. */
+    get text() {
+        const lines = this.script.slice(1, this.line);
+        const ends = bytesOf([...this.context("i").open.keys()].map((query) => `i end ${query}\n`).join(""));
+        const text = new Uint8Array(lines.length + ends.length);
+        text.set(lines);
+        text.set(ends, lines.length);
+        return text;
+    }
+
     /**
      * What is pending behind the last line that was taken, as it runs there.
      *
@@ -173,4 +184,18 @@ export class Session {
         for (const query of list.issues) this.issued.add(query);
         this.performed.push({ list, at, by });
     }
+}
+
+/**
+ * The text up to a line, which is counted from 1 and included. Queries that the immediate context has open there are
+ * ended; behind the last line nothing is added.
+ *
+ * @param {Uint8Array} text
+ * @param {number} line
+ */
+export function upTo(text, line) {
+    const script = new Script(text);
+    if (!Number.isInteger(line) || line < 1 || line > script.count)
+        throw new RangeError(`${line} is not in 1 to ${script.count}, the lines of the script`);
+    return line === script.count ? text : new Session(script).takeTo(line).text;
 }

@@ -3,17 +3,19 @@
 // A job is {number, kind, bytes, last, ..}; its answer is {number, milliseconds, ..} or {number, error}. All is read from
 // a device that stays, and goes on to the line that is asked for.
 
+import { changesOf } from "./changes.js";
 import { difference } from "./difference.js";
 import { Shelf } from "./kept.js";
 import { Module } from "./module.js";
-import { depthPicture, rangeOf, stencilPicture } from "./planes.js";
+import { depthPicture, heatPicture, rangeOf, stencilPicture, touchedOf } from "./planes.js";
 import { pixelsOf } from "./player.js";
 import { Script, bytesOf } from "./script.js";
 import { stateAt } from "./state.js";
 import { Plane } from "./states.js";
 import { opaque } from "./targa.js";
 
-/** @typedef {import("./device.js").Device} Device */
+/** @typedef {import("./changes.js").Changes} Changes */
+/** @typedef {import("./kept.js").Kept} Kept */
 /** @typedef {import("./planes.js").Range} Range */
 /** @typedef {import("./planes.js").Values} Values */
 /** @typedef {import("./targa.js").Picture} Picture */
@@ -45,16 +47,6 @@ function kept(of) {
 }
 
 /**
- * The device of a script as it is behind a line.
- *
- * @param {Script} of
- * @param {number} last
- */
-function deviceBehind(of, last) {
-    return kept(of).behind(last).device;
-}
-
-/**
  * The script with a text, to be shown beside this one, played as far as it goes.
  *
  * @param {string} text
@@ -64,7 +56,8 @@ function playedBeside(text) {
         if (beside) shelf?.forget(beside.script);
         beside = { text, script: new Script(bytesOf(text)) };
     }
-    return kept(beside.script).play(beside.script.count);
+    const of = kept(beside.script);
+    return { ...of.play(beside.script.count), of };
 }
 
 /** What is known of scripts. */
@@ -92,16 +85,20 @@ const JOBS = {
     },
 
     planes({ last, what, range }) {
-        const plane = planeOf(deviceBehind(script, last), what, depths);
+        const plane = planeOf(kept(script), last, what, depths);
+        if (what === "overdraw") {
+            const touched = touchedOf(plane.values);
+            return { picture: heatPicture(plane, touched), touched };
+        }
         if (plane.values instanceof Uint32Array) depths = plane.values;
         const found = what === "depth" ? rangeOf(plane.values, known().limits.deepest) : null;
         return { picture: pictureOf(plane, found && within(range, found)), range: found };
     },
 
-    pixels({ last, area, other }) {
-        const values = pixelsOf(deviceBehind(script, last), area);
-        const another = other ? playedBeside(other).player : null;
-        return { area, values, besides: another && pixelsOf(another.device, area) };
+    pixels({ last, area, other, what }) {
+        const values = valuesOf(kept(script), last, area, what);
+        const { player, of } = other ? playedBeside(other) : { player: null, of: null };
+        return { area, values, besides: player && of && valuesOf(of, player.line, area, what) };
     },
 
     state({ last }) {
@@ -109,14 +106,15 @@ const JOBS = {
     },
 
     changed({ last, what }) {
-        const [before, after] = [last - 1, last].map((line) => targetOf(deviceBehind(script, line), what));
-        return { difference: differenceOf(before, after) };
+        const changes = changesOf(kept(script), last, what === "overdraw" ? known() : null);
+        const counts = Object.fromEntries(Object.entries(changes).map(([name, it]) => [name, it ? it.count : 0]));
+        return { difference: changes[planeNamed(what)], counts };
     },
 
     beside({ last, what, range, other }) {
-        const { player, refused } = playedBeside(other);
+        const { player, refused, of } = playedBeside(other);
         if (!player) return { refused, picture: null, difference: null, isSameSize: false };
-        const [mine, others] = [deviceBehind(script, last), player.device].map((device) => targetOf(device, what));
+        const mine = targetOf(kept(script), last, what), others = targetOf(of, player.line, what);
         const isSameSize = mine.width === others.width && mine.height === others.height;
         const found = isSameSize ? differenceOf(mine, others) : null;
         return { refused, picture: besidePicture(mine, others, what, range), difference: found, isSameSize };
@@ -128,18 +126,45 @@ const JOBS = {
 };
 
 /**
- * The depths or the stencil of a device.
+ * The depths or the stencil of a script's device behind a line, or how often its pixels were touched.
  *
- * @param {Device} device
+ * @param {Kept} of
+ * @param {number} last
  * @param {string} what
  * @param {Uint32Array} [room] where depths go, if they are as many
  * @returns {Values}
  */
-function planeOf(device, what, room) {
-    const { width, height } = device;
+function planeOf(of, last, what, room) {
+    if (what === "overdraw") return of.historyBehind(last, known()).touched;
+    const { device } = of.behind(last), { width, height } = device;
     if (what !== "depth") return { width, height, values: device.read(Plane.STENCIL8) };
     const into = room && room.length === width * height ? room : undefined;
     return { width, height, values: device.read(Plane.DEPTH32, { into }) };
+}
+
+/**
+ * What the pixels of an area hold behind a line, and how often they were touched, where that is shown and was counted.
+ *
+ * @param {Kept} of
+ * @param {number} last
+ * @param {import("./player.js").Area} area
+ * @param {string} what
+ */
+function valuesOf(of, last, area, what) {
+    const values = pixelsOf(of.behind(last).device, area);
+    const counted = what === "overdraw" && of.history && of.history.known;
+    if (!counted) return values;
+    return values.map((it) => ({ ...it, touched: counted.values[counted.width * it.y + it.x] }));
+}
+
+/**
+ * What changes where what is shown does.
+ *
+ * @param {string} what
+ * @returns {keyof Changes}
+ */
+function planeNamed(what) {
+    return COLOURS.includes(what) ? "colour" : /** @type {keyof Changes} */ (what);
 }
 
 /**
@@ -153,14 +178,16 @@ function pictureOf(plane, range) {
 /** @typedef {Picture & {plane: Values | null}} Target colours, and the plane that is shown in their place */
 
 /**
- * What a device holds.
+ * What a script's device holds behind a line.
  *
- * @param {Device} device
+ * @param {Kept} of
+ * @param {number} last
  * @param {string} what
  * @returns {Target}
  */
-function targetOf(device, what) {
-    return { ...device.picture(), plane: COLOURS.includes(what) ? null : planeOf(device, what) };
+function targetOf(of, last, what) {
+    const picture = of.behind(last).device.picture();
+    return { ...picture, plane: COLOURS.includes(what) ? null : planeOf(of, last, what) };
 }
 
 /**
@@ -184,6 +211,7 @@ function differenceOf(one, other) {
  */
 function besidePicture(mine, others, what, range) {
     if (!mine.plane || !others.plane) return what === "opaque" ? opaque(others) : others;
+    if (what === "overdraw") return heatPicture(others.plane, touchedOf(mine.plane.values));
     const isDepth = what === "depth";
     return pictureOf(
         others.plane, isDepth ? within(range, rangeOf(mine.plane.values, known().limits.deepest)) : null);

@@ -45,8 +45,12 @@ export interface Event {
     after: Content;
 }
 
-/** What touched a pixel of a script's target, in order. Fails too where a line is refused, or there is no such pixel. */
-export function history(script: string | Uint8Array, x: number, y: number): Promise<Event[]>;
+/**
+ * What touched a pixel of a script's target, in order: over all lines, or those up to `at`, which is counted from 1.
+ * Fails too where a line is refused, or there is no such pixel or line.
+ */
+export function history(
+    script: string | Uint8Array, x: number, y: number, options?: { at?: number }): Promise<Event[]>;
 
 /**
  * Starts the module, which `draw` and `createDevice` do where they have to; one that lies elsewhere is given by its
@@ -154,6 +158,11 @@ export class ImmediateContext extends Context {
     /** How many pixels the last begin and end of a query counted. */
     getData(query: number): number;
     pixel(x: number, y: number): PixelValue;
+    /**
+     * What each clear and triangle that is pending does to a pixel that it touches; none of them runs for it. An event
+     * has line 0; `item` counts what is pending and `command` the calls, of which a state that is kept is the first.
+     */
+    history(x: number, y: number): Event[];
 }
 
 /** The pixels with left <= x < right and top <= y < bottom, all where none are told. */

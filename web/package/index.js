@@ -3,6 +3,7 @@
 import { Device } from "./engine/device.js";
 import { Module, answersOf, refusalOf } from "./engine/module.js";
 import { bytesOf } from "./engine/script.js";
+import { upTo } from "./engine/session.js";
 import { decodeTarga } from "./engine/targa.js";
 import { LAYOUT } from "./layout.js";
 
@@ -81,15 +82,17 @@ export async function draw(script) {
 }
 
 /**
- * What touched a pixel of a script's target, in order.
+ * What touched a pixel of a script's target, in order: over all lines, or those up to `at`.
  *
  * @param {string | Uint8Array} script
  * @param {number} x
  * @param {number} y
+ * @param {{at?: number}} options
  * @returns {Promise<import("./index.js").Event[]>}
  */
-export async function history(script, x, y) {
-    return (await ownDevice()).history(bytesOfScript(script), { x, y }, EXPECTED_EVENTS);
+export async function history(script, x, y, { at } = {}) {
+    const text = bytesOfScript(script);
+    return (await ownDevice()).history(at === undefined ? text : upTo(text, at), { x, y }, EXPECTED_EVENTS);
 }
 
 /** @param {string | Uint8Array} script */

@@ -250,25 +250,40 @@ export class Page {
         part("answers").replaceChildren(
             answersShown(told.answers, told.questions, isFaulty, (line) => this.goTo(line)));
         document.documentElement.dataset.milliseconds = told.milliseconds.toFixed(2);
-        this.pixels.ask({ last: this.shown, other: null });
+        this.askPixels(null);
         this.askState();
         this.showPicture();
         this.compare();
     }
 
-    /** Shows of the image what is chosen: its colours at once, depth or stencil when the device has told them. */
+    /**
+     * Asks again for the pixel that is pointed at or kept, and for that of a text beside this one.
+     *
+     * @param {string | null} other
+     */
+    askPixels(other) {
+        this.pixels.ask({ last: this.shown, other, what: this.what });
+    }
+
+    /** Shows of the image what is chosen: its colours at once, all else when the device has told it. */
     showPicture() {
         const { what } = this;
         const { colours } = this;
         part("range").hidden = what !== "depth";
+        part("heat").hidden = what !== "overdraw" || !colours;
         if (!colours || what === "opaque" || what === "alpha") {
             this.show(colours && (what === "alpha" ? colours : opaque(colours)));
             return;
         }
-        this.jobs.ask("planes", { last: this.shown, what, range: this.range }).then(({ picture, range }) => {
+        this.jobs.ask("planes", { last: this.shown, what, range: this.range }).then(({ picture, range, touched }) => {
             if (range) {
                 field("near").placeholder = String(range.near);
                 field("far").placeholder = String(range.far);
+            }
+            if (touched) {
+                part("least").textContent = counted(touched.least);
+                part("most").textContent = counted(touched.most);
+                this.pixels.askAgain();
             }
             this.show(picture);
         }, (error) => this.failed(error));
@@ -330,11 +345,25 @@ export class Page {
         }
         const isAsked = field("changed").checked && this.shown > 1;
         if (!isAsked) return;
-        const { shown } = this;
-        this.jobs.ask("changed", { last: shown, what: this.what }).then(({ difference }) => {
+        const { shown, what } = this, verb = what === "overdraw" ? "touches" : "changes";
+        this.jobs.ask("changed", { last: shown, what }).then(({ difference, counts }) => {
+            const none = what === "overdraw" ? "touches no pixel" : "changes no pixel of what is shown";
             this.showDifference(
-                difference, `line ${shown} changes`, `Line ${shown} changes no pixel of what is shown.`);
+                difference, `line ${shown} ${verb}`, `Line ${shown} ${none}.`, this.alsoChanged(counts));
         }, (error) => this.failed(error));
+    }
+
+    /**
+     * What a line changed beside what is shown.
+     *
+     * @param {Record<string, number>} counts
+     */
+    alsoChanged(counts) {
+        const shown = ["depth", "stencil", "overdraw"].includes(this.what) ? this.what : "colour";
+        const others = ["colour", "depth", "stencil"].filter((name) => name !== shown && counts[name]);
+        const pixels = (/** @type {number} */ count) => `${counted(count)} pixel${count === 1 ? "" : "s"}`;
+        const named = others.map((name) => `the ${name} of ${pixels(counts[name])}`);
+        return named.length ? ` It changes ${named.join(", and ")}.` : "";
     }
 
     /**
@@ -346,7 +375,7 @@ export class Page {
      */
     besides(told, name, other) {
         this.view.showBeside(told.picture);
-        if (told.isSameSize) this.pixels.ask({ last: this.shown, other });
+        if (told.isSameSize) this.askPixels(other);
         const until =
             told.refused ? ` ${name} is drawn as far as its line ${told.refused.line}, which is refused.` : "";
         if (!told.picture) this.tellDifference(`${name} has no image.${until}`);
@@ -519,6 +548,7 @@ export class Page {
     shownOtherwise() {
         this.begun = performance.now();
         document.documentElement.dataset.state = "playing";
+        this.askPixels(null);
         this.showPicture();
         this.compare();
     }

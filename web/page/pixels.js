@@ -17,8 +17,8 @@ import { View } from "./view.js";
  * null}} Hears
  */
 /**
- * @typedef {{last: number, other: string | null}} Played the line up to which the image shows the script, or 0, and
- * the text beside it
+ * @typedef {{last: number, other: string | null, what: string}} Played the line up to which the image shows the script,
+ * or 0, the text beside it, and what is shown
  */
 
 const REST = 250, LONG = 100;
@@ -40,7 +40,7 @@ export class Pixels {
         this.language = language;
         this.hears = hears;
         /** @type {Played} */
-        this.played = { last: 0, other: null };
+        this.played = { last: 0, other: null, what: "opaque" };
         /** @type {Pixel | null} the pixel that is kept */
         this.pinned = null;
         /** @type {Pixel | null} the one under the pointer */
@@ -79,6 +79,12 @@ export class Pixels {
         this.values.clear();
         if (this.pinned) this.pinned = played.last ? this.view.within(this.pinned) : null;
         this.show(this.pinned || this.hover);
+    }
+
+    /** Asks again for what the pixel holds, since more is known of it. */
+    askAgain() {
+        this.values.clear();
+        if (this.asked && this.played.last) this.askValue(this.asked);
     }
 
     /** @param {Pixel | null} pixel */
@@ -153,7 +159,7 @@ export class Pixels {
         }
         const { width, height } = this.view.size;
         const area = { left, top, width: Math.min(BLOCK, width - left), height: Math.min(BLOCK, height - top) };
-        this.jobs.ask("pixels", { last: this.played.last, area, other: this.played.other })
+        this.jobs.ask("pixels", { ...this.played, area })
             .then(({ values, besides }) => {
                 this.values.set(key,
                     new Map(values.map(

@@ -191,13 +191,14 @@ export function pixelShown(value, deepest, beside) {
  * @param {PixelValue} value
  * @param {number} deepest
  */
-function factsShown(head, { colour, depth, stencil }, deepest) {
+function factsShown(head, { colour, depth, stencil, touched }, deepest) {
     /** @type {[string, (Node | string)[]][]} */
     const facts = [
         ["colour", colourShown(colour)],
         ["depth", [`${depth} (${(depth / deepest).toFixed(4)})`]],
         ["stencil", [String(stencil)]],
     ];
+    if (touched !== undefined) facts.push(["touched", [timesText(touched)]]);
     const list = element("dl", { className: "facts mono" }, element("div", {}, element("dt", {}, head)));
     for (const [name, value] of facts)
         list.append(element("div", {}, element("dt", {}, `${name} `), element("dd", {}, ...value)));
@@ -209,8 +210,14 @@ function factsShown(head, { colour, depth, stencil }, deepest) {
  *
  * @param {PixelValue} value
  */
-export function pixelSaid({ x, y, colour, depth, stencil }) {
-    return `pixel ${x}, ${y}: colour ${colour.join(" ")}, depth ${depth}, stencil ${stencil}`;
+export function pixelSaid({ x, y, colour, depth, stencil, touched }) {
+    const more = touched === undefined ? "" : `, touched ${timesText(touched)}`;
+    return `pixel ${x}, ${y}: colour ${colour.join(" ")}, depth ${depth}, stencil ${stencil}${more}`;
+}
+
+/** @param {number} count */
+function timesText(count) {
+    return count === 1 ? "once" : `${counted(count)} times`;
 }
 
 /**

@@ -179,6 +179,27 @@ test("what is no number of a call's kind never comes to the device", { skip: mis
     device.dispose();
 });
 
+test("the history of a pixel is that of what is pending, and runs none", { skip: missing }, () => {
+    const device = new Device(module, 16, 16), { immediate } = device;
+    const fresh = { colour: [0, 0, 0, 0], depth: DEEPEST, stencil: 0 };
+    const cleared = { ...fresh, colour: [16, 32, 48, 255] }, drawn = { ...fresh, colour: [255, 128, 0, 255], depth: 4194304 };
+    const clear = { item: 0, line: 0, command: 0, triangle: 0, stencilPassed: true, depthPassed: true, before: fresh, after: cleared };
+    assert.deepEqual(immediate.history(3, 3), []);
+    immediate.clearColor("#102030");
+    draw(immediate);
+    const first = { ...clear, item: 1, command: 4, before: cleared, after: drawn };
+    for (const room of [64, 2, 1, 0]) assert.deepEqual(immediate.history(3, 3, room), [clear, first]);
+    assert.deepEqual(immediate.history(8, 8), [clear, { ...first, item: 2, triangle: 1 }]);
+    assert.deepEqual(immediate.history(10, 8), [clear]);
+    assert.throws(() => immediate.history(16, 0), { number: 15, name: "YZ_PIXEL_RANGE" });
+    immediate.flush();
+    assert.deepEqual(immediate.history(3, 3), []);
+    immediate.drawIndexed(3);
+    assert.deepEqual(immediate.history(3, 3),
+        [{ ...first, item: 0, command: 1, depthPassed: false, before: drawn, after: drawn }]);
+    device.dispose();
+});
+
 test("lists are executed again, by any device, and outlive what recorded them", { skip: missing }, () => {
     const [device, other] = [0, 1].map(() => new Device(module, 16, 16));
     const recorder = device.deferred[3];

@@ -5,7 +5,7 @@ import test from "node:test";
 import zlib from "zlib";
 
 import { difference } from "../engine/difference.js";
-import { depthPicture, rangeOf, stencilPicture } from "../engine/planes.js";
+import { depthPicture, heatPicture, rangeOf, stencilPicture, touchedOf } from "../engine/planes.js";
 import { encodePng } from "../engine/png.js";
 import { decodeTarga, opaque } from "../engine/targa.js";
 
@@ -60,6 +60,19 @@ test("depths are grey between the nearest and the farthest, and black where noth
     assert.deepEqual(rangeOf(Uint32Array.from([DEEPEST]), DEEPEST), { near: DEEPEST, far: DEEPEST });
 });
 
+test("counts are black for none, and from blue for the least to nearly white for the most", () => {
+    const heat = (...counts) => {
+        const values = Uint32Array.from(counts);
+        const { pixels } = heatPicture({ width: counts.length, height: 1, values }, touchedOf(values));
+        return Array.from(counts, (_, at) => [...pixels.slice(4 * at, 4 * at + 4)]);
+    };
+    assert.deepEqual(heat(0, 2, 3, 4, 10), [
+        [0, 0, 0, 255], [20, 20, 90, 255], [70, 25, 115, 255], [120, 30, 140, 255], [255, 255, 200, 255],
+    ]);
+    assert.deepEqual(heat(7, 0), [[20, 20, 90, 255], [0, 0, 0, 255]]);
+    assert.deepEqual(touchedOf(Uint32Array.from([0, 0])), { least: 0, most: 0 });
+});
+
 test("stencil values that stand next to each other have other colours, and 0 is black", () => {
     const values = Uint8Array.from({ length: 256 }, (_, value) => value);
     const { pixels } = stencilPicture({ width: 256, height: 1, values });
@@ -69,11 +82,15 @@ test("stencil values that stand next to each other have other colours, and 0 is 
 });
 
 test("a difference has its place, its count and the largest of each channel", () => {
-    const a = [1, 2, 3, 4, 5, 6, 7, 8, 9, 10, 11, 12, 0, 0, 0, 0];
-    const b = [1, 2, 3, 4, 5, 9, 7, 8, 9, 10, 11, 12, 0, 1, 0, 200];
+    const a = Uint8Array.from([1, 2, 3, 4, 5, 6, 7, 8, 9, 10, 11, 12, 0, 0, 0, 0]);
+    const b = Uint8Array.from([1, 2, 3, 4, 5, 9, 7, 8, 9, 10, 11, 12, 0, 1, 0, 200]);
     const found = difference(a, b, 2, 4);
     assert.deepEqual({ ...found, mask: [...found.mask] }, {
         mask: [0, 1, 0, 1], count: 2, most: [0, 3, 0, 200], box: { left: 1, top: 0, right: 2, bottom: 2 },
     });
     assert.equal(difference(a, a, 2, 4), null);
+    const depths = [[5, 6, 7, 8], [5, 0, 9, 8]].map((it) => Uint32Array.from(it));
+    const { mask, ...told } = difference(depths[0], depths[1], 4, 1);
+    assert.deepEqual([...mask], [0, 1, 1, 0]);
+    assert.deepEqual(told, { count: 2, most: [6], box: { left: 1, top: 0, right: 3, bottom: 1 } });
 });

@@ -41,6 +41,7 @@ import numpy as np
 import numpy.typing as npt
 
 from .errors import ArgumentError, CallRefused, LibraryMissing, ProgramFailed, WrongType
+from .history import EVENT, FEW, Event, events_in
 from .images import Picture, Pixels, save
 from .library import HOW_TO_BUILD, find_library, load_library
 from .line import Line, Row, whole_numbers
@@ -130,6 +131,7 @@ _OTHERS: Final[dict[str, list[Any]]] = {
     "device_execute": [c_void_p, c_int],
     "device_get_data": [c_uint32, POINTER(c_uint64)],
     "device_pixel": [c_uint32, c_uint32, POINTER(_Pixel)],
+    "device_history": [c_uint32, c_uint32, c_void_p, c_size_t, POINTER(c_uint64)],
     "device_read": [c_uint32, POINTER(_Rect), c_void_p, c_size_t, c_size_t],
     "context_finish": [c_int, POINTER(c_void_p)],
 }
@@ -170,13 +172,18 @@ class _Object:
         self.lock = threading.Lock()
         self.close = weakref.finalize(self, getattr(calls, f"yz_{kind}_destroy"), made)
 
-    def call(self, name: str, *arguments: Any) -> None:
-        """Calls ``yz_KIND_NAME``; raises where it is refused."""
+    def answer(self, name: str, *arguments: Any) -> int:
+        """The answer of ``yz_KIND_NAME``."""
         with self.lock:
             if not self.close.alive:
                 raise ProgramFailed(f"the {self.kind} is closed")
             self.is_used = True
-            result = getattr(self.calls, f"yz_{self.kind}_{name}")(self.at, *arguments)
+            result: int = getattr(self.calls, f"yz_{self.kind}_{name}")(self.at, *arguments)
+            return result
+
+    def call(self, name: str, *arguments: Any) -> None:
+        """Calls ``yz_KIND_NAME``; raises where it is refused."""
+        result = self.answer(name, *arguments)
         if result:
             _look_at(result, name)
 
@@ -192,6 +199,7 @@ def _look_at(result: int, name: str) -> None:
 
 
 _REFUSALS: Final = range(1, 32)
+_EVENTS_TOO_SMALL: Final = 35
 
 
 class LiveList:
@@ -408,6 +416,25 @@ class LiveImmediateContext(LiveContext):
             self._held.call("pixel", x, y, byref(told))
         red, green, blue, alpha = told.colour
         return PixelAnswer(x, y, (red, green, blue, alpha), told.depth, told.stencil)
+
+    def history(self, x: int, y: int) -> list[Event]:
+        """What each clear and triangle that is pending does to a pixel that it touches.
+
+        None of them runs for it; ``flush``, ``execute`` and what asks leave none pending. ``item``
+        counts what is pending and ``command`` the calls, a kept state being the first, from 0; no
+        event has a line.
+        """
+        x, y = Line(self.actor, "pixel", (x, y)).arguments
+        return [*events_in(self._told(x, y, FEW))]
+
+    def _told(self, x: int, y: int, room: int) -> bytes:
+        """The events as C has them, of which so many are expected."""
+        area, count = ctypes.create_string_buffer(EVENT.size * room), c_uint64()
+        result = self._held.answer("history", x, y, area, room, byref(count))
+        if result == _EVENTS_TOO_SMALL:
+            return self._told(x, y, count.value)
+        _look_at(result, "history")
+        return area.raw[: EVENT.size * count.value]
 
 
 class Device:

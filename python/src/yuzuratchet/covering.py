@@ -8,7 +8,7 @@ pixel, ties to even; a centre on an edge belongs to a top or a left one; a depth
 from __future__ import annotations
 
 from dataclasses import dataclass
-from typing import Final, Iterable, Iterator, Sequence
+from typing import Final, Iterable, Iterator, NamedTuple, Sequence
 
 import numpy as np
 import numpy.typing as npt
@@ -21,6 +21,7 @@ from .recording import Item, Vertex
 from .states import CullMode, PrimitiveTopology, RasterizerState
 
 Numbers = npt.NDArray[np.int64]
+Places = npt.NDArray[np.intp]
 Point = tuple[int, int]
 
 GRID: Final = 256
@@ -39,7 +40,17 @@ class Covered:
 
     def is_culled(self, rasterizer: RasterizerState) -> bool:
         """Whether the cull mode drops it."""
-        return rasterizer.cull_mode is (CullMode.FRONT if self.is_front else CullMode.BACK)
+        return is_culled(rasterizer, self.is_front)
+
+
+def is_culled(rasterizer: RasterizerState, is_front: bool) -> bool:
+    """Whether the cull mode drops a triangle whose front is seen, or whose back is."""
+    return rasterizer.cull_mode is (CullMode.FRONT if is_front else CullMode.BACK)
+
+
+def is_front(rasterizer: RasterizerState, turn: int) -> bool:
+    """Whether the front of a triangle is seen that goes clockwise, or below 0 anticlockwise."""
+    return (turn > 0) != rasterizer.front_counter_clockwise
 
 
 def snapped(numbers: Sequence[int]) -> Numbers:
@@ -48,21 +59,40 @@ def snapped(numbers: Sequence[int]) -> Numbers:
     return (given + (PART // 2 - 1) + (given // PART & 1)) // PART
 
 
-def weights_at(corners: Sequence[Point], centre: Point) -> list[int] | None:
-    """How much of a triangle's area lies opposite each corner, seen from a point on the grid; None
-    where it doesn't cover the point. Below 0 where it goes anticlockwise."""
-    (ax, ay), (bx, by), (cx, cy) = corners
-    area = (bx - ax) * (cy - ay) - (by - ay) * (cx - ax)
-    turn = 1 if area > 0 else -1
-    weights = []
-    for (px, py), (qx, qy) in zip((corners[1], corners[2], corners[0]), (corners[2], *corners[:2])):
-        right, down = turn * (qx - px), turn * (qy - py)
-        weight = right * (centre[1] - py) - down * (centre[0] - px)
-        # (a left edge goes up, and a top one to the right, where the triangle goes clockwise)
-        if weight < 0 or (weight == 0 and not (down < 0 or (down == 0 and right > 0))):
-            return None
-        weights.append(turn * weight)
-    return weights if area else None
+class Edges(NamedTuple):
+    """The edges of triangles, each opposite to the corner of its row and turned so that the triangle
+    goes clockwise: where it begins, and how far it goes.
+
+    ``least`` is the least weight of a point that belongs to the triangle. ``turn`` is below 0 where
+    the triangle goes anticlockwise, and 0 where it has no area, and covers nothing.
+    """
+
+    x: Numbers
+    y: Numbers
+    right: Numbers
+    down: Numbers
+    least: Numbers
+    turn: Numbers
+
+    @classmethod
+    def of(cls, x: Numbers, y: Numbers) -> Edges:
+        """The edges of triangles whose corners stand in three rows."""
+        area = (x[1] - x[0]) * (y[2] - y[0]) - (y[1] - y[0]) * (x[2] - x[0])
+        turn = np.sign(area)
+        right, down = (turn * (it[[2, 0, 1]] - it[[1, 2, 0]]) for it in (x, y))
+        # (a left edge goes up, and a top one to the right)
+        keeps = (down < 0) | ((down == 0) & (right > 0))
+        return cls(x[[1, 2, 0]], y[[1, 2, 0]], right, down, np.where(keeps, 0, 1), turn)
+
+    def some(self, places: Places) -> Edges:
+        """The edges of some of the triangles."""
+        return Edges(*(it[..., places] for it in self))
+
+    def weights_at(self, centre: Point) -> tuple[Numbers, Places]:
+        """How much of each triangle's area lies opposite each corner, seen from a point on the grid,
+        below 0 where it goes anticlockwise; and the places of those that cover the point."""
+        weights = self.right * (centre[1] - self.y) - self.down * (centre[0] - self.x)
+        return self.turn * weights, np.flatnonzero((weights >= self.least).all(axis=0))
 
 
 def depth_at(weights: Sequence[int], depths: Iterable[int], bias: int) -> int:
@@ -119,7 +149,8 @@ class SnappedTriangles:
         self._grids: dict[int, Columns] = {}
         parts = [self._part(it) for it in items]
         counts = [part[0].shape[1] for part in parts]
-        self._draws = np.repeat(np.arange(len(items)), counts)
+        self.draws = np.repeat(np.arange(len(items)), counts)
+        """The place of each triangle's draw."""
         starts = np.cumsum([0, *counts])[:-1]
         self._numbers = np.arange(sum(counts)) - np.repeat(starts, counts)
         none = (_NONE, _NONE, _NONE)
@@ -127,8 +158,13 @@ class SnappedTriangles:
             np.concatenate(rows, axis=1) for rows in zip(none, *parts)
         )
         both = self._x, self._y
-        self._least = [np.minimum(np.minimum(a, b), c) for a, b, c in both]
-        self._most = [np.maximum(np.maximum(a, b), c) for a, b, c in both]
+        self.least = [np.minimum(np.minimum(a, b), c) for a, b, c in both]
+        self.most = [np.maximum(np.maximum(a, b), c) for a, b, c in both]
+        """The bounds of each triangle, across and down."""
+
+    def edges(self, places: Places | slice = slice(None)) -> Edges:
+        """The edges of some triangles, or of all."""
+        return Edges.of(self._x[:, places], self._y[:, places])
 
     def _part(self, item: Item) -> tuple[Numbers, Numbers, Numbers]:
         places = triangle_places(item)
@@ -147,15 +183,14 @@ class SnappedTriangles:
         """The triangles that cover a pixel, each behind the place of its draw, in their order."""
         centre = GRID * x + GRID // 2, GRID * y + GRID // 2
         across, down = (
-            (least <= at) & (most >= at) for least, most, at in zip(self._least, self._most, centre)
+            (least <= at) & (most >= at) for least, most, at in zip(self.least, self.most, centre)
         )
         near = np.flatnonzero(across & down)
-        rows = (self._draws[near], self._numbers[near])
-        corners = (it[:, near].T.tolist() for it in (self._places, self._x, self._y))
-        for draw, number, places, xs, ys in zip(*(it.tolist() for it in rows), *corners):
-            weights = weights_at([*zip(xs, ys)], centre)
-            if weights is not None:
-                yield draw, covered(self.items[draw], number, places, weights)
+        weights, covering = self.edges(near).weights_at(centre)
+        for at, place in zip(covering, near[covering]):
+            draw, number = int(self.draws[place]), int(self._numbers[place])
+            corners, parts = (it.tolist() for it in (self._places[:, place], weights[:, at]))
+            yield draw, covered(self.items[draw], number, corners, parts)
 
 
 def column(vertices: Sequence[Vertex], at: int) -> Sequence[int]:
@@ -170,5 +205,4 @@ def covered(item: Item, number: int, places: Sequence[int], weights: Sequence[in
     rasterizer = item.state.rasterizer
     corners = tuple(item.state.vertices[place] for place in places)
     depth = depth_at(weights, (it[2] for it in corners), rasterizer.depth_bias)
-    is_front = (sum(weights) > 0) != rasterizer.front_counter_clockwise
-    return Covered(Covering(number, corners, depth), is_front)
+    return Covered(Covering(number, corners, depth), is_front(rasterizer, sum(weights)))

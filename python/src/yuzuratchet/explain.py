@@ -21,26 +21,24 @@ from __future__ import annotations
 from dataclasses import dataclass
 from functools import cached_property, partial
 from pathlib import Path
-from typing import Any, Callable, Final, Iterable, Iterator
+from typing import Any, Final, Iterator
 
 from .backends import draw, tells_histories
 from .covering import Covered, SnappedTriangles
-from .errors import ArgumentError, CallRefused, ScriptRefused, YuzuratchetError
+from .errors import ArgumentError, YuzuratchetError
 from .explanation import Content, Covering, Explanation, Outcome, Step
 from .history import Event, history
 from .limits import DEEPEST
 from .line import Line
 from .recording import Item
-from .replaying import Replay, Touched, Touching, ran_out
-from .results import PixelAnswer, Result, run, script_bytes
+from .replaying import Replay, Touched, Touching
+from .results import PixelAnswer, script_bytes
 from .scene import Scene
-from .unrolling import Performed, Unrolled
+from .unrolling import Performed, Told, Unrolled, drawn, unroll
 from .words import IMMEDIATE
 
 OPENING: Final = Content((0, 0, 0, 0), DEEPEST, 0)
 """What a pixel of a new target holds."""
-
-Told = Callable[[str], None]
 
 
 @dataclass(frozen=True)
@@ -112,26 +110,7 @@ class Explainer:
 
         Raises as the device does where a line is refused.
         """
-        try:
-            unrolled = Unrolled(self.scene)
-        except CallRefused as refusal:
-            run(self.scene, **self.how)
-            raise YuzuratchetError(
-                f"the device takes what the package doesn't: {refusal}"
-            ) from refusal
-        if unrolled.asks:
-            self.told("draws the scene")
-            unrolled.note(self.drawn(unrolled.lines))
-        return unrolled
-
-    def drawn(self, lines: Iterable[Line]) -> Result:
-        """What the scene answers with other questions."""
-        asking = Scene.from_lines(self.scene.width, self.scene.height, lines, strict=False)
-        result = run(asking, check=False, **self.how)
-        if result.refused:  # (for want of memory: the scene itself says where)
-            run(self.scene, **self.how)
-            raise ScriptRefused(*ran_out(result.refused.number))
-        return result
+        return unroll(self.scene, self.told, **self.how)
 
     # ---- what covers the pixel
 
@@ -180,7 +159,8 @@ class Explainer:
         self.told(f"draws {len(stages)} steps")
         steps = [Touching(it.item, it.covering.corners if it.covering else None) for it in stages]
         found = Replay(self.scene, x, y, partial(draw, **self.how)).touched(steps)
-        answer = self.drawn([*self.scene.lines, Line(IMMEDIATE, "pixel", (x, y))]).answers[-1]
+        asking = [*self.scene.lines, Line(IMMEDIATE, "pixel", (x, y))]
+        answer = drawn(self.scene, asking, **self.how).answers[-1]
         assert isinstance(answer, PixelAnswer)
         end = Content(answer.colour, answer.depth, answer.stencil)
         if end != (found[-1].after if found else OPENING):
@@ -208,13 +188,15 @@ def explain(
     x: int,
     y: int,
     *,
+    at: int | None = None,
     program: str | Path | None = None,
     workers: int | None = None,
     told: Told = lambda _: None,
 ) -> Explanation:
-    """Why the scene's pixel (x, y) is what it is at the end.
+    """Why the scene's pixel (x, y) is what it is at the end, or behind the line ``at``, from 1.
 
     ``told`` is called with what is asked now. Raises as :meth:`Explainer.explain` does, whose class
     answers for many pixels of a scene.
     """
-    return Explainer(scene, told, program=program, workers=workers).explain(x, y)
+    played = scene if at is None else scene.up_to(at)
+    return Explainer(played, told, program=program, workers=workers).explain(x, y)

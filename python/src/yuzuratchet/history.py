@@ -2,7 +2,7 @@
 
 The library tells it. What a pixel holds is made by going through the clears and triangles in the
 order in which they run, one at a time; the history is that, written down, and the library's is
-proved to be it. The scene is drawn once beside it.
+proved to be it. Of the scene only what its questions and predicates want is drawn.
 
 >>> from yuzuratchet import read_script
 >>> scene = read_script("target 2 2\\ni clearc 1 2 3 4\\n")
@@ -12,25 +12,16 @@ proved to be it. The scene is drawn once beside it.
 
 from __future__ import annotations
 
-import os
-from concurrent.futures import ThreadPoolExecutor
 from dataclasses import dataclass
 from pathlib import Path
 from struct import Struct
-from typing import TYPE_CHECKING, Final, Iterator
+from typing import Final, Iterator
 
 from .errors import ArgumentError, ScriptRefused
+from .excerpt import up_to
 from .explanation import Content
 from .library import EVENTS_TOO_SMALL, PIXEL_RANGE, REFUSED, HistoryTold, tell_history
 from .messages import message_of
-
-if TYPE_CHECKING:
-    import numpy as np
-    import numpy.typing as npt
-
-    from .scene import Scene
-
-    Counts = npt.NDArray[np.uint32]
 
 FEW: Final = 64
 """Events for which there is room at first."""
@@ -66,45 +57,26 @@ class Event:
 
 
 def history(
-    script: bytes, x: int, y: int, *, library: str | Path | None = None, room: int = FEW
-) -> list[Event]:
-    """The events of a pixel over a script; ``room`` is how many are expected.
-
-    Raises :class:`~yuzuratchet.errors.ScriptRefused`, :class:`~yuzuratchet.errors.ArgumentError`
-    where the target has no such pixel, and :class:`~yuzuratchet.errors.LibraryMissing`.
-    """
-    told = _told(script, x, y, max(room, 1), library)
-    if told.status == EVENTS_TOO_SMALL:
-        told = _told(script, x, y, told.count, library)
-    return [*events_of(told)]
-
-
-def overdraw(
-    scene: Scene,
-    left: int,
-    top: int,
-    right: int,
-    bottom: int,
+    script: bytes,
+    x: int,
+    y: int,
     *,
+    at: int | None = None,
     library: str | Path | None = None,
-) -> Counts:
-    """How many clears and triangles touched each pixel of a rectangle, in an array of height and
-    width; right and bottom lie just outside.
+    room: int = FEW,
+) -> list[Event]:
+    """The events of a pixel over a script, or over its lines up to ``at``, which is counted from 1:
+    what the pixel holds behind that line, with what is pending there drawn too.
 
-    Each pixel is asked for by itself, some thousand a second where a script is short. Raises as
-    :func:`history` does.
+    ``room`` is how many events are expected. Raises :class:`~yuzuratchet.errors.ScriptRefused`,
+    :class:`~yuzuratchet.errors.ArgumentError` where the target has no such pixel or the script no
+    such line, and :class:`~yuzuratchet.errors.LibraryMissing`.
     """
-    import numpy as np  # (here, so that asking needs no numpy)
-
-    script, height, width = scene.script().encode("ascii"), bottom - top, right - left
-
-    def count(place: tuple[int, int]) -> int:
-        return _told(script, *place, room=1, library=library).count
-
-    places = [(x, y) for y in range(top, bottom) for x in range(left, right)]
-    with ThreadPoolExecutor(os.cpu_count()) as pool:
-        counts = [*pool.map(count, places)]
-    return np.array(counts, np.uint32).reshape(max(height, 0), max(width, 0))
+    played = script if at is None else up_to(script, at)
+    told = _told(played, x, y, max(room, 1), library)
+    if told.status == EVENTS_TOO_SMALL:
+        told = _told(played, x, y, told.count, library)
+    return [*events_in(told.events)]
 
 
 def _told(script: bytes, x: int, y: int, room: int, library: str | Path | None) -> HistoryTold:
@@ -121,9 +93,9 @@ def _told(script: bytes, x: int, y: int, room: int, library: str | Path | None) 
     return told
 
 
-def events_of(told: HistoryTold) -> Iterator[Event]:
+def events_in(told: bytes) -> Iterator[Event]:
     """The events that the library wrote."""
-    for row in EVENT.iter_unpack(told.events):
+    for row in EVENT.iter_unpack(told):
         item, line, command, triangle, depth, new_depth, *rest = row
         stencil, new_stencil, stencil_passed, depth_passed, _ = rest[8:]
         before = Content(_colour(rest[:4]), depth, stencil)

@@ -19,10 +19,16 @@ from .targa import target_sides
 Draw = Callable[[bytes], Ran]
 Depths = npt.NDArray[np.uint32]
 Stencils = npt.NDArray[np.uint8]
+Contents = npt.NDArray[np.uint32]
 
 PIXELS_AT_ONCE = 2**20
 
 PLANES: Final = ("depth", "stencil")
+
+HEAT: Final = ((20, 20, 90), (120, 30, 140), (220, 60, 60), (250, 170, 40), (255, 255, 200))
+"""The colours of counts, from the least to the most, with those between; the page has the same."""
+
+SHADES: Final = 256
 
 
 @dataclass(frozen=True)
@@ -47,7 +53,15 @@ class Planes:
 
 
 def planes_behind(script: bytes, draw: Draw) -> Planes:
-    """The planes behind a script that the device takes.
+    """The planes behind a script that the device takes; it takes and raises what
+    :func:`contents_behind` does."""
+    contents = contents_behind(script, draw)
+    return Planes(contents[..., 4], contents[..., 5].astype(np.uint8))
+
+
+def contents_behind(script: bytes, draw: Draw) -> Contents:
+    """What the pixels hold behind a script that the device takes: an array of height, width and
+    red, green, blue, alpha, depth, stencil.
 
     It is drawn with a question for each pixel behind it, once for each million pixels, which takes
     some two seconds each. Raises :class:`~yuzuratchet.errors.ScriptRefused` where a line is refused.
@@ -61,9 +75,8 @@ def planes_behind(script: bytes, draw: Draw) -> Planes:
     for top in range(0, height, rows):
         asked = range(top, min(height, top + rows))
         numbers = _asked_rows(script, draw, asked, width)
-        bands.append(numbers.reshape(len(asked), width, 8)[..., 6:])
-    both = np.concatenate(bands)
-    return Planes(both[..., 0].astype(np.uint32), both[..., 1].astype(np.uint8))
+        bands.append(numbers.reshape(len(asked), width, 8)[..., 2:].astype(np.uint32))
+    return np.concatenate(bands)
 
 
 def _asked_rows(script: bytes, draw: Draw, rows: range, width: int) -> npt.NDArray[np.int64]:
@@ -95,7 +108,7 @@ def depth_picture(depth: Depths) -> Pixels:
     # (halves upwards, as the page rounds)
     grey = np.floor(255 - (depth.astype(np.float64) - least) * scale + 0.5)
     grey = np.where(drawn, grey, 0).astype(np.uint8)
-    return _opaque(np.repeat(grey[..., None], 3, axis=2))
+    return opaque_picture(np.repeat(grey[..., None], 3, axis=2))
 
 
 def stencil_picture(stencil: Stencils) -> Pixels:
@@ -105,9 +118,33 @@ def stencil_picture(stencil: Stencils) -> Pixels:
     hues = 140 + 100 * np.cos(2 * np.pi * (turns[:, None] - shifts))
     colours = np.floor(hues + 0.5).astype(np.uint8)
     colours[0] = 0
-    return _opaque(colours[stencil])
+    return opaque_picture(colours[stencil])
 
 
-def _opaque(colours: npt.NDArray[np.uint8]) -> Pixels:
+def heat_picture(counts: Contents) -> Pixels:
+    """Counts as heat: black for none, and from dark blue for the least of the others by red and
+    yellow to nearly white for the most, in 256 shades."""
+    touched = counts[counts > 0]
+    least, most = (int(touched.min()), int(touched.max())) if touched.size else (1, 1)
+    span = max(1, most - least)
+    # (halves upwards, as the page rounds)
+    shades = (np.maximum(counts, least).astype(np.int64) - least) * (2 * SHADES - 2) + span
+    shades //= 2 * span
+    picture: Pixels = _heat_colours()[np.where(counts > 0, shades + 1, 0)]
+    return picture
+
+
+def _heat_colours() -> npt.NDArray[np.uint8]:
+    """Black, and behind it the shades, each opaque."""
+    place = np.arange(SHADES) * (len(HEAT) - 1) / (SHADES - 1)
+    channels = [np.interp(place, np.arange(len(HEAT)), it) for it in zip(*HEAT)]
+    colours = np.full((1 + SHADES, 4), 255, np.uint8)
+    colours[0, :3] = 0
+    colours[1:, :3] = np.floor(np.stack(channels, axis=1) + 0.5)
+    return colours
+
+
+def opaque_picture(colours: npt.NDArray[np.uint8]) -> Pixels:
+    """The colours, each with an alpha of 255."""
     alpha = np.full((*colours.shape[:2], 1), 255, dtype=np.uint8)
     return np.concatenate([colours, alpha], axis=2)

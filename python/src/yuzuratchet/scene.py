@@ -22,6 +22,7 @@ from __future__ import annotations
 
 from contextlib import contextmanager
 from dataclasses import dataclass, field
+from functools import partial
 from pathlib import Path
 from types import TracebackType
 from typing import TYPE_CHECKING, Iterable, Iterator, TypeVar
@@ -36,6 +37,7 @@ from .vertices import Vertex, vertex_line, where_outside
 from .words import DEFERRED, IMMEDIATE, TARGET
 
 if TYPE_CHECKING:
+    from .changes import Changes
     from .history import Event
 
 
@@ -311,15 +313,49 @@ class Scene:
         lines = [f"{TARGET.name} {self.width} {self.height}", *map(str, self._lines)]
         return "".join(f"{line}\n" for line in lines)
 
-    def history(self, x: int, y: int, *, library: str | Path | None = None) -> list[Event]:
-        """What touched the pixel (x, y), in order, and what each found and left there.
+    def up_to(self, line: int) -> Scene:
+        """The scene of the first lines, up to one, which is counted from 1, the target's.
+
+        Queries that the immediate context has open there are ended, since the device runs nothing
+        while one is. Raises :class:`~yuzuratchet.errors.ArgumentError` where there is no such line.
+        """
+        from .excerpt import up_to  # (here, since that and the reader know scenes)
+        from .reader import read_script
+
+        scene = read_script(up_to(self.script().encode("ascii"), line))
+        scene.labels = Labels(it for it in self.labels if it[0] <= line)
+        return scene
+
+    def history(
+        self, x: int, y: int, *, at: int | None = None, library: str | Path | None = None
+    ) -> list[Event]:
+        """What touched the pixel (x, y), in order, and what each found and left there: over all
+        lines, or those up to ``at``.
 
         The library tells it; ``explain`` tells of what covers the pixel and doesn't touch it too.
         Raises as :func:`yuzuratchet.history.history` does.
         """
         from .history import history  # (here, since only this wants the library)
 
-        return history(self.script().encode("ascii"), x, y, library=library)
+        return history(self.script().encode("ascii"), x, y, at=at, library=library)
+
+    def changes(
+        self,
+        line: int,
+        *,
+        library: str | Path | None = None,
+        program: str | Path | None = None,
+        workers: int | None = None,
+    ) -> Changes:
+        """The pixels whose colour, depth or stencil a line changed, which is counted from 1.
+
+        Raises as :func:`yuzuratchet.changes.changes` does, which says what a line changes.
+        """
+        from .backends import draw
+        from .changes import changes  # (here, since this wants numpy)
+
+        how = partial(draw, library=library, program=program, workers=workers)
+        return changes(self.script().encode("ascii"), line, how)
 
     def save(self, path: str | Path) -> None:
         """Writes the script to a file, and the names of its lines beside it, where it has some."""

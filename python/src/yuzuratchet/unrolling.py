@@ -3,15 +3,20 @@
 from __future__ import annotations
 
 from dataclasses import dataclass, field
+from typing import Any, Callable, Iterable
 
+from .errors import CallRefused, ScriptRefused, YuzuratchetError
 from .line import Line
 from .recording import CommandItems, Item
-from .results import QueryAnswer, Result
+from .replaying import ran_out
+from .results import QueryAnswer, Result, run
 from .scene import Scene
 from .session import Session
 from .words import IMMEDIATE
 
 RUNNING = ("flush", "exec", "query", "pixel")
+
+Told = Callable[[str], None]
 
 
 @dataclass
@@ -99,3 +104,31 @@ class Unrolled(Session):
             for performed in self.performed[asked.first : asked.first + 2]:
                 if performed.number == number:
                     performed.counts[asked.query] = answer.count
+
+
+def unroll(scene: Scene, told: Told = lambda _: None, **how: Any) -> Unrolled:
+    """The lists of a scene, unrolled, with what was counted for their predicates.
+
+    Where there are some the scene is drawn, which ``told`` hears, by :func:`~yuzuratchet.results.run`,
+    which takes ``how``. Raises as that does where a line is refused.
+    """
+    try:
+        unrolled = Unrolled(scene)
+    except CallRefused as refusal:
+        run(scene, **how)
+        message = f"the device takes what the package doesn't: {refusal}"
+        raise YuzuratchetError(message) from refusal
+    if unrolled.asks:
+        told("draws the scene")
+        unrolled.note(drawn(scene, unrolled.lines, **how))
+    return unrolled
+
+
+def drawn(scene: Scene, lines: Iterable[Line], **how: Any) -> Result:
+    """What a scene answers with other questions."""
+    asking = Scene.from_lines(scene.width, scene.height, lines, strict=False)
+    result = run(asking, check=False, **how)
+    if result.refused:  # (for want of memory: the scene itself says where)
+        run(scene, **how)
+        raise ScriptRefused(*ran_out(result.refused.number))
+    return result

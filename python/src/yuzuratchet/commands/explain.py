@@ -21,6 +21,8 @@ def add(commands: Any) -> None:
     found.add_argument("script", metavar="SCRIPT", type=Path, help="a script; - is standard input")
     found.add_argument("x", metavar="X", type=whole_number(0))
     found.add_argument("y", metavar="Y", type=whole_number(0))
+    at = "tells of the lines up to this one, which is counted from 1"
+    found.add_argument("--at", metavar="LINE", type=whole_number(1), help=at)
     changes = "tells of those steps alone that changed the pixel"
     found.add_argument("--changes", action="store_true", help=changes)
     found.add_argument("--json", action="store_true", help="tells it as JSON")
@@ -30,6 +32,7 @@ def add(commands: Any) -> None:
 def explain(given: argparse.Namespace) -> int:
     """Explains a pixel."""
     from ..explain import explain as explained
+    from ..excerpt import up_to
     from ..explanation import as_json, changing, heading, table
     from ..labels import Labels
     from ..reader import read_script
@@ -37,7 +40,7 @@ def explain(given: argparse.Namespace) -> int:
     text, name, line = read_bytes(given.script), shown_name(given.script), ProgressLine(every=3)
     labels = Labels() if given.script == STANDARD else Labels.read(given.script, text)
     try:
-        scene = read_script(text)
+        scene = read_script(up_to(text, given.at) if given.at else text)
         found = explained(scene, given.x, given.y, told=line.tell, **how(given))
     except (ScriptFault, ScriptRefused) as error:
         raise refused(given.script, error.line, error.number) from error

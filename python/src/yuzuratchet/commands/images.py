@@ -6,7 +6,7 @@ import argparse
 import sys
 from functools import partial
 from pathlib import Path
-from typing import TYPE_CHECKING, Any
+from typing import TYPE_CHECKING, Any, Final
 
 from ..arguments import whole_number
 from .common import STANDARD, WELL, Refused, add_command, check_writable, how, is_script
@@ -15,6 +15,10 @@ from .common import read_bytes, shown_name
 if TYPE_CHECKING:
     from ..images import Pixels
     from ..program import Ran
+
+
+PLANES: Final = ("depth", "stencil", "overdraw", "changed")
+"""What ``draw`` shows in place of the colours."""
 
 
 def add(commands: Any) -> None:
@@ -43,9 +47,12 @@ def add_draw(commands: Any) -> None:
     at = "draws the lines up to this one, which is counted from 1"
     found.add_argument("--at", metavar="LINE", type=whole_number(1), help=at)
     plane = (
-        "a picture of the depth (the nearest white, what nobody drew on black) or of the stencil"
+        "in place of the colours a picture of the depth (the nearest white, what nobody drew on "
+        "black), of the stencil, of how often each pixel was touched (overdraw: black never, then "
+        "blue, red, yellow to nearly white the most often), or of what the last line that is drawn "
+        "changed (changed: red where the colour, green where the depth, blue where the stencil)"
     )
-    found.add_argument("--plane", choices=("depth", "stencil"), help=plane)
+    found.add_argument("--plane", choices=PLANES, help=plane)
     add_looks(found)
     found.set_defaults(run=draw)
 
@@ -56,13 +63,17 @@ def draw(given: argparse.Namespace) -> int:
 
     if given.image != STANDARD:
         check_image(given.image)
-    script = read_bytes(given.script)
-    if given.at:
-        script = up_to(script, given.at)
+    whole = read_bytes(given.script)
+    script = up_to(whole, given.at) if given.at else whole
     ran = ran_well(given.script, script, given)
     told = sys.stderr if given.image == STANDARD else sys.stdout
     print(ran.answers, end="", file=told, flush=True)
-    pixels = plane_picture(script, given) if given.plane else decoded(ran)
+    if given.plane == "changed":
+        pixels = changed_picture(whole, given)
+    elif given.plane == "overdraw":
+        pixels = overdraw_picture(script, given)
+    else:
+        pixels = plane_picture(script, given) if given.plane else decoded(ran)
     write(pixels, given, keep_alpha=given.keep_alpha or bool(given.plane))
     return WELL
 
@@ -101,6 +112,25 @@ def plane_picture(script: bytes, given: argparse.Namespace) -> Pixels:
     from ..planes import planes_behind
 
     return planes_behind(script, partial(drawn, **how(given))).picture(given.plane)
+
+
+def overdraw_picture(script: bytes, given: argparse.Namespace) -> Pixels:
+    """How often each pixel was touched, as a picture."""
+    from ..overdraw import overdraw
+    from ..planes import heat_picture
+    from ..reader import read_script
+
+    return heat_picture(overdraw(read_script(script), **how(given)))
+
+
+def changed_picture(script: bytes, given: argparse.Namespace) -> Pixels:
+    """What the last line changed that is drawn of a script, as a picture."""
+    from ..backends import draw as drawn
+    from ..changes import changes
+    from ..excerpt import line_count
+
+    line = given.at or line_count(script)
+    return changes(script, line, partial(drawn, **how(given))).picture()
 
 
 def write(pixels: Pixels, given: argparse.Namespace, keep_alpha: bool) -> None:
