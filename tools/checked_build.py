@@ -107,6 +107,11 @@ fn main(rt: HostRuntime) {{
     let _ = devices::yz_handle_device_flush(alloc, &mut device);
     let _ = devices::yz_handle_device_pixel(alloc, &mut device, 0, 0, &mut pixel);
     let _ = devices::yz_handle_device_get_data(alloc, &mut device, 0, &mut count);
+    let mut events = [EventTold {{
+        item: 0, line: 0, command: 0, triangle: 0, depth_before: 0, depth_after: 0, color_before: [0; 4],
+        color_after: [0; 4], stencil_before: 0, stencil_after: 0, stencil_passed: 0, depth_passed: 0, passed: 0,
+    }}; 1];
+    let _ = telling::yz_handle_device_history(alloc, &mut device, 0, 0, &mut events, &mut count);
     let _ = rows::yz_handle_device_read_colors(alloc, &mut device, 0, 0, true, &mut cells);
     let _ = rows::yz_handle_device_read_depths(alloc, &mut device, 0, 0, &mut depths);
     let _ = rows::yz_handle_device_read_stencils(alloc, &mut device, 0, 0, &mut stencils);

@@ -17,6 +17,7 @@ import plain_device
 from browser import Browser
 from page_in_browser import DATA, DIGEST, PLAYED, PlayingTests, opaque
 from results import check
+from yuzuratchet.reader import parse
 
 STYLE = package_path.TOP / "web" / "style.css"
 WIDTHS = [(320, 640), (375, 700), (800, 600), (1240, 780), (1920, 1000), (3440, 1300)]
@@ -100,6 +101,7 @@ class FeatureTests(PlayingTests):
         "squares",
         "depth_of_large",
         "depth_range",
+        "overdraw",
         "states",
         "recorded_lines",
         "labels",
@@ -399,6 +401,35 @@ class FeatureTests(PlayingTests):
         self.act("far", "change", str(far))
         check(narrow != plain and self.canvas() == plain, "the range changes nothing, or something else")
 
+    def overdraw(self) -> str:
+        """How often each pixel was touched: in colours, in numbers, and by one line."""
+        self.open("pile")
+        text = (DATA / "pile.txt").read_text(encoding="ascii")
+        width, height = map(int, text.split(maxsplit=3)[1:3])
+        places = [(x, y) for y in range(0, height, 16) for x in range(0, width, 13)]
+        counts = {at: len(events) for at, events in plain_device.histories(text, places).items()}
+        check(self.is_hidden("heat"), "the scale is shown beside colours")
+        self.act("what", "change", "overdraw")
+        least, most = (int(self.text(it)) for it in ("#least", "#most"))
+        check(least <= min(counts.values()) and max(counts.values()) <= most, f"{least} to {most}, and {counts}")
+        offsets = json.dumps([4 * (width * y + x) for x, y in places])
+        colours = self.browser.value(f"{offsets}.map((at) => Array.from(page.picture.pixels.subarray(at, at + 4)))")
+        shown = dict(zip(counts.values(), colours))
+        check(all(shown[it] == colour for it, colour in zip(counts.values(), colours)), f"{counts}, and {colours}")
+        lights = [sum(shown[it]) for it in sorted(shown)]
+        check(len(lights) > 3 and lights == sorted(set(lights)), f"{shown}")
+        (x, y), count = max(counts.items(), key=lambda it: it[1])
+        self.browser.value(f"page.pixels.pin({{ x: {x}, y: {y} }})")
+        self.browser.wait(f"document.getElementById('pixel').textContent.endsWith('touched {count} times')")
+        self.act("slider", "input", "2")
+        self.tick("changed", True)
+        wanted = f"Line 2 touches {width * height:,} of {width * height:,} pixels"
+        self.browser.wait(f"document.getElementById('difference').textContent.startsWith({json.dumps(wanted)})")
+        self.tick("changed", False)
+        self.act("what", "change", "opaque")
+        self.browser.wait("!document.getElementById('pixel').textContent.includes('touched')")
+        return f"{least} to {most} times"
+
     # ---- states and words
 
     def states(self) -> None:
@@ -528,6 +559,19 @@ class FeatureTests(PlayingTests):
         most = [max(abs(one[at] - other[at]) for one, other in pairs) for at in range(4)]
         return sum(one != other for one, other in pairs), len(pairs), most
 
+    def changed_planes(self, lines: list[str], line: int) -> tuple[int, int]:
+        """The depth and the stencil of how many pixels a line changes, by the plain evaluation."""
+        targets = []
+        for last in (line - 1, line):
+            width, height, taken = parse("".join(lines[:last]))
+            session = plain_device.PlainSession(width, height)
+            session.take_all(taken)
+            targets.append(session.target)
+        before, after = targets
+        pairs = (before.depth, after.depth), (before.stencil, after.stencil)
+        depth, stencil = (sum(one != other for one, other in zip(*both)) for both in pairs)
+        return depth, stencil
+
     def changed_by_a_line(self) -> None:
         """What a line changed stands out of a veil over all else."""
         self.open()
@@ -538,8 +582,10 @@ class FeatureTests(PlayingTests):
         count, pixels, most = self.differs("".join(lines[:4]), "".join(lines[:5]))
         largest = ", ".join(f"{name} {value}" for name, value in zip(("red", "green", "blue", "alpha"), most))
         wanted = f"Line 5 changes {count:,} of {pixels:,} pixels"
+        depths, _ = self.changed_planes(lines, 5)
+        also = f"at most by {largest}. It changes the depth of {depths:,} pixels."
         check(
-            self.text("#difference").startswith(wanted) and self.text("#difference").endswith(f"at most by {largest}."),
+            self.text("#difference").startswith(wanted) and self.text("#difference").endswith(also),
             self.text("#difference"),
         )
         open_ = self.browser.value(f"({CLEAR})(document.querySelector('#pane .veil'))")
@@ -547,6 +593,10 @@ class FeatureTests(PlayingTests):
         self.act("slider", "input", "6")
         self.browser.wait("document.getElementById('difference').textContent.startsWith('Line 6 changes no')")
         check(self.browser.value("document.querySelector('#pane .veil').hidden"), "the veil stays")
+        self.act("slider", "input", "10")
+        _, stencils = self.changed_planes(lines, 10)
+        wanted = f"Line 10 changes no pixel of what is shown. It changes the stencil of {stencils:,} pixels."
+        self.browser.wait(f"document.getElementById('difference').textContent === {json.dumps(wanted)}")
         self.tick("changed", False)
         check(self.is_hidden("difference"), "what changed is still said")
 

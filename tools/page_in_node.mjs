@@ -11,6 +11,10 @@
 //     steps       the history of four pixels, as JSON
 //     pointed     how many milliseconds of a processor the history of a pixel takes, of twenty the one in the middle
 //                 and the slowest
+//     overdraw    how many of its pixels it asks for, which were touched as often as their histories have events, and
+//                 which some lines changed as what is drawn of the lines before and behind them says
+//     planes      how many milliseconds of a processor it takes to count how often pixels were touched and to colour
+//                 that, and to tell what the last line that draws changed, each the middle of five
 //     memory      its name, where 200 drawings more, and a device that goes forth and back, take no more memory
 //     blamed      the line and the number that are told, and which letters of the line are to blame, as JSON
 
@@ -19,10 +23,12 @@ import path from "path";
 import { createHash } from "crypto";
 
 import { blame } from "../web/engine/blame.js";
+import { changesOf } from "../web/engine/changes.js";
 import { same } from "../web/engine/history.js";
 import { Kept } from "../web/engine/kept.js";
 import { Language } from "../web/engine/language.js";
 import { Module, answersOf, refusalOf } from "../web/engine/module.js";
+import { heatPicture, touchedOf } from "../web/engine/planes.js";
 import { Script, textOf } from "../web/engine/script.js";
 import { pixelBehind, playedByText } from "../web/tests/by_text.js";
 import { fileOf, imageLine, played } from "../web/tests/played.js";
@@ -139,6 +145,53 @@ function pointed(device, name, bytes) {
     console.log(`${times[times.length >> 1].toFixed(1)} ${times[times.length - 1].toFixed(1)}`);
 }
 
+/** Compares how often pixels were touched with their histories, and what lines changed with what is drawn of texts. */
+function overdraw(device, name, bytes) {
+    const script = new Script(bytes), kept = new Kept(device, script);
+    if (kept.play(script.count).refused) return;
+    let asked = 0;
+    for (const line of [script.count, script.count >> 1, script.count >> 2].filter((it) => it > 1)) {
+        const history = kept.historyBehind(line, tables), { width, values } = history.touched, { text } = history.player;
+        const changes = changesOf(kept, line, null);
+        for (let at = 0; at < values.length; at += 1 + values.length / 100 | 0, asked++) {
+            const pixel = { x: at % width, y: Math.floor(at / width) };
+            const events = device.history(text, pixel, 64).length;
+            if (values[at] !== events)
+                throw new Error(`${name} (${pixel.x}, ${pixel.y}): touched ${values[at]} times, of ${events} events`);
+            if (asked % 10) continue;
+            const [before, after] = [line - 1, line].map((it) => pixelBehind(device, script, it, pixel));
+            for (const plane of ["colour", "depth", "stencil"])
+                if (Boolean(changes[plane]?.mask[at]) === (String(before[plane]) === String(after[plane])))
+                    throw new Error(`${name} (${pixel.x}, ${pixel.y}): ${plane} at line ${line}`);
+        }
+    }
+    kept.leave();
+    console.log(`${name} ${asked}`);
+}
+
+/** The time in the middle of five. */
+function middleTime(act) {
+    const times = Array.from({ length: 5 }, () => {
+        const begun = processorTime();
+        act();
+        return processorTime() - begun;
+    });
+    return times.sort((one, other) => one - other)[2].toFixed(0);
+}
+
+/** Prints how long the planes take that are counted and compared. */
+function planes(device, name, bytes) {
+    const script = new Script(bytes), kept = new Kept(device, script), { count } = script;
+    const history = kept.historyBehind(count, tables);
+    const counted = middleTime(() => {
+        history.counted = null;
+        heatPicture(history.touched, touchedOf(history.touched.values));
+    });
+    const drawing = Array.from({ length: count }, (_, at) => count - at).find((it) => script.words(it)[1] === "draw");
+    console.log(`${counted} ${middleTime(() => changesOf(kept, drawing, null))}`);
+    kept.leave();
+}
+
 /** Lets a device that stays go to each line, and asks behind it what touched a pixel. */
 function forthAndBack(device, bytes) {
     const kept = new Kept(device, new Script(bytes));
@@ -176,5 +229,5 @@ function blamed(device, name, bytes) {
 
 const device = await Module.of(fs.readFileSync(module), tables.library);
 for (const name of names)
-    ({ gallery, calls, slider, history, steps, pointed, memory, blamed })[task](
+    ({ gallery, calls, slider, history, steps, pointed, overdraw, planes, memory, blamed })[task](
         device, name, new Uint8Array(fs.readFileSync(path.join(folder, name))));

@@ -1,8 +1,9 @@
 #!/bin/sh
 # All tests: what looks over sources and pages, the package's tests, then the gate, which takes every proof, wrong body,
 # test and stored run from nothing, and then what stands above it, over what it built: the C library, Python over it,
-# the page, the package once more, the files of a release, short comparisons of `check`, of `explain`, of pixels'
-# histories and of calls with the device, and other devices beside it.
+# the page, the package once more, short comparisons of `check`, of `explain`, of pixels' histories and of calls with the
+# device, and other devices beside it. The files of a release are built and tried beside the gate, from a clone, since
+# they are compiled with checks; other devices and the comparisons run side by side.
 #
 # The last line is the gate's. The line before it names what failed, and what was skipped for want of a program. The
 # status is the gate's where that isn't 0, and else 1 where another part failed.
@@ -18,6 +19,24 @@ part() {
     printf '\n== %s\n' "$part"
     { "$@" 2>&1; echo $? >"$room/status"; } | tee "$room/$part"
     [ "$(cat "$room/status")" -eq 0 ] || failed="$failed${failed:+, }$part"
+}
+
+# beside NAME COMMAND ..: starts a part beside what follows
+beside() {
+    beside=$1
+    shift
+    { "$@" >"$room/$beside" 2>&1; echo $? >"$room/$beside.status"; } &
+    echo $! >"$room/$beside.pid"
+}
+
+# ended NAME ..: waits for such parts in turn, and prints what each printed and keeps whether it failed
+ended() {
+    for name; do
+        wait "$(cat "$room/$name.pid")"
+        printf '\n== %s\n' "$name"
+        cat "$room/$name"
+        [ "$(cat "$room/$name.status")" = 0 ] || failed="$failed${failed:+, }$name"
+    done
 }
 
 trusted() {
@@ -60,8 +79,8 @@ get_for_release() (
     from_debian "$@"
 )
 
-# the files of a release, of a build that says it isn't proved and takes minutes; that the gate passed is kept for the
-# release itself
+# the files of a release, of a build that says it isn't proved and takes minutes: from a clone, since the gate holds the
+# folders of the crates
 release() {
     command -v qemu-x86_64 >/dev/null || get_for_release qemu-user || true
     for tool in musl-gcc shtab argparse-manpage dpkg-deb; do
@@ -69,7 +88,7 @@ release() {
             get_for_release musl-tools python3-shtab python3-argparse-manpage python3-setuptools python3-wheel || true
         command -v "$tool" >/dev/null || { echo "skipped release: the command $tool is missing" && return; }
     done
-    tools/make_release.py --gate "$room/said" || true
+    git clone --quiet . "$room/clone" && cd "$room/clone" || return
     tools/make_release.py --checked "$room/dist" && tools/test_release.py "$room/dist"
 }
 
@@ -96,23 +115,29 @@ part trusted trusted
 part wrong-bodies tools/wrong_bodies.py --check
 part package python/run-tests.sh -q
 
+beside release release
+# (told how many jobs there are, the gate starts the longest proof of all, that of the tests, as soon as it can: else it
+# waits for memory that it doesn't take)
 printf '\n== gate\n'
-{ rt ci; echo $? >"$room/gate"; } | tee "$room/said"
+{ RT_JOBS=${RT_JOBS:-$(nproc)} rt ci; echo $? >"$room/gate"; } | tee "$room/said"
 gate=$(cat "$room/gate")
 
 [ "$gate" -ne 0 ] || part program build_program
 part library tools/test_library.py --prefix "$room/prefix"
 if [ -x crates/tiledraw/out/tiledraw ]; then
+    # (that the gate passed is kept for the release itself)
+    [ "$gate" -ne 0 ] || tools/make_release.py --gate "$room/said" || true
     part package-again package_again
-    [ "$gate" -ne 0 ] || part release release
-    part checked tools/compare_checked.py 1000
-    part explained by_library compare_explained 100
-    part histories by_library compare_histories 100
-    part calls by_library compare_calls 400
-    part devices tools/test_devices.py
+    beside devices tools/test_devices.py
+    beside checked tools/compare_checked.py 1000
+    beside explained by_library compare_explained 100
+    beside histories by_library compare_histories 100
+    beside calls by_library compare_calls 400
+    ended checked explained histories calls devices
 else
     failed="$failed${failed:+, }program (so the package's tests, the comparisons and test_devices weren't run over it)"
 fi
+ended release
 
 printf '\nfailed: %s; skipped: %s\n' "${failed:-nothing}" "$(skipped | joined)"
 tail -n 1 "$room/said"

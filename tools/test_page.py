@@ -6,10 +6,11 @@
 In both each script of the gallery gives the answers and the image that crates/gallery/stdout has, in node by calls too.
 There the package's examples are run, the modules of web/engine are tried alone (web/tests), a device that goes forth
 and back to lines is held against what these lines draw as a text, pixels' histories against the package's `explain`,
-and columns of faults against its `check`. In the browser scripts are chosen, typed, opened, linked and played by lines,
-pixels are pointed at and tapped, and each is compared with what the device gives elsewhere; the page is looked at in
-narrow windows and at fractional ratios of pixels. In Firefox all is tried that needs neither pointer nor keys. Types
-are checked by the TypeScript compiler where it is there.
+counts of touched pixels against the lengths of their histories, and columns of faults against its `check`. In the
+browser scripts are chosen, typed, opened, linked and played by lines, pixels are pointed at and tapped, and each is
+compared with what the device gives elsewhere; the page is looked at in narrow windows and at fractional ratios of
+pixels. In Firefox all is tried that needs neither pointer nor keys. Types are checked by the TypeScript compiler where
+it is there.
 
 Where the module isn't built, or there is no node or no browser, that is told, and counted in the last line. The status
 is 0 where nothing failed and something passed. Python alone is wanted beside them.
@@ -72,8 +73,9 @@ ASKED_BY_LINES = [
 # scenes in which it is asked in two ways what touched a pixel, and changed scripts whose faulty letters are asked for
 RANDOM_SCENES, CHANGED_SCRIPTS = 40, 300
 SCENES_BY_CALLS, SCENES_ON_SLIDER = 500, 200
-# milliseconds of a processor in which what touched a pixel has to be told
-POINTED = 50
+# milliseconds of a processor in which it has to be told, of a large target, what touched a pixel, how often each was
+# touched, and which ones a line changed, on a busy machine
+POINTED, COUNTED, CHANGED = 50, 400, 1200
 # what the package's examples print, the first two as those in C and in Python do: of a cube its first three frames
 CUBE = ["26122 pixels", "26154 pixels", "26079 pixels"]
 TOUCHED = [
@@ -93,6 +95,8 @@ IN_NODE_ALONE = (
     "memory",
     "history",
     "pointed",
+    "overdraw",
+    "planes_of_large",
     "explained",
     "blamed",
 )
@@ -121,6 +125,7 @@ IN_FIREFOX = (
     "links",
     "saved_pictures",
     "depth_range",
+    "overdraw",
     "states",
     "recorded_lines",
     "colours_of_words",
@@ -209,7 +214,8 @@ class NodeTests:
         cube, recorders = self.example("cube", "60"), self.example("recorders")
         check(cube[:3] == CUBE and len(cube) == 60, f"{cube}")
         touched = self.example("history", DATA / "shadow-volumes.txt", "88", "113")
-        check(touched == TOUCHED, f"{touched}")
+        until = self.example("history", DATA / "shadow-volumes.txt", "88", "113", "9")
+        check(touched == TOUCHED and until == TOUCHED[:2], f"{touched}, {until}")
         check(recorders == RECORDERS, f"{recorders}")
         return "60 frames of a cube, 8 recorders, the history of a pixel"
 
@@ -263,6 +269,20 @@ class NodeTests:
         median, most = map(float, self.printed("pointed", ["large.txt"]).split())
         check(median < POINTED, f"the history of a pixel takes {median} ms, and {most} at most")
         return f"{median} ms, {most} at most"
+
+    def overdraw(self) -> str:
+        """How often pixels were touched, and which ones lines changed, against the device's histories and texts."""
+        scenes = write_random_scenes(self.room)
+        printed = self.printed("overdraw", ASKED_BY_LINES) + self.printed("overdraw", scenes, self.room)
+        found = [int(it.split()[-1]) for it in printed.splitlines()]
+        check(len(found) >= len(ASKED_BY_LINES), printed)
+        return f"{sum(found)} pixels of {len(found)} scripts"
+
+    def planes_of_large(self) -> str:
+        """How long the planes take that are counted and compared, of 2,048 by 2,048."""
+        counted, changed = map(float, self.printed("planes", ["large.txt"]).split())
+        check(counted < COUNTED and changed < CHANGED, f"overdraw takes {counted} ms, and what changed {changed}")
+        return f"overdraw {counted:.0f} ms, what a line changed {changed:.0f}"
 
     def blamed(self) -> str:
         """The letters that are to blame for a fault or a refusal, against those that the package's `check` tells."""

@@ -10,7 +10,7 @@ from release.tree import File
 from yuzuratchet.device import DEVICE
 
 WEB = package_path.TOP / "web"
-ENGINE = ("device.js", "module.js", "script.js", "states.js", "targa.js", "units.js")
+ENGINE = ("device.js", "module.js", "script.js", "session.js", "states.js", "targa.js", "units.js")
 MODULE = "yuzuratchet.wasm"
 
 
