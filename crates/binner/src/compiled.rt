@@ -266,8 +266,8 @@ impl<A: Allocator + Copy> Compiled<A> {
     pub fn prefetch(&self, number: u16) -> u64 {
         match self.triangles.get(number as usize) {
             Some(triangle) => {
-                let bounds = u64::from(triangle.bounds.left);
-                bounds ^ triangle.plane.prefetch() ^ triangle.edges.prefetch()
+                let middle = u64::from(triangle.greatest_depth);
+                triangle.plane.prefetch() ^ middle ^ triangle.edges.prefetch()
             }
             None => 0,
         }

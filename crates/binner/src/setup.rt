@@ -17,16 +17,16 @@ const _: () = prove!(size_of::<TriSetup>() <= 184);
 /// A triangle that is not dropped. No pixel outside of `bounds` is reached.
 #[derive(Drop)]
 pub struct TriSetup {
-    pub edges: PackedEdges,
     pub plane: Plane,
     pub bounds: PixelRect,
-    /// Whether it uses the front operations.
-    pub front: bool,
     /// The leading vertex's colour.
     pub rgba: [u8; 4],
     /// The least and the greatest depth of its vertices, moved by the bias.
     pub least_depth: u32,
     pub greatest_depth: u32,
+    /// Whether it uses the front operations.
+    pub front: bool,
+    pub edges: PackedEdges,
     pub ghost same: { plane.triangle ≡ edges },
     pub ghost solid: { is_empty edges ≡ false },
     pub ghost deep: { AreDepths plane },

@@ -13,10 +13,10 @@ use std::marker::Model;
 /// The edges of a triangle whose area is not zero, where many wait to be drawn. Contracts see them as the triangle.
 #[derive(Debug, Drop)]
 pub struct PackedEdges {
-    triangle: SnapTri,
     first: ShortFunction,
     second: ShortFunction,
     third: ShortFunction,
+    triangle: SnapTri,
 }
 
 impl Model for PackedEdges {
@@ -98,6 +98,6 @@ impl PackedEdges {
     /// Reads a part, so that the memory is on its way. The number is no result: a caller keeps it only so that the read is done.
     #[inline]
     pub fn prefetch(&self) -> u64 {
-        u64::from(self.triangle.x[0].unsigned_abs())
+        u64::from(self.third.step_y.unsigned_abs())
     }
 }

@@ -140,6 +140,23 @@ impl<A: Allocator> TileBlock<A> {
         &mut self.stored[0]
     }
 
+    /// Reads a part of each row of the stored colours and depths, but of those that a noted clear hides, so that they are on their way
+    /// from memory before the first is drawn on. The number is no result: a caller keeps it only so that the reads are done.
+    #[inline]
+    pub fn prefetch(&self) -> u64 {
+        let Some(pixels) = self.stored.first() else {
+            return 0;
+        };
+        let mut reads = 0;
+        if self.color.is_none() {
+            reads ^= pixels.prefetch_colors();
+        }
+        if self.depth_stencil.is_none() {
+            reads ^= pixels.prefetch_depths();
+        }
+        reads
+    }
+
     /// What a pixel of the rectangle holds.
     pub fn get(&self, x: u32, y: u32) -> Pixel
         requires { IsIn self.now.rect x y }

@@ -38,6 +38,16 @@ fn set_half(span: &mut [u32; 8], from: usize, values: [u32; 4])
     store_four(&mut span[from..from + 4], values);
 }
 
+/// Reads the first value of every other span, which is one of each 64 bytes.
+#[inline]
+fn prefetch(spans: &[[u32; 8]; 128]) -> u64 {
+    let mut reads = 0;
+    for pair in 0..64usize {
+        reads ^= spans[2 * pair][0];
+    }
+    u64::from(reads)
+}
+
 /// The stored values of a tile's pixels: span s of row y at place 4 * y + s.
 #[derive(Drop)]
 struct Spans {
@@ -314,6 +324,19 @@ impl TilePixels {
     {
         let at = (4 * row + quad / 2) as usize;
         half_of(&self.spans.colors[at], (quad % 2 * 4) as usize)
+    }
+
+    /// Reads a part of each row of the colours, so that all rows are on their way from memory side by side. The number is no result: a
+    /// caller keeps it only so that the reads are done.
+    #[inline]
+    pub(crate) fn prefetch_colors(&self) -> u64 {
+        prefetch(&self.spans.colors)
+    }
+
+    /// Reads a part of each row of the depths, as `prefetch_colors` does.
+    #[inline]
+    pub(crate) fn prefetch_depths(&self) -> u64 {
+        prefetch(&self.spans.depths)
     }
 
     /// The depths of such four pixels.

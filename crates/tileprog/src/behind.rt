@@ -43,7 +43,7 @@ fn run_lists<A: Allocator + Copy>(lists: &[Compiled<A>], tile: u32, block: &mut 
 {
     let mut reads = 0;
     for list in lists {
-        reads ^= prefetch(list, tile);
+        reads ^= prefetch(list, tile, block);
         run_words(list, tile, block);
     }
     reads

@@ -168,7 +168,7 @@ impl<A: Allocator + Copy + Send> TileJob for TileProgram<A> {
     fn run(&self, tile: PlacedTile<A>) -> RunTile<A> {
         let PlacedTile { place, tile } = tile;
         let OpenTile { number, mut block } = tile;
-        let mut prefetched = prefetch(&self.first, number);
+        let mut prefetched = prefetch(&self.first, number, &block);
         let counts = run_words(&self.first, number, &mut block);
         prefetched ^= run_behind(&self.behind, number, &mut block);
         RunTile {

@@ -51,21 +51,21 @@ fn clipped(rect: PixelRect, bounds: PixelRect) -> PixelRect
 fn draw_under(
     block: &mut TilePixels,
     triangle: &TriSetup,
-    mask: EdgeMask,
+    mask: &EdgeMask,
     entry: &StateEntry,
-    clip: PixelRect,
+    clip: &PixelRect,
     flip: u32,
 ) -> u32
     requires tile { IsTile block.old.rect }
-    requires class { IsClassOf (Cut (edge_bits mask)) triangle.now.edges block.old.rect }
+    requires class { IsClassOf (Cut (edge_bits mask.now)) triangle.now.edges block.old.rect }
     requires bounded { IsBounded triangle.now entry.now }
-    requires within { IsWithin clip block.old.rect }
-    requires inside { (u v : ℕ) → IsIn block.old.rect u v → is_in_rect clip u v ≡ is_in_rect triangle.now.bounds u v }
-    ensures { DrewUnder mask triangle.now entry.now flip block.old block.new result }
+    requires within { IsWithin clip.now block.old.rect }
+    requires inside { (u v : ℕ) → IsIn block.old.rect u v → is_in_rect clip.now u v ≡ is_in_rect triangle.now.bounds u v }
+    ensures { DrewUnder mask.now triangle.now entry.now flip block.old block.new result }
 {
     let write = write_under(&entry.blend, triangle.rgba, flip);
     let brush = make_brush(entry.depth_stencil, triangle.front, entry.reference, write);
-    draw(block, triangle, mask.bits(), &brush, clip)
+    draw(block, triangle, mask.bits(), &brush, *clip)
 }
 
 /// A small triangle under a state entry, as `draw_under` draws it, in columns of four pixels; nothing is drawn where a stencil takes part, no
@@ -101,19 +101,19 @@ fn draw_quads_under(
 fn draw_small_under(
     block: &mut TilePixels,
     triangle: &TriSetup,
-    mask: EdgeMask,
+    mask: &EdgeMask,
     entry: &StateEntry,
-    clip: PixelRect,
+    clip: &PixelRect,
     flip: u32,
 ) -> u32
     requires tile { IsTile block.old.rect }
-    requires class { IsClassOf (Cut (edge_bits mask)) triangle.now.edges block.old.rect }
+    requires class { IsClassOf (Cut (edge_bits mask.now)) triangle.now.edges block.old.rect }
     requires bounded { IsBounded triangle.now entry.now }
-    requires within { IsWithin clip block.old.rect }
-    requires inside { (u v : ℕ) → IsIn block.old.rect u v → is_in_rect clip u v ≡ is_in_rect triangle.now.bounds u v }
-    ensures { DrewUnder mask triangle.now entry.now flip block.old block.new result }
+    requires within { IsWithin clip.now block.old.rect }
+    requires inside { (u v : ℕ) → IsIn block.old.rect u v → is_in_rect clip.now u v ≡ is_in_rect triangle.now.bounds u v }
+    ensures { DrewUnder mask.now triangle.now entry.now flip block.old block.new result }
 {
-    match draw_quads_under(block, triangle, mask, entry, clip, flip) {
+    match draw_quads_under(block, triangle, *mask, entry, *clip, flip) {
         Some(passed) => passed,
         None => draw_under(block, triangle, mask, entry, clip, flip),
     }
@@ -168,17 +168,17 @@ fn depth_range(triangle: &TriSetup, rect: PixelRect, asked: bool, whole: bool) -
 fn run_small(
     block: &mut TilePixels,
     triangle: &TriSetup,
-    mask: EdgeMask,
+    mask: &EdgeMask,
     entry: &StateEntry,
-    clip: PixelRect,
+    clip: &PixelRect,
     flip: u32,
 ) -> u32
     requires tile { IsTile block.old.rect }
-    requires class { IsClassOf (Cut (edge_bits mask)) triangle.now.edges block.old.rect }
+    requires class { IsClassOf (Cut (edge_bits mask.now)) triangle.now.edges block.old.rect }
     requires bounded { IsBounded triangle.now entry.now }
-    requires within { IsWithin clip block.old.rect }
-    requires inside { (u v : ℕ) → IsIn block.old.rect u v → is_in_rect clip u v ≡ is_in_rect triangle.now.bounds u v }
-    ensures { DrewUnder mask triangle.now entry.now flip block.old block.new result }
+    requires within { IsWithin clip.now block.old.rect }
+    requires inside { (u v : ℕ) → IsIn block.old.rect u v → is_in_rect clip.now u v ≡ is_in_rect triangle.now.bounds u v }
+    ensures { DrewUnder mask.now triangle.now entry.now flip block.old block.new result }
 {
     let stored = block.depth_bounds();
     let (least, greatest) = (triangle.least_depth, triangle.greatest_depth);
@@ -212,7 +212,7 @@ fn run_triangle(
         return 0;
     }
     if !is_large(triangle.bounds) {
-        return run_small(block, triangle, mask, entry, clip, *flip);
+        return run_small(block, triangle, &mask, entry, &clip, *flip);
     }
     let whole = is_whole(rect, clip, mask);
     let open = is_open(entry, whole);
@@ -231,7 +231,7 @@ fn run_triangle(
         return run_alike(block, triangle, entry, deep);
     }
     let after = bounds_after(entry, least, greatest, whole, stored);
-    let passed = draw_under(block, triangle, mask, entry, clip, *flip);
+    let passed = draw_under(block, triangle, &mask, entry, &clip, *flip);
     keep_after(block, after, entry.depth_stencil.func(), passed);
     passed
 }

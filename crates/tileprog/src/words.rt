@@ -117,19 +117,31 @@ fn run_word<A: Allocator + Copy>(
     }
 }
 
-/// Reads a part of the record of each triangle of a tile's program, so that all records are on their way from memory side by side
-/// before the first is drawn. The number is an aid and not a result: it says nothing of the tile, and is kept only so that the
-/// reads are done.
-pub(crate) fn prefetch<A: Allocator + Copy>(compiled: &Compiled<A>, tile: u32) -> u64
+/// Fewer triangles than these read less of a tile than all of its rows.
+const FEW_TRIANGLES: u32 = 4;
+
+/// Reads a part of the record of each triangle of a tile's program, and of the tile's pixels where it has several, so that all are on
+/// their way from memory side by side before the first triangle is drawn. The number is an aid and not a result: it says nothing of
+/// the tile, and is kept only so that the reads are done.
+pub(crate) fn prefetch<A: Allocator + Copy>(
+    compiled: &Compiled<A>,
+    tile: u32,
+    block: &TileBlock<A>,
+) -> u64
     requires { tile < tile_count compiled.now.size }
 {
     let mut reads = 0;
+    let mut drawn = 0u32;
     for number in compiled.words(tile) {
         if let Some(Word::Tri(triangle, _)) = decode(number) {
             reads ^= compiled.prefetch(triangle);
+            drawn = drawn.saturating_add(1);
         }
     }
-    reads
+    if drawn < FEW_TRIANGLES {
+        return reads;
+    }
+    reads ^ block.prefetch()
 }
 
 /// Runs the program of a tile on its block; the answer has the count of each issue.
