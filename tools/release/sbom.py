@@ -29,6 +29,8 @@ HEADS = {
     "BSD": "BSD-3-Clause",
     "Permission is hereby granted, free of charge": "MIT",
 }
+# crates of which nothing is linked in
+TRIED = ("conformance", "conformance_parts", "gallery")
 OF_KIT = "a library of the toolchain"
 NOWHERE = "NOASSERTION"
 
@@ -59,7 +61,7 @@ def libraries() -> list[str]:
     rows = (package_path.TOP / "crates.txt").read_text(encoding="ascii").splitlines()
     found = [re.match(r"(\w+)[^:#]*:(.*)", it) for it in rows]
     own = {it[1] for it in found if it}
-    used = {name for it in found if it and it[1] not in ("conformance", "gallery") for name in it[2].split()} - own
+    used = {name for it in found if it and it[1] not in TRIED for name in it[2].split()} - own
     asks = ASKS.format(bin=str(toolchain.kit() / "bin"), names=sorted({"core", "std", *used}))
     names = run([sys.executable, "-c", asks]).split()
     if not names:

@@ -7,10 +7,10 @@ mod next;
 mod threads;
 mod waiting;
 
-use crate::calls::{Call, list_of};
 use cmdlist::CommandList;
 use gfxspec::GfxError;
 use std::alloc::Global;
+use test_tools::{Call, list_of};
 
 /// A list that clears the colours.
 fn clearing(alloc: Global) -> Result<CommandList<Global>, GfxError> {

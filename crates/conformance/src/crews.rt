@@ -1,8 +1,6 @@
 //! A crew of threads: its threads meet at a run, over many runs it answers as the caller alone, and the caller draws what no
 //! thread and no memory is there for.
 
-use crate::calls::{Call, list_of, record_all};
-use crate::meeting::{AllAtOnce, Meeting};
 use cmdlist::CommandList;
 use gfxspec::{GfxError, Topology, Vertex};
 use immediate::{ImmediateContext, RunCrew};
@@ -14,6 +12,7 @@ use std::sync::atomic::{AtomicBool, AtomicU64};
 use std::test::Fail;
 use std::thread;
 use std::thread::Threads;
+use test_tools::{AllAtOnce, Call, Meeting, list_of, record_all};
 use workers::{Bells, Gate, NoGate, start_crews};
 
 /// A corner in pixels.

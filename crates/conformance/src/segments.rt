@@ -1,8 +1,6 @@
 //! Lists that a crew compiles in segments: its threads meet over them, what they draw is what the caller draws alone, and each
 //! growth may be refused.
 
-use crate::calls::{Call, list_of};
-use crate::meeting::AllAtOnce;
 use cmdlist::CommandList;
 use gfxspec::{GfxError, Size, Topology, Vertex};
 use immediate::{ImmediateContext, RunCrew};
@@ -12,6 +10,7 @@ use std::sync::Wait;
 use std::test::Fail;
 use std::thread;
 use std::thread::Threads;
+use test_tools::{AllAtOnce, Call, list_of};
 use workers::{Bells, Gate, NoGate, start_crews};
 
 const SIZE: Size = Size {

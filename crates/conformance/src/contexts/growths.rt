@@ -1,12 +1,12 @@
 //! Each growth refused in turn, and how many growths questions and pixels ask for.
 
-use crate::calls::{Call, list_of};
 use cmdlist::{CommandList, DeviceContext};
 use gfxspec::{DEPTH_MAX, GfxError, Topology, Vertex};
 use immediate::ImmediateContext;
 use refusing::Refusing;
 use std::alloc::Allocator;
 use std::test::Fail;
+use test_tools::{Call, list_of};
 
 /// A corner in pixels, with its grey.
 fn corner(x: i32, y: i32, grey: u8) -> Vertex {

@@ -3,7 +3,6 @@
 ghost use Rattle.std.specs.Prelude.{◌≡◌, IfOk};
 
 use crate::contexts::clearing;
-use crate::ports::apart;
 use cmdlist::CommandList;
 use gfxspec::GfxError;
 use immediate::ImmediateContext;
@@ -13,6 +12,7 @@ use std::process::Abort;
 use std::sync::Wait;
 use std::test::Fail;
 use std::thread::Threads;
+use test_tools::apart;
 use workers::NoGate;
 
 /// Executes the one submission of context 2, which is refused with sixteen workers, and finds no other.

@@ -1,13 +1,12 @@
 //! The calls that take a number of threads: as many meet as are asked for, and the answers are those of the scene.
 
-use crate::calls::{Call, list_of, record_all};
-use crate::meeting::AllAtOnce;
 use gfxspec::{GfxError, Topology, Vertex};
 use immediate::ImmediateContext;
 use refusing::Refusing;
 use std::alloc::Allocator;
 use std::test::Fail;
 use std::thread::Threads;
+use test_tools::{AllAtOnce, Call, list_of, record_all};
 use workers::{Gate, NoGate};
 
 /// A call that runs what is pending by a number of threads.

@@ -1,11 +1,11 @@
 //! Executions that wait: calls are refused as where nothing waits, nothing is lost by it, and what doesn't fit runs.
 
-use crate::calls::{Call, list_of, record_all};
 use cmdlist::{CommandList, DeferredContext, DeviceContext};
 use gfxspec::GfxError;
 use immediate::ImmediateContext;
 use std::alloc::{Allocator, Global};
 use std::test::Fail;
+use test_tools::{Call, list_of, record_all};
 
 /// A context of one pixel, with an execution that waits, a clear behind it, and query 0 open.
 fn with_query_open(alloc: Global) -> Result<ImmediateContext<Global>, GfxError> {

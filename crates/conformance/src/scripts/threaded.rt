@@ -6,7 +6,7 @@ use super::queries::{FOUR_TILES, FOUR_TILES_ANSWERS};
 use super::refusals::STATE_LOST;
 use super::rows::{LIST_INHERITS_NOTHING, SLOPED_DEPTH};
 use super::*;
-use crate::meeting::{AllAtOnce, Meeting};
+use test_tools::{AllAtOnce, Meeting};
 
 /// Runs a script alone and with so many workers: the end and the bytes are the same.
 fn assert_same<R: Threads + Wait + Abort + Sync>(rt: &R, alloc: Global, script: &str, workers: u32)
