@@ -32,7 +32,7 @@ import sys
 import tempfile
 import time
 import typing
-from collections.abc import Iterator, Sequence
+from collections.abc import Iterator, Mapping, Sequence
 
 import scenes
 from yuzuratchet import ProgramMissing
@@ -50,6 +50,7 @@ MORE = {
     "executed-lists": 8,
     "executed-rounds": 6,
     "clears": 10,
+    "large-plain": 8,
     "large-xor": 8,
     "shadow-volumes": 8,
     "ten-tiles": 20,
@@ -99,10 +100,20 @@ def digest_of(image: pathlib.Path) -> str:
     return digest.hexdigest()[:16]
 
 
-def run(program: pathlib.Path, script: pathlib.Path, image: pathlib.Path, words: list[str]) -> Run:
-    """Runs the program once."""
+def run(
+    program: pathlib.Path,
+    script: pathlib.Path,
+    image: pathlib.Path,
+    words: list[str],
+    environment: Mapping[str, str] | None = None,
+    stderr: int | None = None,
+) -> Run:
+    """Runs the program once, with more in its environment, and what it says on standard error there or elsewhere."""
+    more = {**os.environ, **(environment or {})}
     before = time.monotonic()
-    child = subprocess.Popen([program, script, image, *words], stdout=subprocess.PIPE, text=True)
+    child = subprocess.Popen(
+        [program, script, image, *words], stdout=subprocess.PIPE, stderr=stderr, text=True, env=more
+    )
     assert child.stdout is not None
     answers = child.stdout.read()
     _, status, usage = os.wait4(child.pid, 0)

@@ -100,14 +100,24 @@ def large_triangles(scene: Scene) -> Frame:
     return frame_of(context.finish_command_list())
 
 
-def large_xor(scene: Scene) -> Frame:
-    """The same 300 triangles under XOR, with the depth test off."""
+def large_under(scene: Scene, blend: BlendState) -> Frame:
+    """The same 300 triangles under a blend state, with the depth test off."""
     context = scene.deferred[0]
     context.om_set_depth_stencil(DepthStencilState(depth_enable=False))
-    context.om_set_blend(BlendState(logic_op_enable=True, logic_op=LogicOp.XOR))
+    context.om_set_blend(blend)
     draw_triangles(context, random.Random(1), 300, 700, 1100)
     command_list = context.finish_command_list()
     return lambda immediate: immediate.execute(command_list, True)
+
+
+def large_plain(scene: Scene) -> Frame:
+    """The same 300 triangles, with the depth test off."""
+    return large_under(scene, BlendState())
+
+
+def large_xor(scene: Scene) -> Frame:
+    """The same 300 triangles under XOR, with the depth test off."""
+    return large_under(scene, BlendState(logic_op_enable=True, logic_op=LogicOp.XOR))
 
 
 def small_triangles(scene: Scene) -> Frame:
@@ -370,6 +380,7 @@ SCENES = {
     "executed-lists": executed_lists,
     "executed-rounds": executed_rounds,
     "clears": clears,
+    "large-plain": large_plain,
     "large-xor": large_xor,
     "shadow-volumes": shadow_volumes,
     "ten-tiles": ten_tiles,

@@ -142,6 +142,11 @@ def test_each_file_is_a_tool_or_a_module() -> None:
         ("bench/run.py", "clear", "--workers", "16"),
         ("bench/run.py", "clear", "--program", "/no/such/program"),
         ("bench/run.py", "clear", "--against", "/no/such/program"),
+        ("bench/peers.py",),
+        ("bench/peers.py", "/no/such/adapter"),
+        ("bench/peers.py", "tools/plain_device.py", "nothing"),
+        ("bench/peers.py", "tools/plain_device.py", "clear", "--threads", "17"),
+        ("bench/peers.py", "tools/plain_device.py", "clear", "--program", "/no/such/program"),
     ],
     ids=" ".join,
 )
@@ -220,6 +225,18 @@ def test_whole_runs_are_compared() -> None:
     rows = [line.split(" | ") for line in ran.stdout.splitlines() if "smallest" in line]
     assert [row[3:5] for row in rows] == [["-", "-"]] * 2, ran.stderr
     assert rows[0][9].startswith("1.00 (1.00 to 1.00)")
+
+
+def test_another_device_is_timed_in_the_same_turns() -> None:
+    program = "tools/plain_device.py"
+    ran = run_tool(
+        *("bench/peers.py", program, "many-finishes", "--runs", "1", "--threads", "1", "4"),
+        *("--program", program),
+    )
+    rows = [line.split(" | ") for line in ran.stdout.splitlines() if "many-finishes" in line]
+    assert [row[1] for row in rows] == ["1", "4"] and all(
+        row[2].endswith(" ms") for row in rows
+    ), ran.stderr
 
 
 def test_suites_are_timed() -> None:
