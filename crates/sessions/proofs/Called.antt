@@ -16,7 +16,7 @@ use Rattle.gfxspec.specs.Session.{open_now}
 use Rattle.meaning.specs.Contexts as contexts
 use Rattle.meaning.specs.Standing.{Stands, session_result}
 use Rattle.meaning.proofs.Contexts.{stands_new, shows}
-use Rattle.immediate.specs.Held.{Held, context_of, shown, answered, Executed}
+use Rattle.immediate.specs.Held.{Held, context_of, shown, answered, Executed, Ran}
 use Rattle.scenetext.specs.Scene.{Actor, Immediate, Deferred, Verb, Call, Finish, Flush, Execute, Query, Pixel, Line, Scene}
 use Rattle.scenetext.specs.Spelling.{IsVerb, AreLines, Spells}
 use Rattle.recorders.specs.Recording.{Recording, nothing_recorded, with_verb, with_line, recording_of, deferred_rows, listed}
@@ -50,12 +50,12 @@ not_refused list restore h d x = ⊎_elim (λ r. r.answer) (λ r. r.answer) x.ca
 -- it was accepted, did what its line does, and told the answers of that
 pub record IsTaken (e : List Line) (v : Verb) (h d : Held) (told : List Answer) : Type 0 where
   pub none : first_row (held_rows h v) ≡ None
-  pub taken : HasTaken (λ k n. listed e k n) v h d
+  pub taken : HasTaken (Ran [] true) (λ k n. listed e k n) v h d
   pub told_is : told ≡ held_answers v h
 
 taken_by : (e : List Line) (deferred : ℕ → Recording) (v : Verb) (h d : Held) (told : List Answer) → ((k : ℕ) → deferred k ≡ recording_of k e) → ImmediateCalled deferred v h d told → IsTaken e v h d told
 taken_by e deferred (Call c) h d told same r = record { none = r.0.answer; taken = r.0.ok; told_is = r.1 }
-taken_by e deferred Flush h d told same r = record { none = r.0.answer; taken = ran_executed [] true h d r.0.ok; told_is = r.1 }
+taken_by e deferred Flush h d told same r = record { none = r.0.answer; taken = r.0.ok; told_is = r.1 }
 taken_by e deferred (Execute k n restore) h d told same r =
     let list = slice_index_or (deferred k).lists n [] in
     let list_is : list ≡ listed e k n = ap (λ (x : Recording). slice_index_or x.lists n []) (same k) in
@@ -111,7 +111,7 @@ module _ (size : Size) where
       let t = taken_by e old.deferred v h new.immediate told b.recorded r.0 in
       record {
         behind = record {
-          played = next_played size e h b.played (λ k n. listed e k n) v new.immediate (λ k n restore same. refl) sound t.none t.taken;
+          played = next_played size e h b.played (Ran [] true) (ran_executed [] true) (λ k n. listed e k n) v new.immediate (λ k n restore same. refl) sound t.none t.taken;
           recorded = λ k. r.1 k ∙ b.recorded k ∙ sym (recorded-push k e l);
         };
         accepted = sym (rows_are size e h b.played v) ∙ t.none;

@@ -41,8 +41,8 @@ settle_is old new (Ok done) ran memory = record { accepted = refl; did = ran.0; 
 settle_is old new (Err e) ran memory = record { accepted = tt; did = tt; cause = inr memory }
 
 -- what is taken behind it
-pub taken_behind : (w : ℕ → ℕ → List Command) (k n : ℕ) (restore : Bool) (a b c : Held) → Stays a b → HasTaken w (Execute k n restore) b c → HasTaken w (Execute k n restore) a c
-taken_behind w k n restore a b c s taken = (taken.0, taken.1, executed_behind a b s (w k n) restore c taken.2)
+pub taken_behind : (flushed : Held → Held → Type 0) (w : ℕ → ℕ → List Command) (k n : ℕ) (restore : Bool) (a b c : Held) → Stays a b → HasTaken flushed w (Execute k n restore) b c → HasTaken flushed w (Execute k n restore) a c
+taken_behind flushed w k n restore a b c s taken = (taken.0, taken.1, executed_behind a b s (w k n) restore c taken.2)
 
 pub same_rows : (a b : Held) → Stays a b → first_row (flush_rows (queries_open b.pending)) ≡ first_row (flush_rows (queries_open a.pending))
 same_rows a b s = ap (λ (l : List Command). first_row (flush_rows (queries_open l))) s.pending

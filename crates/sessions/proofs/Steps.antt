@@ -17,7 +17,7 @@ use Rattle.recorders.proofs.Recordings.{lists_counted}
 use Rattle.recorders.proofs.Growing.{listed_early}
 use Rattle.recorders.specs.Dealing.{taker_of, places_of}
 use Rattle.recorders.proofs.Places.{IsFirst, first, next_place, kept_on}
-use Rattle.immediate.specs.Held.{Held, Ran, context_of}
+use Rattle.immediate.specs.Held.{Held, Executed, Ran, context_of}
 use Rattle.sessions.specs.declared.play.Played.{Played}
 use Rattle.sessions.specs.declared.play.Interruption.{Interruption}
 use Rattle.sessions.specs.declared.play.Interruption.TheVariants.{Refused}
@@ -224,9 +224,9 @@ module _ (size : Size) (ls : List Line) (n : ℕ) (l : Line) (c : Held) (text : 
       ap (refusal size (take i ls)) (sym next.here) ∙ ap (λ a. first_row (line_rows size (take i ls) a l.verb)) next.own
       ∙ sym (rows_are size (take i ls) c h.played l.verb)
 
-  pub reached_next : (w : ℕ → ℕ → List Command) (d : Held) (new : List ℕ) → ListsOf ls w → first_row (held_rows c l.verb) ≡ None → HasTaken w l.verb c d → new ≡ text ++ answer_lines (held_answers l.verb c) → HasReached size ls (own_place ls (n + 1)) d new
-  reached_next w d new right none took grown =
-      let step = next_played size (take i ls) c h.played w l.verb d (executed_list ls n l next w right) next.is.verb none took in
+  pub reached_next : (flushed : Held → Held → Type 0) → ((old new : Held) → flushed old new → Executed [] true old new) → (w : ℕ → ℕ → List Command) (d : Held) (new : List ℕ) → ListsOf ls w → first_row (held_rows c l.verb) ≡ None → HasTaken flushed w l.verb c d → new ≡ text ++ answer_lines (held_answers l.verb c) → HasReached size ls (own_place ls (n + 1)) d new
+  reached_next flushed runs w d new right none took grown =
+      let step = next_played size (take i ls) c h.played flushed runs w l.verb d (executed_list ls n l next w right) next.is.verb none took in
       let says = answers_are size (take i ls) c h.played l.verb none in
       reached_on size ls (i + 1) (own_place ls (n + 1)) d new (next.on size) record {
         played = subst (λ x. IsPlayed size x d) (ap (λ m. take i ls ++ m ∷ []) (sym (immediate_line l l.verb next.own refl) ∙ next.here) ∙ sym (take_more ls i a_line next.below)) step;

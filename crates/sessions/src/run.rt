@@ -36,8 +36,8 @@ pub(crate) trait RecordsCalls {
     ghost use Rattle.scenetext.specs.Scene.{Call};
     ghost use Rattle.command.specs.Seen.{command_value};
     ghost use Rattle.cmdlist.specs.Calls.{RecordsCall};
-    ghost use Rattle.immediate.specs.Held.{Held, IsExamined, held_more};
-    ghost use Rattle.std.specs.Prelude.{◌≡◌, ℕ, List, [], ◌∷◌, OnOk, IfErr};
+    ghost use Rattle.immediate.specs.Held.{Held, Executed, IsExamined, held_more};
+    ghost use Rattle.std.specs.Prelude.{◌≡◌, ℕ, List, [], ◌∷◌, true, OnOk, IfErr};
     ghost use Rattle.gfxspec.specs.declared.geometry.Size.{Size};
     ghost use Rattle.gfxspec.specs.Refusals.{first_row};
     ghost use Rattle.gfxspec.specs.Session.{Step, Records};
@@ -48,6 +48,9 @@ pub(crate) trait RecordsCalls {
     type Alloc: Allocator;
 
     ghost held: { Self → Held };
+
+    /// What a flush line leaves: where nothing is drawn, the pending commands may wait.
+    ghost flushed: { Held → Held → Type 0 };
 
     /// What is kept beside it of a pixel of a target of this size, behind these steps.
     ghost traces: { Size → List Step → ℕ → ℕ → Self → Type 0 };
@@ -68,14 +71,24 @@ pub(crate) trait RecordsCalls {
         requires inside { IsInside (held self.now).surface.size question }
         requires settled { (held self.now).waiting ≡ [] }
         ensures { result ≡ stored_answer (held self.now) question };
+
+    /// It leaves what an execution of nothing does.
+    ghost flushed_runs: { (old new : Held) → flushed old new → Executed [] true old new };
 }
 
 impl<A: Allocator + Copy + Send> RecordsCalls for ImmediateContext<A> {
     type Alloc = A;
 
+    ghost use Rattle.std.specs.Prelude.{[], true};
+    ghost use Rattle.immediate.specs.Held.{Ran};
+
     ghost held = { λ context. context };
 
+    ghost flushed = { Ran [] true };
+
     ghost traces = { λ size steps x y context. Unit {0} };
+
+    ghost flushed_runs = { λ old new ran. record { size = ran.size; run = ran.run } };
 
     fn record_command(&mut self, command: &Command<A>) -> Result<(), GfxError> {
         self.record(command)

@@ -10,7 +10,7 @@ ghost use Rattle.gfxspec.specs.Refusals.{AnswersBy, flush_rows};
 ghost use Rattle.gfxspec.specs.Session.{Step, Executes, Flushes};
 ghost use Rattle.meaning.specs.Standing.{Stands};
 ghost use Rattle.pixelhistory.specs.Standing.{TracesAll};
-ghost use Rattle.immediate.specs.Held.{context_of, Stays, Runs, Enqueues};
+ghost use Rattle.immediate.specs.Held.{context_of, Executed, Stays, Runs, Enqueues};
 ghost use Rattle.sessions.specs.Taking.{verb_of, IsHere, RanBy, run_rows, HasRun, TracesOn, TracesRun};
 ghost use Rattle.sessions.specs.Histories.{traces_beside};
 
@@ -25,13 +25,19 @@ use recorders::ListSource;
 use std::alloc::Allocator;
 
 impl<A: Allocator + Copy + Send> RecordsCalls for TracedContext<A> {
+    ghost use Rattle.std.specs.Prelude.{[], true};
+    ghost use Rattle.immediate.specs.Held.{Executed};
     ghost use Rattle.sessions.specs.Histories.{held_by, traces_beside};
 
     type Alloc = A;
 
     ghost held = { held_by };
 
+    ghost flushed = { Executed [] true };
+
     ghost traces = { traces_beside };
+
+    ghost flushed_runs = { λ old new executed. executed };
 
     fn record_command(&mut self, command: &Command<A>) -> Result<(), GfxError> {
         self.context.record(command)
@@ -111,7 +117,7 @@ impl<A: Allocator + Copy + Send> TracedContext<A> {
         running: Running,
     ) -> Result<(), GfxError>
         requires here { IsHere (S.holds lists.now) (verb_of running) }
-        ensures ran { HasRun (RanBy (S.agrees lists.now) (S.right lists.now) running self.old.context self.new.context) (run_rows running self.old.context) result }
+        ensures ran { HasRun (RanBy (Executed [] true) (S.agrees lists.now) (S.right lists.now) running self.old.context self.new.context) (run_rows running self.old.context) result }
         ensures traced { OnOk result (TracesRun traces_beside (S.agrees lists.now) (S.right lists.now) running self.old.context self.old self.new) }
     {
         match running {

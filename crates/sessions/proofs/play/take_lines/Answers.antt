@@ -41,7 +41,7 @@ loop-next-preserved g c =
       right = right;
       agrees = λ ok. held.agrees (taken.ensures.agrees ok);
       reached = λ ok.
-          reached_next size _ _ _ (g.C.RecordsCalls.held c.loop-next.context) _ next (held.reached (taken.ensures.agrees ok)) (g.S.ListSource.right taken.new.lists) (g.C.RecordsCalls.held taken.new.context) _ (λ k n. ap (λ f. f k n) right ∙ c.requires.may.lists k n) c.in_default.ensures.accepted (c.in_default.ensures.taken ok) c.in_default.ensures.told;
+          reached_next size _ _ _ (g.C.RecordsCalls.held c.loop-next.context) _ next (held.reached (taken.ensures.agrees ok)) g.C.RecordsCalls.flushed g.met.C.RecordsCalls.flushed_runs (g.S.ListSource.right taken.new.lists) (g.C.RecordsCalls.held taken.new.context) _ (λ k n. ap (λ f. f k n) right ∙ c.requires.may.lists k n) c.in_default.ensures.accepted (c.in_default.ensures.taken ok) c.in_default.ensures.told;
       traced = λ x y t ok.
           traced_next size _ _ _ (g.C.RecordsCalls.held c.loop-next.context) c.loop-next.answers.items next (held.reached (taken.ensures.agrees ok)) g.C.RecordsCalls.traces (g.S.ListSource.right taken.new.lists) x y c.loop-next.context taken.new.context (λ k n. ap (λ f. f k n) right ∙ c.requires.may.lists k n) (c.in_default.ensures.traced ok) (held.traced x y t (taken.ensures.agrees ok));
     }

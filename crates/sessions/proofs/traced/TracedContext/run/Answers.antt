@@ -11,7 +11,7 @@ pub returns-in-Settle-clause-ran : goal.returns-in-Settle-clause-ran
 returns-in-Settle-clause-ran g c =
     let s = c.args.lists.now in
     let old = c.args.self.now.context in
-    subst (λ (r : Running). HasRun (RanBy (g.S.ListSource.agrees s) (g.S.ListSource.right s) r old c.settle.new.self.context) (run_rows r old) c.settle.result) (sym c.in-Settle.is) c.settle.ensures.ran
+    subst (λ (r : Running). HasRun (RanBy (Executed [] true) (g.S.ListSource.agrees s) (g.S.ListSource.right s) r old c.settle.new.self.context) (run_rows r old) c.settle.result) (sym c.in-Settle.is) c.settle.ensures.ran
 
 pub returns-in-Settle-clause-traced : goal.returns-in-Settle-clause-traced
 returns-in-Settle-clause-traced g c =
@@ -24,7 +24,7 @@ returns-in-Flush-clause-ran g c =
     let s = c.args.lists.now in
     let old = c.args.self.now.context in
     let new = c.flush.new.self.context in
-    subst (λ (r : Running). HasRun (RanBy (g.S.ListSource.agrees s) (g.S.ListSource.right s) r old new) (run_rows r old) c.flush.result) (sym c.in-Flush.is)
+    subst (λ (r : Running). HasRun (RanBy (Executed [] true) (g.S.ListSource.agrees s) (g.S.ListSource.right s) r old new) (run_rows r old) c.flush.result) (sym c.in-Flush.is)
     (run_is [] true (Ran [] true old new) old new c.flush.result c.flush.ensures.ran (λ ran. ran))
 
 pub returns-in-Flush-clause-traced : goal.returns-in-Flush-clause-traced
@@ -38,7 +38,7 @@ returns-in-FlushLine-clause-ran g c =
     let s = c.args.lists.now in
     let old = c.args.self.now.context in
     let new = c.wait.new.self.context in
-    subst (λ (r : Running). HasRun (RanBy (g.S.ListSource.agrees s) (g.S.ListSource.right s) r old new) (run_rows r old) c.wait.result) (sym c.in-FlushLine.is)
+    subst (λ (r : Running). HasRun (RanBy (Executed [] true) (g.S.ListSource.agrees s) (g.S.ListSource.right s) r old new) (run_rows r old) c.wait.result) (sym c.in-FlushLine.is)
     (enqueue_is [] true (Executed [] true old new) old new c.wait.result c.wait.ensures.ran (λ ran. ran))
 
 pub returns-in-FlushLine-clause-traced : goal.returns-in-FlushLine-clause-traced
@@ -53,7 +53,7 @@ returns-in-Execute-clause-ran g c =
     let old = c.args.self.now.context in
     let new = c.execute.new.self.context in
     let list = c.finished_list in
-    subst (λ (r : Running). HasRun (RanBy (g.S.ListSource.agrees s) (g.S.ListSource.right s) r old new) (run_rows r old) c.execute.result) (sym c.in-Execute.is)
+    subst (λ (r : Running). HasRun (RanBy (Executed [] true) (g.S.ListSource.agrees s) (g.S.ListSource.right s) r old new) (run_rows r old) c.execute.result) (sym c.in-Execute.is)
     (enqueue_is list.result.now c.in-Execute.restore _ old new c.execute.result c.execute.ensures.ran
     (λ ran agrees. list_taken list.result.now _ c.in-Execute.restore old new (list.ensures.right agrees) list.ensures.none_open list.ensures.accepted ran))
 
