@@ -50,7 +50,7 @@ not_refused list restore h d x = ⊎_elim (λ r. r.answer) (λ r. r.answer) x.ca
 -- it was accepted, did what its line does, and told the answers of that
 pub record IsTaken (e : List Line) (v : Verb) (h d : Held) (told : List Answer) : Type 0 where
   pub none : first_row (held_rows h v) ≡ None
-  pub taken : HasTaken (Ran [] true) (λ k n. listed e k n) v h d
+  pub taken : HasTaken true (Ran [] true) (λ k n. listed e k n) v h d
   pub told_is : told ≡ held_answers v h
 
 taken_by : (e : List Line) (deferred : ℕ → Recording) (v : Verb) (h d : Held) (told : List Answer) → ((k : ℕ) → deferred k ≡ recording_of k e) → ImmediateCalled deferred v h d told → IsTaken e v h d told
@@ -111,7 +111,7 @@ module _ (size : Size) where
       let t = taken_by e old.deferred v h new.immediate told b.recorded r.0 in
       record {
         behind = record {
-          played = next_played size e h b.played (Ran [] true) (ran_executed [] true) (λ k n. listed e k n) v new.immediate (λ k n restore same. refl) sound t.none t.taken;
+          played = next_played size e h b.played true (Ran [] true) (ran_executed [] true) (λ k n. listed e k n) v new.immediate (λ k n restore same. refl) sound t.none t.taken;
           recorded = λ k. r.1 k ∙ b.recorded k ∙ sym (recorded-push k e l);
         };
         accepted = sym (rows_are size e h b.played v) ∙ t.none;

@@ -1,5 +1,5 @@
 -- Runs of the pending commands, as a session is answered by them.
-use Rattle.std.proofs.Common.{◌≡◌, ◌∙◌, ⊎_elim, inl, inr, ap, sym, subst, refl, ℕ, Bool, List, [], ◌∷◌, ◌++◌, Option, ◌<◌}
+use Rattle.std.proofs.Common.{true, false, ◌≡◌, ◌∙◌, ⊎_elim, inl, inr, ap, sym, subst, refl, ℕ, Bool, List, [], ◌∷◌, ◌++◌, Option, ◌<◌}
 use Rattle.std.proofs.lemmas.List.{append-nil}
 use Rattle.gfxspec.specs.declared.geometry.Size.{Size}
 use Rattle.gfxspec.specs.Session.{Step, Executes}
@@ -20,7 +20,7 @@ use Rattle.immediate.proofs.Waiting.{executed_behind}
 use Rattle.scenetext.specs.Scene.{Execute}
 use Rattle.sessions.specs.declared.run.Running.{Running}
 use Rattle.sessions.specs.declared.run.Running.TheVariants as runs
-use Rattle.sessions.specs.Taking.{HasRun, HasTaken, TracesOn, TracesRun}
+use Rattle.sessions.specs.Taking.{HasRun, HasAsked, ExecutesListed, TracesOn, TracesRun}
 
 -- a run of the pending commands and a list, as it is answered
 pub run_is : (list : List Command) (restore : Bool) (did : Type 0) (old new : Held) (result : Result (Unit {0}) GfxError) → Runs (flush_rows (queries_open old.pending)) list restore old new result → (Ran list restore old new → did) → HasRun did (flush_rows (queries_open old.pending)) result
@@ -29,6 +29,11 @@ run_is list restore did old new (Err e) runs does = record { accepted = tt; did 
 
 pub ran_executed : (list : List Command) (restore : Bool) (old new : Held) → Ran list restore old new → Executed list restore old new
 ran_executed list restore old new ran = record { size = ran.size; run = ran.run }
+
+-- a question leaves what an execution of nothing does, whether its answer is heard or not
+pub asked_executed : (heard : Bool) (flushed : Held → Held → Type 0) → ((old new : Held) → flushed old new → Executed [] true old new) → (old new : Held) → HasAsked heard flushed old new → Executed [] true old new
+asked_executed true flushed runs old new asked = ran_executed [] true old new asked
+asked_executed false flushed runs old new asked = runs old new asked
 
 -- the same of an execution
 pub enqueue_is : (list : List Command) (restore : Bool) (did : Type 0) (old new : Held) (result : Result (Unit {0}) GfxError) → Enqueues (flush_rows (queries_open old.pending)) list restore old new result → (Executed list restore old new → did) → HasRun did (flush_rows (queries_open old.pending)) result
@@ -41,8 +46,8 @@ settle_is old new (Ok done) ran memory = record { accepted = refl; did = ran.0; 
 settle_is old new (Err e) ran memory = record { accepted = tt; did = tt; cause = inr memory }
 
 -- what is taken behind it
-pub taken_behind : (flushed : Held → Held → Type 0) (w : ℕ → ℕ → List Command) (k n : ℕ) (restore : Bool) (a b c : Held) → Stays a b → HasTaken flushed w (Execute k n restore) b c → HasTaken flushed w (Execute k n restore) a c
-taken_behind flushed w k n restore a b c s taken = (taken.0, taken.1, executed_behind a b s (w k n) restore c taken.2)
+pub taken_behind : (w : ℕ → ℕ → List Command) (k n : ℕ) (restore : Bool) (a b c : Held) → Stays a b → ExecutesListed w k n restore b c → ExecutesListed w k n restore a c
+taken_behind w k n restore a b c s taken = (taken.0, taken.1, executed_behind a b s (w k n) restore c taken.2)
 
 pub same_rows : (a b : Held) → Stays a b → first_row (flush_rows (queries_open b.pending)) ≡ first_row (flush_rows (queries_open a.pending))
 same_rows a b s = ap (λ (l : List Command). first_row (flush_rows (queries_open l))) s.pending

@@ -26,7 +26,7 @@ use Rattle.sessions.specs.Lists.{verb_steps, actor_steps, steps_of}
 use Rattle.answers.specs.declared.line.Answer.{Answer}
 use Rattle.answers.specs.Lines.{answer_lines, answer_line}
 use Rattle.sessions.specs.Answers.{answer_of, line_rows, refusal, answers_behind, answers_or, answers_from}
-use Rattle.sessions.specs.Playing.{own_count, own_place, IsPlayed, ListsOf, ImmediateAccepts, HasReached, IsInterrupted, IsTold, IsPlayedTo, HasTakenAll, HasFinished, HasEnded, HasPlayedBy}
+use Rattle.sessions.specs.Playing.{own_count, own_place, IsPlayed, ListsOf, ImmediateAccepts, HasReached, IsInterrupted, IsTold, IsPlayedTo, HasTakenAll, HasFinished, HasEndedWith}
 use Rattle.sessions.specs.Taking.{held_rows, HasTaken, HasRun, held_answers, Interrupts, taken_steps, TracesOn}
 use Rattle.sessions.proofs.Played.{steps_of-push, rows_are, next_played, answers_are}
 use Rattle.std.proofs.lemmas.Bool.{eqb-true}
@@ -224,9 +224,9 @@ module _ (size : Size) (ls : List Line) (n : ℕ) (l : Line) (c : Held) (text : 
       ap (refusal size (take i ls)) (sym next.here) ∙ ap (λ a. first_row (line_rows size (take i ls) a l.verb)) next.own
       ∙ sym (rows_are size (take i ls) c h.played l.verb)
 
-  pub reached_next : (flushed : Held → Held → Type 0) → ((old new : Held) → flushed old new → Executed [] true old new) → (w : ℕ → ℕ → List Command) (d : Held) (new : List ℕ) → ListsOf ls w → first_row (held_rows c l.verb) ≡ None → HasTaken flushed w l.verb c d → new ≡ text ++ answer_lines (held_answers l.verb c) → HasReached size ls (own_place ls (n + 1)) d new
-  reached_next flushed runs w d new right none took grown =
-      let step = next_played size (take i ls) c h.played flushed runs w l.verb d (executed_list ls n l next w right) next.is.verb none took in
+  pub reached_next : (heard : Bool) (flushed : Held → Held → Type 0) → ((old new : Held) → flushed old new → Executed [] true old new) → (w : ℕ → ℕ → List Command) (d : Held) (new : List ℕ) → ListsOf ls w → first_row (held_rows c l.verb) ≡ None → HasTaken heard flushed w l.verb c d → new ≡ text ++ answer_lines (held_answers l.verb c) → HasReached size ls (own_place ls (n + 1)) d new
+  reached_next heard flushed runs w d new right none took grown =
+      let step = next_played size (take i ls) c h.played heard flushed runs w l.verb d (executed_list ls n l next w right) next.is.verb none took in
       let says = answers_are size (take i ls) c h.played l.verb none in
       reached_on size ls (i + 1) (own_place ls (n + 1)) d new (next.on size) record {
         played = subst (λ x. IsPlayed size x d) (ap (λ m. take i ls ++ m ∷ []) (sym (immediate_line l l.verb next.own refl) ∙ next.here) ∙ sym (take_more ls i a_line next.below)) step;
@@ -234,11 +234,20 @@ module _ (size : Size) (ls : List Line) (n : ℕ) (l : Line) (c : Held) (text : 
         told = told_more size ls i text new (held_answers l.verb c) next.below h.told (ap (λ (m : Line). answer_of size (take i ls) m.verb) (sym next.here) ∙ says) grown;
       }
 
-  pub interrupted : (why : Interruption) (new : List ℕ) → new ≡ text → Interrupts (first_row (held_rows c l.verb)) l.verb why → IsInterrupted size ls i why new
-  interrupted why new same cause = record {
+  -- and the answers are written, if they are heard
+  pub written_next : (heard : Bool) (flushed : Held → Held → Type 0) → ((old new : Held) → flushed old new → Executed [] true old new) → (w : ℕ → ℕ → List Command) (d : Held) (old new : List ℕ) → ListsOf ls w → first_row (held_rows c l.verb) ≡ None → HasTaken heard flushed w l.verb c d → (heard ≡ true → old ≡ text) → (heard ≡ true → new ≡ old ++ answer_lines (held_answers l.verb c))
+      → (more : List ℕ) × (heard ≡ true → new ≡ more) × HasReached size ls (own_place ls (n + 1)) d more
+  written_next heard flushed runs w d old new right none took before grown = (
+    text ++ answer_lines (held_answers l.verb c),
+    (λ is. grown is ∙ ap (λ t. t ++ answer_lines (held_answers l.verb c)) (before is)),
+    reached_next heard flushed runs w d (text ++ answer_lines (held_answers l.verb c)) right none took refl,
+  )
+
+  pub interrupted : (why : Interruption) → Interrupts (first_row (held_rows c l.verb)) l.verb why → IsInterrupted size ls i why text
+  interrupted why cause = record {
     below = let inside = next.below in omega (arith, inside);
     accepted = h.accepted;
-    told = same ∙ h.told;
+    told = h.told;
     cause = subst (λ (m : Line). Interrupts (refusal size (take i ls) (line_at ls i)) m.verb why) next.here (subst (λ o. Interrupts o l.verb why) (sym refusal_is) cause);
   }
 
@@ -313,37 +322,34 @@ uninterrupted P R (Some at) none h = absurd cc
 abbrev pub IsLast : {C A : Type 0} → ℕ → Result (Unit {0}) GfxError → Played C A → Type 0
 IsLast place last r = MatchResult last (λ done. r.interruption ≡ None) (λ e. r.interruption ≡ Some (place, Refused e))
 
-module _ {C A : Type 0} (size : Size) (ls : List Line) (before : Held) (text : List ℕ) (reached : HasReached size ls (length ls) before text) (r : Played C A) (told : r.answers.items ≡ text) where
-  reached_there : HasReached size ls (length ls) before r.answers.items
-  reached_there = subst (HasReached size ls (length ls) before) (sym told) reached
-
-  last_to : (done : C → Type 0) (place : ℕ) (last : Result (Unit {0}) GfxError) → place ≡ length ls → IfErr last (Cause (first_row (held_rows before Flush))) → OnOk last (done r.context) → IsLast place last r → IsPlayedTo done size ls r
-  last_to done place (Ok u) end cause is none = subst (λ (o : Option (ℕ × Interruption)). MatchOption o (done r.context) (λ at. IsInterrupted size ls at.0 at.1 r.answers.items)) (sym none) is
+module _ {C A : Type 0} (size : Size) (ls : List Line) (before : Held) (text : List ℕ) (reached : HasReached size ls (length ls) before text) (r : Played C A) where
+  last_to : (done : C → Type 0) (place : ℕ) (last : Result (Unit {0}) GfxError) → place ≡ length ls → IfErr last (Cause (first_row (held_rows before Flush))) → OnOk last (done r.context) → IsLast place last r → IsPlayedTo done size ls text r
+  last_to done place (Ok u) end cause is none = subst (λ (o : Option (ℕ × Interruption)). MatchOption o (done r.context) (λ at. IsInterrupted size ls at.0 at.1 text)) (sym none) is
   last_to done place (Err e) end cause is some =
-      subst (λ (o : Option (ℕ × Interruption)). MatchOption o (done r.context) (λ at. IsInterrupted size ls at.0 at.1 r.answers.items)) (sym some)
-      (subst (λ n. IsInterrupted size ls n (Refused e) r.answers.items) (sym end) (last_interrupted size ls before r.answers.items (Refused e) e reached_there cause refl))
+      subst (λ (o : Option (ℕ × Interruption)). MatchOption o (done r.context) (λ at. IsInterrupted size ls at.0 at.1 text)) (sym some)
+      (subst (λ n. IsInterrupted size ls n (Refused e) text) (sym end) (last_interrupted size ls before text (Refused e) e reached cause refl))
 
   -- it was made
-  pub last_made : (held : C → Held) (place : ℕ) (c : C) (last : Result (Unit {0}) GfxError) → place ≡ length ls → HasRun (Ran [] true before (held c)) (held_rows before Flush) last → r.context ≡ c → IsLast place last r → HasPlayedBy held size ls r
-  last_made held place c last end ran context is = last_to (λ d. HasFinished size ls (held d) r.answers.items) place last end ran.cause (finished last ran.accepted ran.did) is
+  pub last_made : (held : C → Held) (place : ℕ) (c : C) (last : Result (Unit {0}) GfxError) → place ≡ length ls → HasRun (Ran [] true before (held c)) (held_rows before Flush) last → r.context ≡ c → IsLast place last r → IsPlayedTo (λ d. HasFinished size ls (held d) text) size ls text r
+  last_made held place c last end ran context is = last_to (λ d. HasFinished size ls (held d) text) place last end ran.cause (finished last ran.accepted ran.did) is
     where
-      finished : (last : Result (Unit {0}) GfxError) → OnOk last (first_row (held_rows before Flush) ≡ None) → OnOk last (Ran [] true before (held c)) → OnOk last (HasFinished size ls (held r.context) r.answers.items)
+      finished : (last : Result (Unit {0}) GfxError) → OnOk last (first_row (held_rows before Flush) ≡ None) → OnOk last (Ran [] true before (held c)) → OnOk last (HasFinished size ls (held r.context) text)
       finished (Ok u) accepted did = record {
-        all = record { before = before; reached = reached_there; accepted = accepted };
+        all = record { before = before; reached = reached; accepted = accepted };
         ran = subst (λ (d : C). Ran [] true before (held d)) (sym context) did;
       }
       finished (Err e) accepted did = tt
 
   -- nothing refuses it
-  pub last_allowed : (place : ℕ) (last : Result (Unit {0}) GfxError) → place ≡ length ls → AnswersBy (held_rows before Flush) last → IsLast place last r → HasEnded size ls r
+  pub last_allowed : (place : ℕ) (last : Result (Unit {0}) GfxError) → place ≡ length ls → AnswersBy (held_rows before Flush) last → IsLast place last r → HasEndedWith size ls text r
   last_allowed place last end answer is =
-      last_to (λ c. HasTakenAll size ls r.answers.items) place last end (cause last answer) (taken last answer) is
+      last_to (λ c. HasTakenAll size ls text) place last end (cause last answer) (taken last answer) is
     where
       cause : (last : Result (Unit {0}) GfxError) → AnswersBy (held_rows before Flush) last → IfErr last (Cause (first_row (held_rows before Flush)))
       cause (Ok u) a = tt
       cause (Err e) (inl row) = inl row
       cause (Err e) (inr memory) = inr memory.1
 
-      taken : (last : Result (Unit {0}) GfxError) → AnswersBy (held_rows before Flush) last → OnOk last (HasTakenAll size ls r.answers.items)
-      taken (Ok u) a = record { before = before; reached = reached_there; accepted = a }
+      taken : (last : Result (Unit {0}) GfxError) → AnswersBy (held_rows before Flush) last → OnOk last (HasTakenAll size ls text)
+      taken (Ok u) a = record { before = before; reached = reached; accepted = a }
       taken (Err e) a = tt

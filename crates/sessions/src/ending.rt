@@ -1,6 +1,6 @@
 //! How a scene ends: at the least refused line, or drawn.
 
-ghost use Rattle.std.specs.Prelude.{true, ◌≡◌, ◌+◌, List, [], length, map, None, IfOk, if◌then◌else◌};
+ghost use Rattle.std.specs.Prelude.{true, ◌≡◌, ◌+◌, ℕ, List, [], length, map, None, IfOk, if◌then◌else◌};
 ghost use Rattle.gfxspec.specs.declared.geometry.Size.{Size};
 ghost use Rattle.gfxspec.specs.Limits.{is_size};
 ghost use Rattle.scenetext.specs.Seen.{verb_value, line_value};
@@ -9,7 +9,7 @@ ghost use Rattle.scenetext.specs.Scene.{Line as PlainLine};
 ghost use Rattle.scenetext.specs.Spelling.{IsScene};
 ghost use Rattle.recorders.specs.Ending.{AreRecorded};
 ghost use Rattle.sessions.specs.Answers.{answer_of, answers_behind, image};
-ghost use Rattle.sessions.specs.Playing.{HasEnded, HasPlayed, missing_in, refused_line};
+ghost use Rattle.sessions.specs.Playing.{HasEnded, HasEndedWith, HasPlayed, missing_in, refused_line};
 ghost use Rattle.sessions.specs.Writing.{Draws, stopped_output};
 ghost use Rattle.sessions.specs.Performing.{ended_by, output_by};
 
@@ -94,7 +94,9 @@ pub(crate) fn end<C: Drop, A: Allocator + Copy>(
     requires scene { IsScene (scene_value scene.now) }
     requires recorded { AreRecorded scene.now.lines deferred (missing_in played.interruption) }
     requires ended { HasEnded scene.now.size scene.now.lines played }
-    ensures draws { Draws (scene_value scene.now) (ended_by (image (scene_value scene.now)) result.answers.items result.end) }
+    ensures draws { HasEndedWith scene.now.size scene.now.lines played.answers.items played
+        → Draws (scene_value scene.now) (ended_by (image (scene_value scene.now)) result.answers.items result.end) }
+    ensures draws_some { (lines : List ℕ) × Draws (scene_value scene.now) (ended_by (image (scene_value scene.now)) lines result.end) }
     ensures finished { IfOk result.end (λ c. (c ≡ played.context) × (played.interruption ≡ None)) }
 {
     let Played {

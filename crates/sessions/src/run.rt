@@ -37,7 +37,7 @@ pub(crate) trait RecordsCalls {
     ghost use Rattle.command.specs.Seen.{command_value};
     ghost use Rattle.cmdlist.specs.Calls.{RecordsCall};
     ghost use Rattle.immediate.specs.Held.{Held, Executed, IsExamined, held_more};
-    ghost use Rattle.std.specs.Prelude.{◌≡◌, ℕ, List, [], ◌∷◌, true, OnOk, IfErr};
+    ghost use Rattle.std.specs.Prelude.{◌≡◌, ℕ, Bool, List, [], ◌∷◌, true, OnOk, IfErr};
     ghost use Rattle.gfxspec.specs.declared.geometry.Size.{Size};
     ghost use Rattle.gfxspec.specs.Refusals.{first_row};
     ghost use Rattle.gfxspec.specs.Session.{Step, Records};
@@ -52,6 +52,9 @@ pub(crate) trait RecordsCalls {
     /// What a flush line leaves: where nothing is drawn, the pending commands may wait.
     ghost flushed: { Held → Held → Type 0 };
 
+    /// Whether the answers are heard.
+    ghost heard: { Bool };
+
     /// What is kept beside it of a pixel of a target of this size, behind these steps.
     ghost traces: { Size → List Step → ℕ → ℕ → Self → Type 0 };
 
@@ -60,6 +63,10 @@ pub(crate) trait RecordsCalls {
         ensures taken { RecordsCall (λ (h : Held). h.pending) held_more (held self.old) (command_value command.now) (held self.new) result }
         ensures cause { IfErr result (Cause (first_row (held_rows (held self.old) (Call (command_value command.now))))) }
         ensures traced { OnOk result (TracesOn traces (held self.old) (Records (command_value command.now) ∷ []) self.old self.new) };
+
+    /// Whether the answers are heard: else nothing runs for a question.
+    fn hears(&self) -> bool
+        ensures { result ≡ heard };
 
     /// Whether a question is refused before anything runs for it.
     fn examine(&self, question: Question) -> Result<(), GfxError>
@@ -86,12 +93,18 @@ impl<A: Allocator + Copy + Send> RecordsCalls for ImmediateContext<A> {
 
     ghost flushed = { Ran [] true };
 
+    ghost heard = { true };
+
     ghost traces = { λ size steps x y context. Unit {0} };
 
     ghost flushed_runs = { λ old new ran. record { size = ran.size; run = ran.run } };
 
     fn record_command(&mut self, command: &Command<A>) -> Result<(), GfxError> {
         self.record(command)
+    }
+
+    fn hears(&self) -> bool {
+        true
     }
 
     fn examine(&self, question: Question) -> Result<(), GfxError> {

@@ -25,7 +25,7 @@ use recorders::ListSource;
 use std::alloc::Allocator;
 
 impl<A: Allocator + Copy + Send> RecordsCalls for TracedContext<A> {
-    ghost use Rattle.std.specs.Prelude.{[], true};
+    ghost use Rattle.std.specs.Prelude.{[], true, false};
     ghost use Rattle.immediate.specs.Held.{Executed};
     ghost use Rattle.sessions.specs.Histories.{held_by, traces_beside};
 
@@ -35,12 +35,18 @@ impl<A: Allocator + Copy + Send> RecordsCalls for TracedContext<A> {
 
     ghost flushed = { Executed [] true };
 
+    ghost heard = { false };
+
     ghost traces = { traces_beside };
 
     ghost flushed_runs = { λ old new executed. executed };
 
     fn record_command(&mut self, command: &Command<A>) -> Result<(), GfxError> {
         self.context.record(command)
+    }
+
+    fn hears(&self) -> bool {
+        false
     }
 
     fn examine(&self, question: Question) -> Result<(), GfxError> {

@@ -59,7 +59,7 @@ all_named-requires-clause-below g c =
 pub returns-in-Ok-all_named-clause-history : goal.returns-in-Ok-all_named-clause-history
 returns-in-Ok-all_named-clause-history g c =
     let scene = scene_value c.args.scene.now in
-    let bytes = c.end-ended.result.answers.items in
+    let bytes = c.end-ended.ensures.draws_some.0 in
     let d = c.in-Ok-ended.traced in
     let same : c.end-ended.result.end ≡ Ok d = cc in
     let played = c.play_traced-played in
@@ -70,7 +70,7 @@ returns-in-Ok-all_named-clause-history g c =
     (played.ensures.traced t.x t.y (subst (λ z. traces_beside z [] t.x t.y t) (sym c.requires.size) c.requires.traced) tt) in
     let u = d.trace in
     let told : c.in-Ok-all_named.events.items ≡ named_by (named_event scene.lines) u.trace.events.items u.origins.items = c.in-Ok-all_named.ensures ∙ ap (λ ls. named_by (named_event ls) u.trace.events.items u.origins.items) dealt in (
-      drawn_done scene (ended_by (image scene) bytes (Ok d)) (subst (λ e. Draws scene (ended_by (image scene) bytes e)) same c.end-ended.ensures.draws) refl,
+      drawn_done scene (ended_by (image scene) bytes (Ok d)) (subst (λ e. Draws scene (ended_by (image scene) bytes e)) same c.end-ended.ensures.draws_some.1) refl,
       named_history scene.size scene.lines c.requires.scene.1 t.x t.y u whole.events whole.named c.in-Ok-all_named.events.items told,
     )
 
@@ -80,7 +80,7 @@ returns-in-Ok-ended-clause-refused g c text spells = record { output = refused_o
 pub returns-clause-refused : goal.returns-clause-refused
 returns-clause-refused g c text spells =
     let scene = scene_value c.args.scene.now in
-    let bytes = c.end-ended.result.answers.items in
+    let bytes = c.end-ended.ensures.draws_some.0 in
     let at : ℕ × ℕ = c.in-Err.refused in
     let same : c.end-ended.result.end ≡ Err at = cc in
-    record { output = stopped_output bytes at.0 at.1; allowed = drawing scene _ spells (subst (λ e. Draws scene (ended_by (image scene) bytes e)) same c.end-ended.ensures.draws); ended = refl }
+    record { output = stopped_output bytes at.0 at.1; allowed = drawing scene _ spells (subst (λ e. Draws scene (ended_by (image scene) bytes e)) same c.end-ended.ensures.draws_some.1); ended = refl }
