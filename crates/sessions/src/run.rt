@@ -64,7 +64,7 @@ pub(crate) trait RecordsCalls {
         ensures cause { IfErr result (Cause (first_row (held_rows (held self.old) (Call (command_value command.now))))) }
         ensures traced { OnOk result (TracesOn traces (held self.old) (Records (command_value command.now) ∷ []) self.old self.new) };
 
-    /// Whether the answers are heard: else nothing runs for a question.
+    /// Whether the answers are heard: else what is pending may wait at a question.
     fn hears(&self) -> bool
         ensures { result ≡ heard };
 

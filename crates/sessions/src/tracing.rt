@@ -1,7 +1,8 @@
 //! The calls of an immediate context with the trace of a pixel beside it.
 //!
 //! The trace goes past each list before it runs or waits, and at the end past what is pending. So it has the items of a whole
-//! session, though the context stores none, and nothing runs but for a question, and for counts that a predicate may want.
+//! session, though the context stores none, and nothing runs but for counts that a question or a predicate may want, and where
+//! what waits has no room: a question is examined, and its answer is nobody's.
 
 ghost use Rattle.std.specs.Prelude.{◌≡◌, ◌<◌, ◌∷◌, [], ℕ, List, true, OnOk};
 ghost use Rattle.gfxspec.specs.declared.geometry.Size.{Size};
