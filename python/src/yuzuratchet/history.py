@@ -2,7 +2,7 @@
 
 The library tells it. What a pixel holds is made by going through the clears and triangles in the
 order in which they run, one at a time; the history is that, written down, and the library's is
-proved to be it. Of the scene only what its questions and predicates want is drawn.
+proved to be it. Of the scene only what queries count is drawn, which predicates may want.
 
 >>> from yuzuratchet import read_script
 >>> scene = read_script("target 2 2\\ni clearc 1 2 3 4\\n")
