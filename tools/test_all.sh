@@ -2,8 +2,8 @@
 # All tests: what looks over sources and pages, the package's tests, then the gate, which takes every proof, wrong body,
 # test and stored run from nothing, and then what stands above it, over what it built: the C library, Python over it,
 # the page, the package once more, short comparisons of `check`, of `explain`, of pixels' histories and of calls with the
-# device, and other devices beside it. The files of a release are built and tried beside the gate, from a clone, since
-# they are compiled with checks; other devices and the comparisons run side by side.
+# device, and other devices beside it. The library and the files of a release are built beside the gate, from clones,
+# since the gate holds the folders of the crates; other devices and the comparisons run side by side.
 #
 # The last line is the gate's. The line before it names what failed, and what was skipped for want of a program. The
 # status is the gate's where that isn't 0, and else 1 where another part failed.
@@ -79,8 +79,12 @@ get_for_release() (
     from_debian "$@"
 )
 
-# the files of a release, of a build that says it isn't proved and takes minutes: from a clone, since the gate holds the
-# folders of the crates
+# the C library, whose crates `rt lib` proves once more in its own way
+build_library() {
+    git clone --quiet . "$room/library" && cd "$room/library" && tools/install_library.py "$room/prefix"
+}
+
+# the files of a release, of a build with checks that says it isn't proved
 release() {
     command -v qemu-x86_64 >/dev/null || get_for_release qemu-user || true
     for tool in musl-gcc shtab argparse-manpage dpkg-deb; do
@@ -116,6 +120,7 @@ part wrong-bodies tools/wrong_bodies.py --check
 part package python/run-tests.sh -q
 
 beside release release
+beside library-built build_library
 # (told how many jobs there are, the gate starts the longest proof of all, that of the tests, as soon as it can: else it
 # waits for memory that it doesn't take)
 printf '\n== gate\n'
@@ -123,7 +128,8 @@ printf '\n== gate\n'
 gate=$(cat "$room/gate")
 
 [ "$gate" -ne 0 ] || part program build_program
-part library tools/test_library.py --prefix "$room/prefix"
+ended library-built
+[ ! -e "$room/prefix/lib/libyuzuratchet.a" ] || part library tools/test_library.py --prefix "$room/prefix"
 if [ -x crates/tiledraw/out/tiledraw ]; then
     # (that the gate passed is kept for the release itself)
     [ "$gate" -ne 0 ] || tools/make_release.py --gate "$room/said" || true
