@@ -1,6 +1,8 @@
 -- The triangles of a draw.
-use Rattle.std.specs.Prelude.{ℕ, ◌+◌, ◌≤◌, List, length, Option, Some, None}
+use Rattle.std.specs.Prelude.{ℕ, ◌+◌, ◌-◌, ◌/◌, ◌≤◌, List, length, Option, Some, None}
 use Rattle.std.specs.Borrow.{Bor}
+use Rattle.gfxspec.specs.declared.state.Topology.{Topology}
+use Rattle.gfxspec.specs.declared.state.Topology.TheVariants.{TriangleList, TriangleStrip}
 use Rattle.gfxspec.specs.Assembly.{Primitive, part, primitives, indexed_primitives}
 use Rattle.assemble.specs.declared.draws.Draw.{Draw}
 use Rattle.assemble.specs.Used.{AreUsedWell}
@@ -25,3 +27,8 @@ triangles_by (Some indices) d = indexed_primitives d.topology d.vertices.now d.b
 -- the triangles of a draw, in order
 abbrev pub triangles_of : Draw → List Primitive
 triangles_of d = triangles_by d.indices d
+
+-- so many triangles are so many vertices, where no index cuts a strip
+abbrev pub uncut_triangles : Topology → ℕ → ℕ
+uncut_triangles TriangleList count = count / 3
+uncut_triangles TriangleStrip count = count - 2

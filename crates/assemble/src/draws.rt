@@ -1,7 +1,7 @@
 //! A draw, and its triangles.
 
 ghost use Rattle.std.specs.Prelude.{◌≡◌, ◌<◌, ◌^◌, length};
-ghost use Rattle.assemble.specs.Drawing.{IsInRange, triangles_of};
+ghost use Rattle.assemble.specs.Drawing.{IsInRange, triangles_of, uncut_triangles};
 ghost use Rattle.assemble.specs.Places.{ListTakesThrees, ListDropsIncomplete, StripTakesEven, StripTakesOdd, StripDropsIncomplete};
 
 use crate::places::{Triangles, count_of_strip};
@@ -39,6 +39,16 @@ pub fn triangles<'a>(draw: &Draw<'a>) -> Triangles<'a>
     }
 }
 
+/// How many triangles so many vertices or indices are, where no index cuts a strip of them.
+pub fn uncut_triangles(topology: Topology, count: u32) -> u32
+    ensures { result ≡ uncut_triangles topology count }
+{
+    match topology {
+        Topology::TriangleList => count / 3,
+        Topology::TriangleStrip => count.saturating_sub(2),
+    }
+}
+
 /// How many triangles a draw has: known at once of a list and without indices, and of an indexed strip in one pass
 /// over its indices.
 pub fn triangle_count(draw: &Draw<'_>) -> u32
@@ -46,8 +56,8 @@ pub fn triangle_count(draw: &Draw<'_>) -> u32
     ensures { result ≡ length (triangles_of draw.now) }
 {
     match (draw.topology, draw.indices) {
-        (Topology::TriangleList, _) => draw.count / 3,
-        (Topology::TriangleStrip, None) => draw.count.saturating_sub(2),
+        (Topology::TriangleList, _) => uncut_triangles(Topology::TriangleList, draw.count),
+        (Topology::TriangleStrip, None) => uncut_triangles(Topology::TriangleStrip, draw.count),
         (Topology::TriangleStrip, Some(indices)) => {
             let start = draw.start as usize;
             count_of_strip(&indices[start..start + draw.count as usize])

@@ -9,6 +9,6 @@ mod draws;
 mod places;
 mod sides;
 
-pub use draws::{Draw, places_law, triangle_count, triangles};
+pub use draws::{Draw, places_law, triangle_count, triangles, uncut_triangles};
 pub use places::{Tri, Triangles};
 pub use sides::{culled, facing, facing_by_area};

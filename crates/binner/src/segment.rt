@@ -7,6 +7,7 @@ ghost use Rattle.gfxspec.specs.Accepted.{AreAccepted};
 ghost use Rattle.command.specs.Seen.{command_value};
 ghost use Rattle.binner.specs.Segments.{cut_items};
 
+use assemble::uncut_triangles;
 use cmdlist::{Command, Settings};
 use gfxspec::{LIST_LIMIT, Topology};
 use std::alloc::{AllocError, Allocator};
@@ -60,8 +61,7 @@ fn most_triangles<A: Allocator>(settings: &Settings<A>, command: &Command<A>) ->
         _ => 0,
     };
     match settings.topology {
-        Some(Topology::TriangleList) => count / 3,
-        Some(Topology::TriangleStrip) => count.saturating_sub(2),
+        Some(topology) => uncut_triangles(topology, count),
         None => 0,
     }
 }
