@@ -1,2 +1,4 @@
 pub mod ImageLemmas
 mod Vectors
+mod TileRows
+mod Swapping

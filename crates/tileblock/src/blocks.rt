@@ -173,6 +173,21 @@ impl<A: Allocator> TileBlock<A> {
         }
     }
 
+    /// The colour of all pixels, where it is known without a look at them: under a noted clear, and where nothing is
+    /// stored. It is one number, red in its low byte and alpha in its high one.
+    #[inline]
+    pub fn plain_color(&self) -> Option<u32>
+        ensures { IfSome result (λ color. (x y : ℕ) → to_le_bytes w32 color ≡ (pixel_at self.now x y).rgba) }
+    {
+        if let Some(rgba) = self.color {
+            return Some(u32::from_le_bytes(rgba));
+        }
+        if self.stored.is_empty() {
+            return Some(0);
+        }
+        None
+    }
+
     /// The colours of eight pixels side by side, which are a span of a row; both are counted within the tile. A
     /// colour is one number, red in its low byte and alpha in its high one.
     pub fn color_span(&self, span: u32, row: u32) -> [u32; 8]
