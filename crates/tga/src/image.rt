@@ -5,7 +5,7 @@ ghost use Rattle.tileblock.specs.Surface.{IsWhole, pixel_of};
 ghost use Rattle.tga.specs.Image.{header_bytes, image_bytes};
 
 use crate::row::{ROW, store_row};
-use crate::waiting::Waiting;
+use arrayvec::ArrayVec;
 use byteorder::{ByteOrder, LittleEndian};
 use gfxspec::{Sink, Size, put_all};
 use std::alloc::Allocator;
@@ -56,26 +56,29 @@ fn put<W: Sink>(out: &mut W, piece: &[u8], taken: u64) -> Result<u64, TgaFault>
     }
 }
 
+/// How many bytes are handed to the sink at once, at most.
+const PIECE: usize = 16_384;
+
 /// The bytes of an image on their way to a sink.
 #[derive(Drop)]
 struct Pieces {
     /// How many bytes the sink took.
     taken: u64,
     /// The bytes behind them that wait.
-    waiting: Waiting,
+    waiting: ArrayVec<u8, PIECE>,
 }
 
 /// Writes the bytes that wait.
 fn flush<W: Sink>(out: &mut W, pieces: &mut Pieces) -> Result<(), TgaFault>
     requires failures { W.failures out.old < 2 ^ 63 }
-    requires fits { pieces.old.taken + length pieces.old.waiting < 2 ^ 64 }
-    ensures all { W.tells out.old → OnOk result (W.written out.new ≡ W.written out.old ++ pieces.old.waiting) }
-    ensures empty { OnOk result (pieces.new.waiting ≡ []) }
-    ensures more { OnOk result (pieces.new.taken ≡ pieces.old.taken + length pieces.old.waiting) }
+    requires fits { pieces.old.taken + length pieces.old.waiting.items < 2 ^ 64 }
+    ensures all { W.tells out.old → OnOk result (W.written out.new ≡ W.written out.old ++ pieces.old.waiting.items) }
+    ensures empty { OnOk result (pieces.new.waiting.items ≡ []) }
+    ensures more { OnOk result (pieces.new.taken ≡ pieces.old.taken + length pieces.old.waiting.items) }
     ensures from { IfErr result (λ fault. pieces.old.taken ≤ fault.taken) }
-    ensures to { IfErr result (λ fault. fault.taken < pieces.old.taken + length pieces.old.waiting) }
+    ensures to { IfErr result (λ fault. fault.taken < pieces.old.taken + length pieces.old.waiting.items) }
     ensures part { W.tells out.old → IfErr result (λ fault.
-        W.written out.new ≡ W.written out.old ++ take (fault.taken - pieces.old.taken) pieces.old.waiting) }
+        W.written out.new ≡ W.written out.old ++ take (fault.taken - pieces.old.taken) pieces.old.waiting.items) }
     ensures told { W.tells out.old → W.tells out.new }
     ensures sound { OnOk result (W.failures out.new ≡ W.failures out.old) }
     ensures failed { OnErr result (W.failures out.new ≡ W.failures out.old + 1) }
@@ -88,24 +91,24 @@ fn flush<W: Sink>(out: &mut W, pieces: &mut Pieces) -> Result<(), TgaFault>
 /// Puts more bytes behind those that wait, which are written first where a piece has no room for both.
 fn add<W: Sink>(out: &mut W, pieces: &mut Pieces, bytes: &[u8]) -> Result<(), TgaFault>
     requires failures { W.failures out.old < 2 ^ 63 }
-    requires fits { pieces.old.taken + length pieces.old.waiting < 2 ^ 64 }
+    requires fits { pieces.old.taken + length pieces.old.waiting.items < 2 ^ 64 }
     requires short { length bytes.now ≤ 16384 }
-    ensures all { W.tells out.old → OnOk result (W.written out.new ++ pieces.new.waiting
-        ≡ (W.written out.old ++ pieces.old.waiting) ++ bytes.now) }
-    ensures more { OnOk result (pieces.new.taken + length pieces.new.waiting
-        ≡ pieces.old.taken + length pieces.old.waiting + length bytes.now) }
+    ensures all { W.tells out.old → OnOk result (W.written out.new ++ pieces.new.waiting.items
+        ≡ (W.written out.old ++ pieces.old.waiting.items) ++ bytes.now) }
+    ensures more { OnOk result (pieces.new.taken + length pieces.new.waiting.items
+        ≡ pieces.old.taken + length pieces.old.waiting.items + length bytes.now) }
     ensures from { IfErr result (λ fault. pieces.old.taken ≤ fault.taken) }
-    ensures to { IfErr result (λ fault. fault.taken < pieces.old.taken + length pieces.old.waiting) }
+    ensures to { IfErr result (λ fault. fault.taken < pieces.old.taken + length pieces.old.waiting.items) }
     ensures part { W.tells out.old → IfErr result (λ fault.
-        W.written out.new ≡ W.written out.old ++ take (fault.taken - pieces.old.taken) pieces.old.waiting) }
+        W.written out.new ≡ W.written out.old ++ take (fault.taken - pieces.old.taken) pieces.old.waiting.items) }
     ensures told { W.tells out.old → W.tells out.new }
     ensures sound { OnOk result (W.failures out.new ≡ W.failures out.old) }
     ensures failed { OnErr result (W.failures out.new ≡ W.failures out.old + 1) }
 {
-    if pieces.waiting.room() < bytes.len() {
+    if pieces.waiting.remaining_capacity() < bytes.len() {
         flush(out, pieces)?;
     }
-    pieces.waiting.push(bytes);
+    pieces.waiting.try_extend_from_slice(bytes).unwrap();
     Ok(())
 }
 
@@ -127,7 +130,7 @@ pub fn write_tga<W: Sink, A: Allocator>(out: &mut W, target: &Target<A>) -> Resu
     let size = target.size();
     let mut pieces = Pieces {
         taken: 0,
-        waiting: Waiting::new(),
+        waiting: ArrayVec::new(),
     };
     add(out, &mut pieces, &header(size))?;
     let mut row = [[0; 4]; ROW];

@@ -8,6 +8,5 @@
 
 mod image;
 mod row;
-mod waiting;
 
 pub use image::{TgaFault, write_tga};

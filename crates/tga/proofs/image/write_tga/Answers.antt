@@ -28,14 +28,14 @@ returns-in_err-add-2-clause-part g c = λ tells.
     let fault = c.in_err-add-2.ensures in
     let at = c.loop-y.invariant in
     let high : c.loop-y.y ≤ s.size.height = omega (arith, c.loop-y-test.true, ap (λ (z : Size). z.height) c.size-size.ensures.value) in
-    rw (p.1, p.2) (failed_at s.size (pixel_of s) c.loop-y.y (device.written c.args.out.now) (device.written c.loop-y.out) c.loop-y.pieces.waiting (device.written c.add-in-loop-y.new.out) c.loop-y.pieces.taken c.in_err-add-2.field-0.0.taken high (at.bytes tells) at.count fault.from fault.to (fault.part (at.told tells)))
+    rw (p.1, p.2) (failed_at s.size (pixel_of s) c.loop-y.y (device.written c.args.out.now) (device.written c.loop-y.out) c.loop-y.pieces.waiting.items (device.written c.add-in-loop-y.new.out) c.loop-y.pieces.taken c.in_err-add-2.field-0.0.taken high (at.bytes tells) at.count fault.from fault.to (fault.part (at.told tells)))
 
 pub returns-in_err-add-2-clause-partly : goal.returns-in_err-add-2-clause-partly
 returns-in_err-add-2-clause-partly g c =
     let p = err_from_is_err_and c.from_residual-in_err-add-2.result c.from_residual-in_err-add-2.ensures.1 in
     let s = c.args.target.now in
     let high : c.loop-y.y ≤ s.size.height = omega (arith, c.loop-y-test.true, ap (λ (z : Size). z.height) c.size-size.ensures.value) in
-    rw (p.1, p.2) (ends_in_image s.size (pixel_of s) c.loop-y.y (length c.loop-y.pieces.waiting) c.loop-y.pieces.taken c.in_err-add-2.field-0.0.taken high c.loop-y.invariant.count c.in_err-add-2.ensures.to)
+    rw (p.1, p.2) (ends_in_image s.size (pixel_of s) c.loop-y.y (length c.loop-y.pieces.waiting.items) c.loop-y.pieces.taken c.in_err-add-2.field-0.0.taken high c.loop-y.invariant.count c.in_err-add-2.ensures.to)
 
 pub loop-y-preserved : goal.loop-y-preserved
 loop-y-preserved g c =
@@ -48,8 +48,8 @@ loop-y-preserved g c =
     record {
       sound = done.sound ∙ at.sound;
       told = λ tells. done.told (at.told tells);
-      bytes = λ tells. added_row s.size (pixel_of s) (device.written c.args.out.now) (device.written c.loop-y.out ++ c.loop-y.pieces.waiting) (device.written new.out ++ new.pieces.waiting) c.as_flattened.result.now c.loop-y.y bytes (at.bytes tells) (done.all (at.told tells));
-      count = counted_row s.size.width (pixel_of s) c.as_flattened.result.now c.loop-y.y (c.loop-y.pieces.taken + length c.loop-y.pieces.waiting) (new.pieces.taken + length new.pieces.waiting) bytes at.count done.more;
+      bytes = λ tells. added_row s.size (pixel_of s) (device.written c.args.out.now) (device.written c.loop-y.out ++ c.loop-y.pieces.waiting.items) (device.written new.out ++ new.pieces.waiting.items) c.as_flattened.result.now c.loop-y.y bytes (at.bytes tells) (done.all (at.told tells));
+      count = counted_row s.size.width (pixel_of s) c.as_flattened.result.now c.loop-y.y (c.loop-y.pieces.taken + length c.loop-y.pieces.waiting.items) (new.pieces.taken + length new.pieces.waiting.items) bytes at.count done.more;
       row = c.store_row-band.ensures.len;
       band = c.store_row-band.ensures.band;
     }
@@ -61,11 +61,11 @@ returns-clause-part g c = λ tells.
     let at = c.loop-y.invariant in
     let end = c.flush.ensures in
     let high : c.loop-y.y ≤ s.size.height = omega (arith, c.loop-y.auto.y-end, ap (λ (z : Size). z.height) c.size-size.ensures.value) in
-    (fails_in_image c.flush.result (λ (f : TgaFault). f.taken) s.size (pixel_of s) c.loop-y.y (device.written c.args.out.now) (device.written c.loop-y.out) c.loop-y.pieces.waiting (device.written c.flush.new.out) c.loop-y.pieces.taken high at.count end.to).0 (at.bytes tells) end.from (end.part (at.told tells))
+    (fails_in_image c.flush.result (λ (f : TgaFault). f.taken) s.size (pixel_of s) c.loop-y.y (device.written c.args.out.now) (device.written c.loop-y.out) c.loop-y.pieces.waiting.items (device.written c.flush.new.out) c.loop-y.pieces.taken high at.count end.to).0 (at.bytes tells) end.from (end.part (at.told tells))
 
 pub returns-clause-partly : goal.returns-clause-partly
 returns-clause-partly g c =
     let s = c.args.target.now in
     let device = g.W.Sink in
     let high : c.loop-y.y ≤ s.size.height = omega (arith, c.loop-y.auto.y-end, ap (λ (z : Size). z.height) c.size-size.ensures.value) in
-    (fails_in_image c.flush.result (λ (f : TgaFault). f.taken) s.size (pixel_of s) c.loop-y.y (device.written c.args.out.now) (device.written c.loop-y.out) c.loop-y.pieces.waiting (device.written c.flush.new.out) c.loop-y.pieces.taken high c.loop-y.invariant.count c.flush.ensures.to).1
+    (fails_in_image c.flush.result (λ (f : TgaFault). f.taken) s.size (pixel_of s) c.loop-y.y (device.written c.args.out.now) (device.written c.loop-y.out) c.loop-y.pieces.waiting.items (device.written c.flush.new.out) c.loop-y.pieces.taken high c.loop-y.invariant.count c.flush.ensures.to).1

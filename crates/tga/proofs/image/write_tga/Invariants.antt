@@ -11,8 +11,8 @@ invariant-loop-y g l =
     record {
       sound : device.failures l.out ≡ device.failures l.fn.out;
       told : device.tells l.fn.out → device.tells l.out;
-      bytes : device.tells l.fn.out → device.written l.out ++ l.pieces.waiting ≡ device.written l.fn.out ++ so_far l.target.size (pixel_of l.target) l.y;
-      count : l.pieces.taken + length l.pieces.waiting ≡ 18 + 4 * l.target.size.width * l.y;
+      bytes : device.tells l.fn.out → device.written l.out ++ l.pieces.waiting.items ≡ device.written l.fn.out ++ so_far l.target.size (pixel_of l.target) l.y;
+      count : l.pieces.taken + length l.pieces.waiting.items ≡ 18 + 4 * l.target.size.width * l.y;
       row : length l.row ≡ 4096;
       band : IfSome l.band (λ b. (v : ℕ) → v / 32 ≡ b → HoldsRow l.row l.target.size.width (pixel_of l.target) v);
     }
