@@ -230,10 +230,10 @@ def test_whole_runs_are_compared() -> None:
 def test_another_device_is_timed_in_the_same_turns() -> None:
     program = "tools/plain_device.py"
     ran = run_tool(
-        *("bench/peers.py", program, "many-finishes", "--runs", "1", "--threads", "1", "4"),
+        *("bench/peers.py", program, "smallest", "--runs", "1", "--threads", "1", "4"),
         *("--program", program),
     )
-    rows = [line.split(" | ") for line in ran.stdout.splitlines() if "many-finishes" in line]
+    rows = [line.split(" | ") for line in ran.stdout.splitlines() if "smallest" in line]
     assert [row[1] for row in rows] == ["1", "4"] and all(
         row[2].endswith(" ms") for row in rows
     ), ran.stderr
