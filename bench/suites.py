@@ -29,7 +29,11 @@ from yuzuratchet.arguments import whole_number
 from yuzuratchet.ending import ended
 from yuzuratchet.library import find_library, run_library
 from yuzuratchet.program import find_program
-from yuzuratchet.suite_run import Drawing, run_suite
+
+try:
+    from yuzuratchet.suite_run import Drawing, run_suite
+except ModuleNotFoundError as missing:
+    sys.exit(f"suites.py: {missing.name} is missing (Debian: python3-numpy)")
 
 TOP = pathlib.Path(__file__).resolve().parent.parent
 SOURCES = str(TOP / "python" / "src")

@@ -26,7 +26,6 @@ from typing import Any
 import conformance_calls
 import conformance_merger
 import conformance_raster
-import numpy as np
 import package_path
 from conformance_scripts import Case, Cases, Rule
 from plain_device import PlainSession
@@ -34,9 +33,14 @@ from yuzuratchet import YuzuratchetError
 from yuzuratchet.arguments import whole_number
 from yuzuratchet.ending import ended
 from yuzuratchet.features import features_of
-from yuzuratchet.planes import Planes
 from yuzuratchet.program import find_program, run_program
-from yuzuratchet.suite import Expected, drawn_outcome, expected_text
+
+try:
+    import numpy as np
+    from yuzuratchet.planes import Planes
+    from yuzuratchet.suite import Expected, drawn_outcome, expected_text
+except ModuleNotFoundError as missing:
+    sys.exit(f"make_conformance.py: {missing.name} is missing (Debian: python3-numpy)")
 
 FOLDER = package_path.TOP / "conformance"
 
