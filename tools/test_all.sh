@@ -81,7 +81,7 @@ get_for_release() (
 
 # the C library, whose crates `rt lib` proves once more in its own way
 build_library() {
-    git clone --quiet . "$room/library" && cd "$room/library" && tools/install_library.py "$room/prefix"
+    git clone --quiet . "$room/library-clone" && cd "$room/library-clone" && tools/install_library.py "$room/prefix"
 }
 
 # the files of a release, of a build with checks that says it isn't proved
