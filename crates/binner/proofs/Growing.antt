@@ -138,9 +138,9 @@ grown_short P old new n m longer sound h short k = by (nat_lt k (tile_count old.
     by true e = more _ _ (longer k (at old k) (at new k) (h.each k (inside (tile_count old.size) e))) (short k)
     by false e = none _ (ap length (past new.bins k (behind (tile_count old.size) (length new.bins) (sound.bins ∙ ap tile_count h.size) e)))
 
-taken_longer : (setup : TriSetup) (r : PixelRect) (s : Current) (number : ℕ) (o n : TileList) → TakesTriangle setup.edges setup.bounds r s number o n → Longer 2 o n
+taken_longer : (setup : TriSetup) (r : PixelRect) (s : Current) (number : ℕ) (o n : TileList) → TakesTriangle setup.plane.triangle setup.bounds r s number o n → Longer 2 o n
 taken_longer setup r s number o n (inl m) = subst (Longer 2 o) (sym m.same) (omega arith)
-taken_longer setup r s number o n (inr a) = added_longer setup.edges r s number o n a
+taken_longer setup r s number o n (inr a) = added_longer setup.plane.triangle r s number o n a
 
 module _ {A : Type 0} (old new : Compiling A) where
   pub entered_sound : (e : StateEntry) (n : Current) → Enters e n old new → IsSound old → IsSound new
@@ -161,7 +161,7 @@ module _ {A : Type 0} (old new : Compiling A) where
   setup_sound setup entry h k = record {
     lists = h.sound;
     short = budget _ _ _ _ _ _ new.lists 2
-        (grown_short (λ j. TakesTriangle setup.edges setup.bounds (tile_rect old.lists.size j) entry (length old.triangles.items)) old.lists new.lists _ 2 (λ j o w p. taken_longer setup (tile_rect old.lists.size j) entry (length old.triangles.items) o w p) h.sound h.lists k.short)
+        (grown_short (λ j. TakesTriangle setup.plane.triangle setup.bounds (tile_rect old.lists.size j) entry (length old.triangles.items)) old.lists new.lists _ 2 (λ j o w p. taken_longer setup (tile_rect old.lists.size j) entry (length old.triangles.items) o w p) h.sound h.lists k.short)
         (sums _ _ _ _ _ _ (ap length h.triangles ∙ length-append old.triangles.items (setup ∷ [])) (ap length h.colors) (ap length h.depths));
     triangles = rw h.triangles (simp length-append (omega (arith, h.room)));
     clears = rw (h.colors, h.depths) k.clears;

@@ -126,7 +126,7 @@ module _ (t : Tables) (r : PixelRect) where
     stands = l.stands;
   })
 
-  pub tri_listed : (items : List Item) (current : Option Current) (number : ℕ) (mask : EdgeMask) (setup : TriSetup) (p : Primitive) (s : Settings) (bits : ℕ) (opened : List ℕ) (now : Current) (o n : TileList) → current ≡ Some now → IsEntry t.states (entry_of s bits) now → slice_get t.triangles number ≡ Some setup → IsSetupOf setup p s → AreBits bits opened → IsClassOf (Cut (edge_bits mask)) setup.edges r → forced o.numbers ≡ Some (entry_of s bits) → n ≡ with_triangle (Tri number mask) now.counted o → decoded (encoded (Tri number mask)) ≡ Some (Tri number mask) → ListMeans t r items current o → ListMeans t r (items ++ Drawn p s opened ∷ []) current n
+  pub tri_listed : (items : List Item) (current : Option Current) (number : ℕ) (mask : EdgeMask) (setup : TriSetup) (p : Primitive) (s : Settings) (bits : ℕ) (opened : List ℕ) (now : Current) (o n : TileList) → current ≡ Some now → IsEntry t.states (entry_of s bits) now → slice_get t.triangles number ≡ Some setup → IsSetupOf setup p s → AreBits bits opened → IsClassOf (Cut (edge_bits mask)) setup.plane.triangle r → forced o.numbers ≡ Some (entry_of s bits) → n ≡ with_triangle (Tri number mask) now.counted o → decoded (encoded (Tri number mask)) ≡ Some (Tri number mask) → ListMeans t r items current o → ListMeans t r (items ++ Drawn p s opened ∷ []) current n
   tri_listed items current number mask setup p s bits opened now o n c i place k are class f is d l =
       word_listed items (Drawn p s opened ∷ []) current (Tri number mask) (o.counted || now.counted) o n is d
       (subst (λ z. Means t r z z (Drawn p s opened ∷ []) (Tri number mask ∷ [])) (sym f) (tri_means t r number mask setup p s bits opened place k are class))
@@ -202,10 +202,10 @@ module _ (t : Tables) (r : PixelRect) where
 -- ---- a triangle
 
 module _ (setup : TriSetup) (p : Primitive) (s : Settings) (k : IsSetupOf setup p s) where
-  not_reached : (x y : ℕ) → (covers setup.edges (centre x y) && in_scissor s x y) ≡ false → reaches p s x y ≡ false
+  not_reached : (x y : ℕ) → (covers setup.plane.triangle (centre x y) && in_scissor s x y) ≡ false → reaches p s x y ≡ false
   not_reached x y h =
       ap (λ d. not d && (covers (snapped_triangle p) (centre x y) && in_scissor s x y)) k.kept
-      ∙ ap (λ e. covers e (centre x y) && in_scissor s x y) (sym k.edges) ∙ h
+      ∙ ap (λ e. covers e (centre x y) && in_scissor s x y) (sym k.triangle) ∙ h
 
   failed : (e h0 h1 h2 z : Bool) → ((h0 ≡ false) ⊎ (h1 ≡ false)) ⊎ (h2 ≡ false) → ((not e && (h0 && (h1 && h2))) && z) ≡ false
   failed e h0 h1 h2 z (inl (inl q)) = grind arith
@@ -218,9 +218,9 @@ module _ (setup : TriSetup) (p : Primitive) (s : Settings) (k : IsSetupOf setup 
   some_edge t r x y (suc (suc zero)) l h inside = inr (h x y inside)
   some_edge t r x y (suc (suc (suc i))) l h inside = absurd (omega arith)
 
-  outside_skipped : (r : PixelRect) → IsClassOf Outside setup.edges r → IsSkipped p s r
+  outside_skipped : (r : PixelRect) → IsClassOf Outside setup.plane.triangle r → IsSkipped p s r
   outside_skipped r h x y inside =
-      not_reached x y (failed (is_empty setup.edges) _ _ _ (in_scissor s x y) (some_edge setup.edges r x y h.0 h.1 h.2 inside))
+      not_reached x y (failed (is_empty setup.plane.triangle) _ _ _ (in_scissor s x y) (some_edge setup.plane.triangle r x y h.0 h.1 h.2 inside))
 
   none_covered : (b : Bool) → b ≡ false → (c : Bool) → (b && c) ≡ false
   none_covered true e c = absurd cc
@@ -229,9 +229,9 @@ module _ (setup : TriSetup) (p : Primitive) (s : Settings) (k : IsSetupOf setup 
   missed_skipped : (r : PixelRect) → ((x y : ℕ) → IsIn r x y → (x < 4096) × (y < 4096)) → ((x y : ℕ) → IsIn r x y → is_in_rect setup.bounds x y ≡ false) → IsSkipped p s r
   missed_skipped r small h x y inside =
       let n = small x y inside in
-      not_reached x y (sym (k.reach x y n.0 n.1) ∙ none_covered (is_in_rect setup.bounds x y) (h x y inside) (covers setup.edges (centre x y)))
+      not_reached x y (sym (k.reach x y n.0 n.1) ∙ none_covered (is_in_rect setup.bounds x y) (h x y inside) (covers setup.plane.triangle (centre x y)))
 
-  pub triangle_listed : (t : Tables) (r : PixelRect) (items : List Item) (current : Option Current) (opened : List ℕ) (bits : ℕ) (now : Current) (number : ℕ) (o n : TileList) → ((x y : ℕ) → IsIn r x y → (x < 4096) × (y < 4096)) → AreBits bits opened → current ≡ Some now → IsEntry t.states (entry_of s bits) now → slice_get t.triangles number ≡ Some setup → TakesTriangle setup.edges setup.bounds r now number o n → ListMeans t r items current o → ListMeans t r (items ++ Drawn p s opened ∷ []) current n
+  pub triangle_listed : (t : Tables) (r : PixelRect) (items : List Item) (current : Option Current) (opened : List ℕ) (bits : ℕ) (now : Current) (number : ℕ) (o n : TileList) → ((x y : ℕ) → IsIn r x y → (x < 4096) × (y < 4096)) → AreBits bits opened → current ≡ Some now → IsEntry t.states (entry_of s bits) now → slice_get t.triangles number ≡ Some setup → TakesTriangle setup.plane.triangle setup.bounds r now number o n → ListMeans t r items current o → ListMeans t r (items ++ Drawn p s opened ∷ []) current n
   triangle_listed t r items current opened bits now number o n small are c e place (inl m) l = skip_listed t r items current p s opened o n (missed_skipped r small m.nowhere) m.same l
   triangle_listed t r items current opened bits now number o n small are c e place (inr (inl m)) l = skip_listed t r items current p s opened o n (outside_skipped r m.outside) m.same l
   triangle_listed t r items current opened bits now number o n small are c e place (inr (inr m)) l =

@@ -71,7 +71,7 @@ pub record Enters {A : Type 0} (e : StateEntry) (s : Current) (old new : Compili
 
 pub record AddsSetup {A : Type 0} (setup : TriSetup) (s : Current) (old new : Compiling A) : Type 0 where
   pub room : length old.triangles.items < 65536
-  pub lists : EachChanges (λ k. TakesTriangle setup.edges setup.bounds (tile_rect old.lists.size k) s (length old.triangles.items)) old.lists new.lists
+  pub lists : EachChanges (λ k. TakesTriangle setup.plane.triangle setup.bounds (tile_rect old.lists.size k) s (length old.triangles.items)) old.lists new.lists
   pub sound : IsLists new.lists
   pub triangles : new.triangles.items ≡ old.triangles.items ++ setup ∷ []
   pub states : new.states.items ≡ old.states.items

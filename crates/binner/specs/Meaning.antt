@@ -29,12 +29,12 @@ use Rattle.binner.specs.Program.{Tables, force_after, force_behind, after_words,
 -- under this entry the triangle reaches no pixel outside of its bounds
 abbrev pub IsBounded : TriSetup → StateEntry → Type 0
 IsBounded t e =
-    (x y : ℕ) → x < side_bound → y < side_bound → (is_in_rect t.bounds x y && covers t.edges (centre x y)) ≡ (covers t.edges (centre x y) && lets_through e x y)
+    (x y : ℕ) → x < side_bound → y < side_bound → (is_in_rect t.bounds x y && covers t.plane.triangle (centre x y)) ≡ (covers t.plane.triangle (centre x y) && lets_through e x y)
 
 -- The word's number names an entry. A triangle has an entry in force, each of its edges holds somewhere in the rectangle, and the mask names exactly those that fail somewhere.
 abbrev pub WordFits : Tables → PixelRect → Option StateEntry → Word → Type 0
 WordFits t r e (State n) = (now : StateEntry) × (slice_get t.states n ≡ Some now)
-WordFits t r e (Tri n m) = (now : StateEntry) × (p : TriSetup) × (e ≡ Some now) × (slice_get t.triangles n ≡ Some p) × IsClassOf (Cut (edge_bits m)) p.edges r × IsBounded p now
+WordFits t r e (Tri n m) = (now : StateEntry) × (p : TriSetup) × (e ≡ Some now) × (slice_get t.triangles n ≡ Some p) × IsClassOf (Cut (edge_bits m)) p.plane.triangle r × IsBounded p now
 WordFits t r e (ClearC n) = (color : List ℕ) × (slice_get t.colors n ≡ Some color)
 WordFits t r e (ClearDs n) = (ds : DepthStencil) × (slice_get t.depths n ≡ Some ds)
 
@@ -78,7 +78,7 @@ AreBits bits opened = (k : ℕ) → k < 64 → (bit_at bits k == 1) ≡ list_any
 
 -- a triangle of the code is one of the definitions, which isn't dropped
 pub record IsSetupOf (t : TriSetup) (p : Primitive) (s : Settings) : Type 0 where
-  pub edges : t.edges ≡ snapped_triangle p
+  pub triangle : t.plane.triangle ≡ snapped_triangle p
   pub z0 : t.plane.z0 ≡ p.first.z
   pub z1 : t.plane.z1 ≡ p.second.z
   pub z2 : t.plane.z2 ≡ p.third.z
@@ -86,7 +86,7 @@ pub record IsSetupOf (t : TriSetup) (p : Primitive) (s : Settings) : Type 0 wher
   pub kept : is_culled s.raster.cull (facing p s) ≡ false
   pub face : (d : DepthStencilSetting) → (if t.front then d.front else d.back) ≡ face_setting (facing p s) d
   pub rgba : t.rgba ≡ p.first.rgba
-  pub reach : (x y : ℕ) → x < side_bound → y < side_bound → (is_in_rect t.bounds x y && covers t.edges (centre x y)) ≡ (covers t.edges (centre x y) && in_scissor s x y)
+  pub reach : (x y : ℕ) → x < side_bound → y < side_bound → (is_in_rect t.bounds x y && covers t.plane.triangle (centre x y)) ≡ (covers t.plane.triangle (centre x y) && in_scissor s x y)
 
 -- the triangle reaches no pixel of the rectangle
 abbrev pub IsSkipped : Primitive → Settings → PixelRect → Type 0

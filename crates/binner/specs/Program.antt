@@ -34,7 +34,7 @@ abbrev pub lets_through : StateEntry → ℕ → ℕ → Bool
 lets_through e x y = not e.raster.scissor || is_in_rect e.scissor x y
 
 abbrev pub reaches_by : EdgeMask → TriSetup → StateEntry → ℕ → ℕ → Bool
-reaches_by m t e x y = passes_edges m t.edges (centre x y) && lets_through e x y
+reaches_by m t e x y = passes_edges m t.plane.triangle (centre x y) && lets_through e x y
 
 -- both tests of a triangle at a pixel that it reaches; its plane has the bias
 abbrev pub outcome : TriSetup → StateEntry → ℕ → ℕ → Pixel → TestOutcome

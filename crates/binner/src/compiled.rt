@@ -55,7 +55,7 @@ const TILE_PIXELS: usize = (TILE_SIDE * TILE_SIDE) as usize;
 
 /// How many pixels of a target the rectangle round a triangle has.
 fn pixels_round(triangle: &TriSetup, size: Size) -> usize {
-    let bounds = &triangle.bounds;
+    let bounds = triangle.bounds.rect();
     let width = bounds.right.min(size.width).saturating_sub(bounds.left);
     let height = bounds.bottom.min(size.height).saturating_sub(bounds.top);
     (width as usize).saturating_mul(height as usize)

@@ -92,7 +92,7 @@ fn add_setup<A: Allocator + Copy>(
     current: Current,
 ) -> Result<(), AllocError>
     requires sound { IsSound compiling.old }
-    requires edges { edges.now ≡ setup.edges }
+    requires edges { edges.now ≡ setup.plane.triangle }
     ensures bins { length compiling.new.lists.bins ≡ length compiling.old.lists.bins }
     ensures added { OnOk result (AddsSetup setup current compiling.old compiling.new) }
 {
@@ -185,7 +185,7 @@ fn add_parts<A: Allocator + Copy>(
     let current = current_entry(compiling, state, issues)?;
     'parts: for part in parts {
         'setups: for setup in part {
-            let edges = setup.edges.unpacked();
+            let edges = setup.edge_set();
             add_setup(compiling, setup, &edges, current)?;
         }
     }

@@ -19,9 +19,11 @@ mod opened;
 mod prepare;
 mod segment;
 mod setup;
+mod short_rect;
 
 pub use batch::Batch;
 pub use compiled::{Compiled, compile, compile_parallel, programs_count_the_target};
 pub use entry::StateEntry;
 pub use segment::{Segment, cut};
 pub use setup::TriSetup;
+pub use short_rect::ShortRect;

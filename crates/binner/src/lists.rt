@@ -194,17 +194,18 @@ pub(crate) fn add_to_tiles<A: Allocator + Copy>(
 ) -> Result<(), AllocError>
     requires sound { IsLists lists.old }
     requires room { IsShort 239997 lists.old }
-    requires edges { edges.now ≡ setup.now.edges }
+    requires edges { edges.now ≡ setup.now.plane.triangle }
     ensures bins { length lists.new.bins ≡ length lists.old.bins }
     ensures sound { OnOk result (IsLists lists.new) }
-    ensures added { OnOk result (EachChanges (λ k. TakesTriangle setup.now.edges setup.now.bounds (tile_rect lists.old.size k) current number) lists.old lists.new) }
+    ensures added { OnOk result (EachChanges (λ k. TakesTriangle setup.now.plane.triangle setup.now.bounds (tile_rect lists.old.size k) current number) lists.old lists.new) }
 {
     let size = lists.size;
     let along = tiles_along(size.width);
-    let left = setup.bounds.left / TILE_SIDE;
-    let top = setup.bounds.top / TILE_SIDE;
-    let right = tiles_along(setup.bounds.right.min(size.width));
-    let bottom = tiles_along(setup.bounds.bottom.min(size.height));
+    let bounds = setup.bounds.rect();
+    let left = bounds.left / TILE_SIDE;
+    let top = bounds.top / TILE_SIDE;
+    let right = tiles_along(bounds.right.min(size.width));
+    let bottom = tiles_along(bounds.bottom.min(size.height));
     if left >= right || top >= bottom {
         return Ok(());
     }

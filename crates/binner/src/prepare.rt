@@ -11,6 +11,7 @@ ghost use Rattle.binner.specs.Ready.{IsReady, common_rect};
 ghost use Rattle.binner.specs.Meaning.{IsSetupOf};
 
 use crate::setup::{Prepared, TriSetup};
+use crate::short_rect::ShortRect;
 use assemble::{culled, facing_by_area};
 use cmdlist::State;
 use depthplane::{Plane, with_bias};
@@ -57,7 +58,9 @@ fn is_front(facing: Facing) -> bool
 
 /// Whether a rectangle has a pixel of a target.
 fn is_seen(bounds: PixelRect, size: Size) -> bool
-    ensures { result ≡ false → (x y : ℕ) → x < size.width → y < size.height → is_in_rect bounds x y ≡ false }
+    ensures wide { IsTrue result → bounds.left < bounds.right }
+    ensures high { IsTrue result → bounds.top < bounds.bottom }
+    ensures unseen { result ≡ false → (x y : ℕ) → x < size.width → y < size.height → is_in_rect bounds x y ≡ false }
 {
     bounds.left < bounds.right.min(size.width) && bounds.top < bounds.bottom.min(size.height)
 }
@@ -68,7 +71,7 @@ fn is_seen(bounds: PixelRect, size: Size) -> bool
 pub(crate) fn prepared(vertices: &[Vertex; 3], state: &State<'_>, size: Size) -> Option<Prepared>
     requires { IsReady (primitive_of (record { v = vertices.now })) }
     ensures setup { IfSome result (λ p. IsSetupOf p.setup (primitive_of (record { v = vertices.now })) (state_value state.now)) }
-    ensures edges { IfSome result (λ p. p.edges ≡ p.setup.edges) }
+    ensures edges { IfSome result (λ p. p.edges ≡ p.setup.plane.triangle) }
     ensures dropped { IsNone result → (x y : ℕ) → x < side_bound → y < side_bound → x < size.width → y < size.height
         → reaches (primitive_of (record { v = vertices.now })) (state_value state.now) x y ≡ false }
 {
@@ -89,7 +92,7 @@ pub(crate) fn prepared(vertices: &[Vertex; 3], state: &State<'_>, size: Size) ->
     let setup = TriSetup {
         edges: edges.packed(),
         plane,
-        bounds,
+        bounds: ShortRect::of(bounds),
         front: is_front(facing),
         rgba: first.rgba,
         least_depth: with_bias(first.z.min(second.z).min(third.z), bias),

@@ -11,7 +11,7 @@ use Rattle.depthplane.specs.Mended.{mended_by}
 use Rattle.depthplane.specs.Place.{depth_of}
 use Rattle.depthplane.specs.Plane.{deep_of}
 use Rattle.depthplane.specs.PlaneInside.{IsPlane}
-use Rattle.depthplane.specs.Scaled.{IsScaled, IsScaledLinear, excess_at, scaled_at}
+use Rattle.depthplane.specs.Scaled.{IsScaled, excess_at, scaled_at}
 use Rattle.depthplane.specs.ScaledInside.{IsScaledHeight}
 use Rattle.depthplane.proofs.Biases.{deep_without, plain_depth}
 use Rattle.depthplane.proofs.DepthLaws.{depth_sure, depth_far, depth_mended}
@@ -20,14 +20,13 @@ use Rattle.depthplane.proofs.ScaledLaws.{at_pixel, excess_bound, excess_few}
 -- what a plane keeps
 pub of_plane : (p : Inside) → IsPlane p → IsScaledHeight (deep_of p.triangle p.depths p.bias) p.scaled
 of_plane p i =
-    let S : ℤ → Type 0 = λ a. IsScaledLinear i.linear a i.start p.scaled in
     record {
       linear = i.linear;
       value = i.value;
-      divisor = rw i.area_is at i.divisor;
+      divisor = i.divisor;
       start = i.start;
       begins = i.begins;
-      scaled = subst S i.area_is i.scaled;
+      scaled = i.scaled;
       depths = i.depths;
     }
 

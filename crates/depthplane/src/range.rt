@@ -39,7 +39,7 @@ impl Plane {
             return whole;
         }
         let height = self.height().at(x, y);
-        mended(whole, height, self.area)
+        mended(whole, height, self.size())
     }
 
     /// The depth at pixel (x, y) before any bias, where the triangle covers its centre: the exact one, rounded down. A value too near

@@ -125,10 +125,11 @@ fn mend(plane: &Plane, x: u32, y: u32, depths: [u32; 8]) -> [u32; 8]
     ensures { (j : ℕ) → j < 8 → slice_index result j ≡ mended_by (height plane.now (centre (x + j) y)) (size_of plane.now) (slice_index depths j) }
 {
     let height = plane.height();
+    let area = plane.size();
     let mut exact = depths;
     for j in 0..8u32 {
         let there = height.at(x + j, y);
-        exact[j as usize] = mended(depths[j as usize], there, plane.area);
+        exact[j as usize] = mended(depths[j as usize], there, area);
     }
     exact
 }

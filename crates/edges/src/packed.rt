@@ -1,44 +1,32 @@
-//! The edges of a triangle as they wait to be drawn: its corners, from which they are computed again, and what their walks begin with.
+//! The edges of a triangle as they wait to be drawn: what their walks begin with, beside the corners that somebody else keeps.
 
 ghost use Rattle.std.specs.Prelude.{◌≡◌, ◌<◌};
 ghost use Rattle.gfxspec.specs.Limits.{side_bound};
+ghost use Rattle.snap.specs.Corners.{triangle_of};
+ghost use Rattle.edges.specs.Packed.{ArePackedOf};
 
 use crate::EdgeSet;
 use crate::quads::EdgeQuads;
 use crate::signs::{QuadSigns, ShortFunction, SignLanes};
 use crate::walk::EdgeWalk;
 use snap::SnapTri;
-use std::marker::Model;
 
-/// The edges of a triangle whose area is not zero, where many wait to be drawn. Contracts see them as the triangle.
-#[derive(Debug, Drop)]
+/// The edges of a triangle whose area is not zero, where many wait to be drawn. The triangle stands beside them, and is handed
+/// over again where they are walked along.
+#[derive(Clone, Copy, Debug)]
 pub struct PackedEdges {
     first: ShortFunction,
     second: ShortFunction,
     third: ShortFunction,
-    triangle: SnapTri,
-}
-
-impl Model for PackedEdges {
-    ghost use Rattle.gfxspec.specs.Raster.{Triangle};
-
-    ghost Value = { Triangle };
-
-    ghost use Rattle.edges.specs.Packed.{triangle_in, IsPacked};
-
-    ghost view = { triangle_in };
-
-    ghost invariant = { IsPacked };
 }
 
 impl EdgeSet {
     /// The edges, packed.
     #[inline]
     pub fn packed(&self) -> PackedEdges
-        ensures { result ≡ self.now }
+        ensures { ArePackedOf result self.now }
     {
         PackedEdges {
-            triangle: self.triangle,
             first: ShortFunction::of(self.functions[0]),
             second: ShortFunction::of(self.functions[1]),
             third: ShortFunction::of(self.functions[2]),
@@ -47,25 +35,15 @@ impl EdgeSet {
 }
 
 impl PackedEdges {
-    /// The edges, computed from the corners.
-    #[inline]
-    pub fn unpacked(&self) -> EdgeSet
-        ensures { result ≡ self.now }
-    {
-        match EdgeSet::of(&self.triangle) {
-            Some(edges) => edges,
-            None => unreachable!(),
-        }
-    }
-
-    /// A walk that begins at the eight pixels from (x, y) on.
-    pub fn walk(&self, x: u32, y: u32) -> EdgeWalk<'_>
+    /// A walk along these edges of a triangle that begins at the eight pixels from (x, y) on.
+    pub fn walk<'a>(&self, triangle: &'a SnapTri, x: u32, y: u32) -> EdgeWalk<'a>
+        requires packed { ArePackedOf self.now (triangle_of triangle.now) }
         requires x { x < side_bound }
         requires y { y < side_bound }
-        ensures { result ≡ record { triangle = self.now; left = x; top = y; x = x; y = y } }
+        ensures { result ≡ record { triangle = triangle_of triangle.now; left = x; top = y; x = x; y = y } }
     {
         EdgeWalk {
-            triangle: &self.triangle,
+            triangle,
             left: x,
             top: y,
             x,
@@ -76,15 +54,16 @@ impl PackedEdges {
         }
     }
 
-    /// A walk that begins at the four pixels from (x, y) on.
+    /// A walk along these edges of a triangle that begins at the four pixels from (x, y) on.
     #[inline(always)]
-    pub fn quads(&self, x: u32, y: u32) -> EdgeQuads<'_>
+    pub fn quads<'a>(&self, triangle: &'a SnapTri, x: u32, y: u32) -> EdgeQuads<'a>
+        requires packed { ArePackedOf self.now (triangle_of triangle.now) }
         requires x { x < side_bound }
         requires y { y < side_bound }
-        ensures { result ≡ record { triangle = self.now; left = x; top = y; x = x; y = y } }
+        ensures { result ≡ record { triangle = triangle_of triangle.now; left = x; top = y; x = x; y = y } }
     {
         EdgeQuads {
-            triangle: &self.triangle,
+            triangle,
             left: x,
             top: y,
             x,

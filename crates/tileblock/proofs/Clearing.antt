@@ -1,5 +1,6 @@
 -- The pixels of a block behind clears that are noted.
-use Rattle.std.proofs.Common.{◌≡◌, ◌∙◌, ap, refl, sym, rules, ℕ, ◌<◌, List, [], ◌∷◌, Option, Some, None, get_or, unwrap_or}
+use Rattle.std.proofs.Common.{◌≡◌, ◌∙◌, ap, refl, sym, ℕ, ◌<◌, List, [], ◌∷◌, Option, Some, None, get_or, unwrap_or, Bool, true, false, IsTrue}
+use Rattle.std.specs.Prelude.{IfSome}
 use Rattle.std.proofs.lemmas.List.{get_or-replicate}
 use Rattle.std.specs.Int.{w32, to_le_bytes, from_le_bytes}
 use Rattle.gfxspec.specs.declared.geometry.PixelRect.{PixelRect}
@@ -7,7 +8,7 @@ use Rattle.gfxspec.specs.declared.pixel.Pixel.{Pixel}
 use Rattle.gfxspec.specs.declared.pixel.DepthStencil.{DepthStencil}
 use Rattle.gfxspec.specs.Items.{opening}
 use Rattle.tileblock.specs.Block.{Block, pixel_at}
-use Rattle.tileblock.specs.Cleared.{color_cleared, depth_stencil_cleared, stored_in, behind_color, behind_depth_stencil, behind_clears}
+use Rattle.tileblock.specs.Cleared.{color_cleared, depth_stencil_cleared, stored_in, behind_color, behind_depth_stencil, behind_clears, plain_color}
 use Rattle.tileblock.proofs.PixelLaws.{pixel_at_cleared_color, pixel_at_cleared_depth, pixel_at_new}
 
 -- each of eight lanes that hold the same
@@ -46,6 +47,28 @@ module _ (rect : PixelRect) (stored : List Block) (x y : ℕ) where
 
 pub none_stored : (rect : PixelRect) (stored : List Block) (x y : ℕ) → stored ≡ [] → pixel_at (stored_in rect stored) x y ≡ opening
 none_stored rect stored x y e = rw e (pixel_at_new (stored_in rect []) x y refl refl refl)
+
+-- a colour that shows without a look at stored pixels is that of each pixel
+pub plain_is : (rect : PixelRect) (stored : List Block) (x y : ℕ) (color : Option (List ℕ)) (ds : Option DepthStencil) (empty : Bool) (n : ℕ) → (IsTrue empty → stored ≡ []) → plain_color color empty ≡ Some n → to_le_bytes w32 n ≡ (pixel_at (behind_clears rect stored color ds) x y).rgba
+plain_is rect stored x y (Some rgba) ds empty n none e = ap (to_le_bytes w32) (sym (same _ n e)) ∙ sym (color_is rect stored x y (Some rgba) ds rgba refl)
+  where
+    same : (a b : ℕ) → Some a ≡ Some b → a ≡ b
+    same a b h = cc
+plain_is rect stored x y None ds true n none e = ap (to_le_bytes w32) (sym (same _ n e)) ∙ sym (color_stays rect stored x y None ds refl ∙ ap (λ (p : Pixel). p.rgba) (none_stored rect stored x y (none refl)))
+  where
+    same : (a b : ℕ) → Some a ≡ Some b → a ≡ b
+    same a b h = cc
+plain_is rect stored x y None ds false n none e = absurd cc
+
+pub plain_shows : (rect : PixelRect) (stored : List Block) (color : Option (List ℕ)) (ds : Option DepthStencil) (empty : Bool) (shown : Option ℕ) → (IsTrue empty → stored ≡ []) → shown ≡ plain_color color empty → IfSome shown (λ n. (x y : ℕ) → to_le_bytes w32 n ≡ (pixel_at (behind_clears rect stored color ds) x y).rgba)
+plain_shows rect stored color ds empty None none e = record {}
+plain_shows rect stored color ds empty (Some n) none e = λ x y. plain_is rect stored x y color ds empty n none (sym e)
+
+-- where none shows, no clear is noted
+pub plain_none : (color : Option (List ℕ)) (empty : Bool) → plain_color color empty ≡ None → (color ≡ None) × (empty ≡ false)
+plain_none (Some rgba) empty e = absurd cc
+plain_none None true e = absurd cc
+plain_none None false e = (refl, refl)
 
 -- one more clear is noted
 abbrev made : List ℕ → DepthStencil → Pixel

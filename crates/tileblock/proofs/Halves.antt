@@ -4,10 +4,9 @@ use Rattle.std.specs.Prelude.{slice_index, slice_index_or, slice_set}
 use Rattle.std.specs.Int.{w32, to_le_bytes}
 use Rattle.std.proofs.lemmas.Bool.{cases_eq}
 use Rattle.gfxspec.specs.declared.geometry.PixelRect.{PixelRect}
-use Rattle.gfxspec.specs.declared.pixel.Pixel.{Pixel}
 use Rattle.gfxspec.specs.Tiles.{IsIn, IsInTile}
 use Rattle.tileblock.specs.Block.{Block, IsBlock, pixel_at, span_of, value_at}
-use Rattle.tileblock.specs.QuadStored.{QuadStored, quad_pixel}
+use Rattle.tileblock.specs.QuadStored.{QuadStored}
 
 -- ---- where a quad stands
 

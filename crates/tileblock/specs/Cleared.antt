@@ -1,5 +1,5 @@
 -- Blocks of which all pixels hold the same, and clears of them (this project's own).
-use Rattle.std.specs.Prelude.{ℕ, ◌≤◌, List, [], ◌∷◌, Option, Some, None, length, replicate}
+use Rattle.std.specs.Prelude.{ℕ, ◌≤◌, Bool, true, false, List, [], ◌∷◌, Option, Some, None, length, replicate}
 use Rattle.std.specs.Int.{w32, from_le_bytes}
 use Rattle.gfxspec.specs.declared.geometry.PixelRect.{PixelRect}
 use Rattle.gfxspec.specs.declared.pixel.DepthStencil.{DepthStencil}
@@ -31,6 +31,12 @@ behind_color (Some rgba) b = color_cleared rgba b
 abbrev pub behind_depth_stencil : Option DepthStencil → Block → Block
 behind_depth_stencil None b = b
 behind_depth_stencil (Some v) b = depth_stencil_cleared v b
+
+-- the colour that all pixels have, as one number, where it shows without a look at stored ones
+abbrev pub plain_color : Option (List ℕ) → Bool → Option ℕ
+plain_color (Some rgba) empty = Some (from_le_bytes w32 rgba)
+plain_color None true = Some 0
+plain_color None false = None
 
 -- what a block holds where clears are noted and not done
 abbrev pub behind_clears : PixelRect → List Block → Option (List ℕ) → Option DepthStencil → Block

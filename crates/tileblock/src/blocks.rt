@@ -1,7 +1,7 @@
 //! A tile's block: its stored pixels, and the clears that are noted and not done.
 
 ghost use Rattle.std.specs.Prelude.{◌≡◌, ◌∷◌, [], vec_capacity};
-ghost use Rattle.tileblock.specs.Cleared.{stored_in, behind_color, behind_depth_stencil, behind_clears, HasRoom};
+ghost use Rattle.tileblock.specs.Cleared.{stored_in, behind_color, behind_depth_stencil, behind_clears, plain_color, HasRoom};
 
 use crate::pixels::{DepthBounds, TilePixels};
 use gfxspec::{DEPTH_MAX, DepthStencil, Pixel, PixelRect};
@@ -88,6 +88,18 @@ fn store_cleared<A: Allocator>(
 {
     store_first(stored, rect);
     clear(&mut stored[0], color, depth_stencil);
+}
+
+/// The colour of all pixels, where it is known without a look at them: under a noted clear, and where nothing is stored.
+#[inline(always)]
+fn plain_of(color: Option<[u8; 4]>, is_empty: bool) -> Option<u32>
+    ensures { result ≡ plain_color color is_empty }
+{
+    match color {
+        Some(rgba) => Some(u32::from_le_bytes(rgba)),
+        None if is_empty => Some(0),
+        None => None,
+    }
 }
 
 impl<A: Allocator> TileBlock<A> {
@@ -179,13 +191,7 @@ impl<A: Allocator> TileBlock<A> {
     pub fn plain_color(&self) -> Option<u32>
         ensures { IfSome result (λ color. (x y : ℕ) → to_le_bytes w32 color ≡ (pixel_at self.now x y).rgba) }
     {
-        if let Some(rgba) = self.color {
-            return Some(u32::from_le_bytes(rgba));
-        }
-        if self.stored.is_empty() {
-            return Some(0);
-        }
-        None
+        plain_of(self.color, self.stored.is_empty())
     }
 
     /// The colours of eight pixels side by side, which are a span of a row; both are counted within the tile. A
@@ -196,13 +202,10 @@ impl<A: Allocator> TileBlock<A> {
         ensures { (j : ℕ) → j < 8 → to_le_bytes w32 (slice_index result j)
             ≡ (pixel_at self.now (self.now.rect.left + 8 * span + j) (self.now.rect.top + row)).rgba }
     {
-        if let Some(rgba) = self.color {
-            return [u32::from_le_bytes(rgba); 8];
+        match plain_of(self.color, self.stored.is_empty()) {
+            Some(color) => [color; 8],
+            None => self.stored[0].color_span(span, row),
         }
-        if self.stored.is_empty() {
-            return [0; 8];
-        }
-        self.stored[0].color_span(span, row)
     }
 
     /// The depths of such eight pixels.

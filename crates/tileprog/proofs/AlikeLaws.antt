@@ -67,7 +67,7 @@ stored_there (Some w) b known u v is = known u v is
 
 -- at each pixel of a tile that a triangle covers
 pub outcome_there : (t : TriSetup) (s : DepthStencilSetting) (b : Block) (least greatest : ℕ) (stored : Option DepthBounds) (deep : Bool) → DepthsLie t b.rect least greatest → IfSome stored (λ w. LieBetween b w.least w.greatest)
-    → HasOutcome s least greatest stored deep → ((u v : ℕ) → IsIn b.rect u v → covers t.edges (centre u v) ≡ true) → (u v : ℕ) → IsIn b.rect u v → depth_passes s (depth_of t.plane u v) (pixel_at b u v).ds.depth ≡ deep
+    → HasOutcome s least greatest stored deep → ((u v : ℕ) → IsIn b.rect u v → covers t.plane.triangle (centre u v) ≡ true) → (u v : ℕ) → IsIn b.rect u v → depth_passes s (depth_of t.plane u v) (pixel_at b u v).ds.depth ≡ deep
 outcome_there t s b least greatest stored deep lie known has covered u v is =
     let between = lie u v is (covered u v is) in
     has (depth_of t.plane u v) (pixel_at b u v).ds.depth between.0 between.1 (stored_there stored b known u v is)

@@ -14,12 +14,11 @@ use Rattle.tileblock.specs.Block.{Block, pixel_at}
 use Rattle.tileblock.specs.QuadStored.{QuadStored, quad_pixel}
 use Rattle.tileprog.specs.declared.draw.TileTriangle.{TileTriangle}
 use Rattle.tileprog.specs.Brushes.{tested_by, drawn_by}
-use Rattle.tileprog.specs.Counting.{one_if, stroke_count}
+use Rattle.tileprog.specs.Counting.{one_if}
 use Rattle.tileprog.specs.Edges.{passes_edges, Decides}
 use Rattle.tileprog.specs.Quads.{IsQuads, edges_at, walk_at, drawn_quad, picked}
 use Rattle.tileprog.specs.Spreads.{stroke_of}
 use Rattle.tileprog.specs.Strokes.{Stroke, Drew, reached, stroked, stroke_passes, depth_there}
-use Rattle.tileprog.specs.Sums.{box_sum}
 use Rattle.tileprog.specs.Within.{in_box}
 use Rattle.tileprog.proofs.Rowing.{decided, near_begin, row_decides}
 use Rattle.tileprog.proofs.Stroking.{step}

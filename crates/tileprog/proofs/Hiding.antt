@@ -1,6 +1,6 @@
 -- A triangle that can't pass the depth test changes nothing and counts nothing.
 use Rattle.std.proofs.Common.{int_eq, ◌≡◌, ◌∙◌, ap, sym, subst, refl, arith, ℕ, zero, suc, ◌+◌, ◌*◌, ◌/◌, ◌<◌, ◌≤◌, ℤ, pos, Bool, true, false, ◌&&◌, ◌||◌, nat_lt, min, max, Option, Some, None}
-use Rattle.std.specs.Prelude.{negsuc, nat_le, not, ◌==◌, if◌then◌else◌, unsigned_abs, IfSome, IsTrue}
+use Rattle.std.specs.Prelude.{negsuc, nat_le, not, ◌==◌, if◌then◌else◌, unsigned_abs, IfSome}
 use Rattle.std.proofs.lemmas.Bool.{false≢true}
 use Rattle.std.proofs.lemmas.Bool.Decides.{nat_tests}
 use Rattle.std.proofs.lemmas.Nat.{le-div}
@@ -79,19 +79,13 @@ some_area (negsuc n) e = omega arith
 some_weight : (t : Triangle) (p : Point) → is_empty t ≡ false → covers t p ≡ true → 0 < weight t 0 p + weight t 1 p + weight t 2 p
 some_weight t p solid c = let s = weights_sum t p (all_hold t p c) in let n = some_area (area t) solid in omega (arith, s, n)
 
-module _ (t : TriSetup) (x y : ℕ) (c : covers t.edges (centre x y) ≡ true) where
-  solid_plane : is_empty t.plane.triangle ≡ false
-  solid_plane = ap is_empty t.same ∙ t.solid
-
-  covered_plane : covers t.plane.triangle (centre x y) ≡ true
-  covered_plane = ap (λ r. covers r (centre x y)) t.same ∙ c
-
+module _ (t : TriSetup) (x y : ℕ) (c : covers t.plane.triangle (centre x y) ≡ true) where
   depth_least : t.least_depth ≤ depth_of t.plane x y
   depth_least =
       let p = centre x y in
       let r = t.plane.triangle in
       let m = min (min t.plane.z0 t.plane.z1) t.plane.z2 in
-      let below = least_mean (weight r 0 p) (weight r 1 p) (weight r 2 p) t.plane.z0 t.plane.z1 t.plane.z2 m (omega arith) (omega arith) (omega arith) (some_weight r p solid_plane covered_plane) in
+      let below = least_mean (weight r 0 p) (weight r 1 p) (weight r 2 p) t.plane.z0 t.plane.z1 t.plane.z2 m (omega arith) (omega arith) (omega arith) (some_weight r p t.solid c) in
       subst (λ n. n ≤ depth_of t.plane x y) (sym t.least) (biased_order t.plane.bias m (depth_at r t.plane.z0 t.plane.z1 t.plane.z2 p) below)
 
   depth_greatest : depth_of t.plane x y ≤ t.greatest_depth
@@ -106,9 +100,7 @@ pub vertices_lie : (t : TriSetup) (r : PixelRect) → DepthsLie t r t.least_dept
 vertices_lie t r u v is c = (depth_least t u v c, depth_greatest t u v c)
 
 pub vertices_within : (t : TriSetup) → LiesWithin t.plane (record { least = t.least_depth; greatest = t.greatest_depth })
-vertices_within t u v c =
-    let here : IsTrue (covers t.edges (centre u v)) = (λ i. covers (sym t.same i) (centre u v)) ∙ c in
-    (depth_least t u v here, depth_greatest t u v here)
+vertices_within t u v c = (depth_least t u v c, depth_greatest t u v c)
 
 -- ---- a stored depth
 
@@ -168,16 +160,16 @@ failed s face reference z old stencil depth fails =
     tested_depth s face reference z old s.func s.write (record { stencil = stencil; depth = depth; func_is = refl; write_is = refl })
     ∙ ap (λ c. record { after = record { depth = if c && s.write then z else old.depth; stencil = old.stencil }; passed = c }) fails
 
-module _ (t : TriSetup) (e : StateEntry) (m : EdgeMask) (old : Block) (class : IsClassOf (Cut (edge_bits m)) t.edges old.rect) where
+module _ (t : TriSetup) (e : StateEntry) (m : EdgeMask) (old : Block) (class : IsClassOf (Cut (edge_bits m)) t.plane.triangle old.rect) where
   first : (a b : Bool) → (a && b) ≡ true → a ≡ true
   first true b k = refl
   first false b k = absurd cc
 
   -- where it reaches a pixel it covers its centre
-  covered : (u v : ℕ) → IsIn old.rect u v → reaches_by m t e u v ≡ true → covers t.edges (centre u v) ≡ true
+  covered : (u v : ℕ) → IsIn old.rect u v → reaches_by m t e u v ≡ true → covers t.plane.triangle (centre u v) ≡ true
   covered u v is r =
-      let named : P.passes_edges m t.edges (centre u v) ≡ true = first (P.passes_edges m t.edges (centre u v)) (lets_through e u v) r in
-      named_covers (edge_bits m) t.edges old.rect u v t.solid class is (passes_are m t.edges (centre u v) ∙ named)
+      let named : P.passes_edges m t.plane.triangle (centre u v) ≡ true = first (P.passes_edges m t.plane.triangle (centre u v)) (lets_through e u v) r in
+      named_covers (edge_bits m) t.plane.triangle old.rect u v t.solid class is (passes_are m t.plane.triangle (centre u v) ∙ named)
 
   module _ (least greatest : ℕ) (lie : DepthsLie t old.rect least greatest) (stored : Option DepthBounds) (known : IfSome stored (λ w. LieBetween old w.least w.greatest)) where
     lies : (w : DepthBounds) → stored ≡ Some w → LieBetween old w.least w.greatest
@@ -238,13 +230,13 @@ module _ (t : TriSetup) (e : StateEntry) (m : EdgeMask) (old : Block) (class : I
 -- ---- a triangle that reaches a whole tile
 
 -- where no edge is named it covers each pixel
-pub whole_covered : (t : TriSetup) (m : EdgeMask) (clip r : PixelRect) → IsClassOf (Cut (edge_bits m)) t.edges r → IsWhole r clip m → (u v : ℕ) → IsIn r u v → covers t.edges (centre u v) ≡ true
+pub whole_covered : (t : TriSetup) (m : EdgeMask) (clip r : PixelRect) → IsClassOf (Cut (edge_bits m)) t.plane.triangle r → IsWhole r clip m → (u v : ℕ) → IsIn r u v → covers t.plane.triangle (centre u v) ≡ true
 whole_covered t m clip r class w u v is =
-    named_covers (edge_bits m) t.edges r u v t.solid class is
-    (passes_are m t.edges (centre u v)
-    ∙ (λ i. (not (w.edge0 i) || edge_holds (edge t.edges 0) (centre u v)) && ((not (w.edge1 i) || edge_holds (edge t.edges 1) (centre u v)) && (not (w.edge2 i) || edge_holds (edge t.edges 2) (centre u v)))))
+    named_covers (edge_bits m) t.plane.triangle r u v t.solid class is
+    (passes_are m t.plane.triangle (centre u v)
+    ∙ (λ i. (not (w.edge0 i) || edge_holds (edge t.plane.triangle 0) (centre u v)) && ((not (w.edge1 i) || edge_holds (edge t.plane.triangle 1) (centre u v)) && (not (w.edge2 i) || edge_holds (edge t.plane.triangle 2) (centre u v)))))
 
-module _ (p : TriSetup) (e : StateEntry) (m : EdgeMask) (clip r : PixelRect) (tile : IsTile r) (class : IsClassOf (Cut (edge_bits m)) p.edges r) (bounded : IsBounded p e)
+module _ (p : TriSetup) (e : StateEntry) (m : EdgeMask) (clip r : PixelRect) (tile : IsTile r) (class : IsClassOf (Cut (edge_bits m)) p.plane.triangle r) (bounded : IsBounded p e)
     (inside : (u v : ℕ) → IsIn r u v → is_in_rect clip u v ≡ is_in_rect p.bounds u v) where
   pub whole_reached : IsWhole r clip m → (u v : ℕ) → IsIn r u v → reaches_by m p e u v ≡ true
   whole_reached w u v is =
@@ -268,7 +260,7 @@ same_tests t e m old flip u v = by (reaches_by m t e u v)
     by false = refl
 
 -- what is kept behind it
-pub kept_if : (t : TriSetup) (e : StateEntry) (m : EdgeMask) (flip : ℕ) (old new : Block) (clip : PixelRect) (least greatest : ℕ) (stored after : Option DepthBounds) (whole : Bool) → IsTile old.rect → IsClassOf (Cut (edge_bits m)) t.edges old.rect → IsBounded t e →
+pub kept_if : (t : TriSetup) (e : StateEntry) (m : EdgeMask) (flip : ℕ) (old new : Block) (clip : PixelRect) (least greatest : ℕ) (stored after : Option DepthBounds) (whole : Bool) → IsTile old.rect → IsClassOf (Cut (edge_bits m)) t.plane.triangle old.rect → IsBounded t e →
     ((u v : ℕ) → IsIn old.rect u v → is_in_rect clip u v ≡ is_in_rect t.bounds u v) → DepthsLie t old.rect least greatest → IfSome stored (λ w. LieBetween old w.least w.greatest) → (whole ≡ true → IsWhole old.rect clip m) →
     IfSome after (AreAfter e.depth_stencil least greatest whole stored) → new.rect ≡ old.rect →
     ((u v : ℕ) → IsIn old.rect u v → stands_for flip new u v ≡ triangle_by m (Some t) (Some e) u v (stands_for flip old u v)) → IfSome after (λ d. LieBetween new d.least d.greatest)

@@ -177,11 +177,11 @@ module _ (t : Tables) (r : PixelRect) (e : Option StateEntry) (w : Word) (fits :
   pub names_depth : (n : ℕ) → w ≡ ClearDs n → n < length t.depths
   names_depth n is = let h = subst (WordFits t r e) is fits in named_below t.depths n h.0 h.1
 
-  pub names_class : (n : ℕ) (m : EdgeMask) (p : TriSetup) → w ≡ Tri n m → slice_get t.triangles n ≡ Some p → IsClassOf (Cut (edge_bits m)) p.edges r
+  pub names_class : (n : ℕ) (m : EdgeMask) (p : TriSetup) → w ≡ Tri n m → slice_get t.triangles n ≡ Some p → IsClassOf (Cut (edge_bits m)) p.plane.triangle r
   names_class n m p is named =
       let h = subst (WordFits t r e) is fits in
       let same : h.1 ≡ p = cc (h.3, named) in
-      subst (λ q. IsClassOf (Cut (edge_bits m)) q.edges r) same h.4
+      subst (λ q. IsClassOf (Cut (edge_bits m)) q.plane.triangle r) same h.4
 
 -- ---- a program's numbers, one by one
 

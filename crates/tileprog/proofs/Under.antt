@@ -60,12 +60,10 @@ named_covers mask t r x y solid class is e =
     let third = edge_named mask t r 2 x y (omega arith) class is parts.2 in
     λ i. not (solid i) && (first i && (second i && third i))
 
-pub is_named : (mask : ℕ) (p : TriSetup) (r : PixelRect) → IsClassOf (Cut mask) p.edges r → IsNamed p.plane mask r
+pub is_named : (mask : ℕ) (p : TriSetup) (r : PixelRect) → IsClassOf (Cut mask) p.plane.triangle r → IsNamed p.plane mask r
 is_named mask p r class =
     record {
-      covered = λ x y is e.
-          let P : Triangle → Type 0 = λ t. passes_edges mask t (centre x y) ≡ true → covers t (centre x y) ≡ true in
-          subst P (sym p.same) (named_covers mask p.edges r x y p.solid class is) e;
+      covered = λ x y is. named_covers mask p.plane.triangle r x y p.solid class is;
       depths = p.deep;
     }
 
@@ -123,16 +121,16 @@ agrees inside true covered through named bounded =
     let is = named refl in
     ap (λ c. inside && c) (sym is) ∙ bounded ∙ ap (λ c. c && through) is
 
-module _ (p : TriSetup) (e : StateEntry) (m : EdgeMask) (clip r : PixelRect) (tile : IsTile r) (class : IsClassOf (Cut (edge_bits m)) p.edges r) (bounded : IsBounded p e)
+module _ (p : TriSetup) (e : StateEntry) (m : EdgeMask) (clip r : PixelRect) (tile : IsTile r) (class : IsClassOf (Cut (edge_bits m)) p.plane.triangle r) (bounded : IsBounded p e)
     (inside : (u v : ℕ) → IsIn r u v → is_in_rect clip u v ≡ is_in_rect p.bounds u v) where
   pub reach_is : (u v : ℕ) → IsIn r u v → (is_in_rect clip u v && passes_edges (edge_bits m) p.plane.triangle (centre u v)) ≡ reaches_by m p e u v
   reach_is u v is =
       let wide : u < 4096 = omega (arith, is.right, tile.place.right, tile.right) in
       let high : v < 4096 = omega (arith, is.bottom, tile.place.bottom, tile.bottom) in
-      (λ i. inside u v is i && passes_edges (edge_bits m) (p.same i) (centre u v))
-      ∙ agrees (is_in_rect p.bounds u v) (passes_edges (edge_bits m) p.edges (centre u v)) (covers p.edges (centre u v)) (lets_through e u v)
-      (named_covers (edge_bits m) p.edges r u v p.solid class is) (bounded u v wide high)
-      ∙ ap (λ b. b && lets_through e u v) (passes_are m p.edges (centre u v))
+      ap (λ b. b && passes_edges (edge_bits m) p.plane.triangle (centre u v)) (inside u v is)
+      ∙ agrees (is_in_rect p.bounds u v) (passes_edges (edge_bits m) p.plane.triangle (centre u v)) (covers p.plane.triangle (centre u v)) (lets_through e u v)
+      (named_covers (edge_bits m) p.plane.triangle r u v p.solid class is) (bounded u v wide high)
+      ∙ ap (λ b. b && lets_through e u v) (passes_are m p.plane.triangle (centre u v))
 
   pub under_is : (b : Brush) (flip : ℕ) → IsBrushOf b p e flip → (u v : ℕ) → IsIn r u v → (block : Block) → flipped flip (stroked (record { brush = b; plane = p.plane; mask = edge_bits m; clip = clip }) u v (pixel_at block u v)) ≡ triangle_by m (Some p) (Some e) u v (stands_for flip block u v)
   under_is b flip k u v is block =
@@ -163,7 +161,7 @@ module _ (p : TriSetup) (e : StateEntry) (m : EdgeMask) (clip r : PixelRect) (ti
       sum_over_same r _ _ (λ u v is. λ i. one_if (reach_is u v is i && (test_is b p e flip k u v (pixel_at old u v) i).passed))
 
 -- a stroke of a brush of the entry is the triangle's word
-pub drew_under : (p : TriSetup) (e : StateEntry) (m : EdgeMask) (clip : PixelRect) (old new : Block) → IsTile old.rect → IsClassOf (Cut (edge_bits m)) p.edges old.rect → IsBounded p e → ((u v : ℕ) → IsIn old.rect u v → is_in_rect clip u v ≡ is_in_rect p.bounds u v)
+pub drew_under : (p : TriSetup) (e : StateEntry) (m : EdgeMask) (clip : PixelRect) (old new : Block) → IsTile old.rect → IsClassOf (Cut (edge_bits m)) p.plane.triangle old.rect → IsBounded p e → ((u v : ℕ) → IsIn old.rect u v → is_in_rect clip u v ≡ is_in_rect p.bounds u v)
     → (b : Brush) (flip : ℕ) → IsBrushOf b p e flip → (n bits : ℕ) → bits ≡ edge_bits m → SpreadDrew (record { brush = b; plane = p.plane; mask = bits; clip = clip }) old new n → DrewUnder m p e flip old new n
 drew_under p e m clip old new tile class bounded inside b flip k n bits is drew =
     let S : ℕ → Type 0 = λ mask. SpreadDrew (record { brush = b; plane = p.plane; mask = mask; clip = clip }) old new n in

@@ -35,7 +35,7 @@ pub record TestsDepthAlone (s : DepthStencilSetting) : Type 0 where
 -- the depths of a triangle at the pixels of a rectangle that it covers lie between two
 abbrev pub DepthsLie : TriSetup → PixelRect → ℕ → ℕ → Type 0
 DepthsLie t r least greatest =
-    (u v : ℕ) → IsIn r u v → IsTrue (covers t.edges (centre u v)) → (least ≤ depth_of t.plane u v) × (depth_of t.plane u v ≤ greatest)
+    (u v : ℕ) → IsIn r u v → IsTrue (covers t.plane.triangle (centre u v)) → (least ≤ depth_of t.plane u v) × (depth_of t.plane u v ≤ greatest)
 
 -- the triangle's depths pass against none of the stored ones
 pub record IsHidden (s : DepthStencilSetting) (least greatest : ℕ) (stored : Option DepthBounds) : Type 0 where

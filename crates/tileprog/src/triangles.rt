@@ -23,20 +23,21 @@ use crate::draw::{draw, draw_quads};
 use crate::hidden::{asks_plane, bounds_after, is_hidden, is_large, keep_after};
 use crate::kind::{Tests, tests_of};
 use crate::paint::write_under;
-use binner::{StateEntry, TriSetup};
+use binner::{ShortRect, StateEntry, TriSetup};
 use gfxspec::PixelRect;
 use std::alloc::Allocator;
 use tileblock::{TileBlock, TilePixels};
 use tileword::EdgeMask;
 
 /// The pixels of a tile that lie in a triangle's bounds.
-fn clipped(rect: PixelRect, bounds: PixelRect) -> PixelRect
+fn clipped(rect: PixelRect, bounds: &ShortRect) -> PixelRect
     ensures left { rect.left ≤ result.left }
     ensures top { rect.top ≤ result.top }
     ensures right { result.right ≤ rect.right }
     ensures bottom { result.bottom ≤ rect.bottom }
-    ensures pixels { (u v : ℕ) → IsIn rect u v → is_in_rect result u v ≡ is_in_rect bounds u v }
+    ensures pixels { (u v : ℕ) → IsIn rect u v → is_in_rect result u v ≡ is_in_rect bounds.now u v }
 {
+    let bounds = bounds.rect();
     PixelRect {
         left: rect.left.max(bounds.left),
         top: rect.top.max(bounds.top),
@@ -57,7 +58,7 @@ fn draw_under(
     flip: u32,
 ) -> u32
     requires tile { IsTile block.old.rect }
-    requires class { IsClassOf (Cut (edge_bits mask.now)) triangle.now.edges block.old.rect }
+    requires class { IsClassOf (Cut (edge_bits mask.now)) triangle.now.plane.triangle block.old.rect }
     requires bounded { IsBounded triangle.now entry.now }
     requires within { IsWithin clip.now block.old.rect }
     requires inside { (u v : ℕ) → IsIn block.old.rect u v → is_in_rect clip.now u v ≡ is_in_rect triangle.now.bounds u v }
@@ -80,7 +81,7 @@ fn draw_quads_under(
     flip: u32,
 ) -> Option<u32>
     requires tile { IsTile block.old.rect }
-    requires class { IsClassOf (Cut (edge_bits mask)) triangle.now.edges block.old.rect }
+    requires class { IsClassOf (Cut (edge_bits mask)) triangle.now.plane.triangle block.old.rect }
     requires bounded { IsBounded triangle.now entry.now }
     requires within { IsWithin clip block.old.rect }
     requires inside { (u v : ℕ) → IsIn block.old.rect u v → is_in_rect clip u v ≡ is_in_rect triangle.now.bounds u v }
@@ -107,7 +108,7 @@ fn draw_small_under(
     flip: u32,
 ) -> u32
     requires tile { IsTile block.old.rect }
-    requires class { IsClassOf (Cut (edge_bits mask.now)) triangle.now.edges block.old.rect }
+    requires class { IsClassOf (Cut (edge_bits mask.now)) triangle.now.plane.triangle block.old.rect }
     requires bounded { IsBounded triangle.now entry.now }
     requires within { IsWithin clip.now block.old.rect }
     requires inside { (u v : ℕ) → IsIn block.old.rect u v → is_in_rect clip.now u v ≡ is_in_rect triangle.now.bounds u v }
@@ -150,7 +151,7 @@ fn cut_range(triangle: &TriSetup, rect: PixelRect) -> (u32, u32)
 /// plane.
 fn depth_range(triangle: &TriSetup, rect: PixelRect, asked: bool, whole: bool) -> (u32, u32)
     requires tile { IsTile rect }
-    requires whole { IsTrue whole → (u v : ℕ) → IsIn rect u v → IsTrue (covers triangle.now.edges (centre u v)) }
+    requires whole { IsTrue whole → (u v : ℕ) → IsIn rect u v → IsTrue (covers triangle.now.plane.triangle (centre u v)) }
     ensures { DepthsLie triangle.now rect result.0 result.1 }
 {
     if !asked {
@@ -174,7 +175,7 @@ fn run_small(
     flip: u32,
 ) -> u32
     requires tile { IsTile block.old.rect }
-    requires class { IsClassOf (Cut (edge_bits mask.now)) triangle.now.edges block.old.rect }
+    requires class { IsClassOf (Cut (edge_bits mask.now)) triangle.now.plane.triangle block.old.rect }
     requires bounded { IsBounded triangle.now entry.now }
     requires within { IsWithin clip.now block.old.rect }
     requires inside { (u v : ℕ) → IsIn block.old.rect u v → is_in_rect clip.now u v ≡ is_in_rect triangle.now.bounds u v }
@@ -199,7 +200,7 @@ fn run_triangle(
     entry: &StateEntry,
 ) -> u32
     requires tile { IsTile block.old.rect }
-    requires class { IsClassOf (Cut (edge_bits mask)) triangle.now.edges block.old.rect }
+    requires class { IsClassOf (Cut (edge_bits mask)) triangle.now.plane.triangle block.old.rect }
     requires bounded { IsBounded triangle.now entry.now }
     ensures rect { block.new.rect ≡ block.old.rect }
     ensures pixels { (u v : ℕ) → IsIn block.old.rect u v → stands_for flip.new block.new u v ≡ triangle_by mask (Some triangle.now) (Some entry.now) u v (stands_for flip.old block.old u v) }
@@ -207,11 +208,11 @@ fn run_triangle(
     ensures few { result ≤ 1024 }
 {
     let rect = block.rect();
-    let clip = clipped(rect, triangle.bounds);
+    let clip = clipped(rect, &triangle.bounds);
     if clip.left >= clip.right || clip.top >= clip.bottom {
         return 0;
     }
-    if !is_large(triangle.bounds) {
+    if !is_large(triangle.bounds.rect()) {
         return run_small(block, triangle, &mask, entry, &clip, *flip);
     }
     let whole = is_whole(rect, clip, mask);
@@ -247,7 +248,7 @@ pub(crate) fn run_unless_hidden<A: Allocator>(
     entry: &StateEntry,
 ) -> u32
     requires tile { IsTile block.old.rect }
-    requires class { IsClassOf (Cut (edge_bits mask)) triangle.now.edges block.old.rect }
+    requires class { IsClassOf (Cut (edge_bits mask)) triangle.now.plane.triangle block.old.rect }
     requires bounded { IsBounded triangle.now entry.now }
     ensures rect { block.new.rect ≡ block.old.rect }
     ensures pixels { (u v : ℕ) → IsIn block.old.rect u v → stands_for flip.new block.new u v ≡ triangle_by mask (Some triangle.now) (Some entry.now) u v (stands_for flip.old block.old u v) }

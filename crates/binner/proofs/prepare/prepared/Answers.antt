@@ -1,5 +1,6 @@
-use Rattle.std.proofs.Common.{rules, ap, refl, sym, subst, ◌≡◌, ◌<◌, ◌&&◌, ◌∙◌, ℕ, [], pos, true, false, min, max, get_or, w32, w64, FitsSigned}
+use Rattle.std.proofs.Common.{rules, arith, ◌≤◌, ap, refl, sym, subst, ◌≡◌, ◌<◌, ◌&&◌, ◌∙◌, ℕ, [], pos, true, false, min, max, get_or, w32, w64, FitsSigned}
 use Rattle.std.proofs.lemmas.Int.{to_z-of_z}
+use Rattle.gfxspec.specs.declared.geometry.PixelRect.{PixelRect}
 use Rattle.gfxspec.specs.declared.geometry.Vertex.{Vertex}
 use Rattle.gfxspec.specs.Depth.{biased}
 use Rattle.gfxspec.specs.Vertices.{IsDepth}
@@ -9,6 +10,7 @@ use Rattle.gfxspec.specs.Items.{face_setting, in_scissor, is_in_rect, snapped_tr
 use Rattle.gfxspec.specs.Limits.{side_bound}
 use Rattle.gfxspec.specs.Raster.{Triangle, centre, covers}
 use Rattle.snap.specs.Corners.{triangle_of}
+use Rattle.edges.specs.Packed.{ArePackedOf}
 use Rattle.depthplane.specs.Height.{AreDepths, DeepTriangle}
 use Rattle.assemble.specs.Triangle.{primitive_of}
 use Rattle.command.specs.Seen.{state_value}
@@ -39,7 +41,7 @@ returns-then-not-is_seen-clause-dropped c n x y small_x small_y within_x within_
     let s = state_value c.args.state.now in
     let same = same_primitive c.args.vertices.now none (search rules) in
     out_of_sight t s c.in_ok-edges.edges c.within_reach-bounds.result x y (c.in_ok-edges.ensures.set ∙ ap triangle_of c.of-sides.ensures ∙ c.of-corners.ensures ∙ ap snapped_triangle same)
-    (c.within_reach-bounds.ensures.reach x y small_x small_y) (c.is_seen.ensures (search rules) x y within_x within_y)
+    (c.within_reach-bounds.ensures.reach x y small_x small_y) (c.is_seen.ensures.unseen (search rules) x y within_x within_y)
 
 pub invariant_of-setup : goal.invariant_of-setup
 invariant_of-setup c =
@@ -49,13 +51,13 @@ invariant_of-setup c =
     let lowest = simp to_z-of_z at c.with_bias.ensures in
     let highest = simp to_z-of_z at c.with_bias-2.ensures in
     record {
-      same = ap (λ d. d.triangle) plane ∙ sym (c.packed.ensures ∙ c.in_ok-edges.ensures.set);
-      solid = solid _ c.packed.result (c.packed.ensures ∙ c.in_ok-edges.ensures.set) (search rules);
+      packed = subst (ArePackedOf c.packed.result) (c.in_ok-edges.ensures.set ∙ sym (ap (λ d. d.triangle) plane)) c.packed.ensures;
+      solid = solid _ c.of_sides-plane.result.triangle (ap (λ d. d.triangle) plane) (search rules);
       deep = subst AreDepths (sym plane) (record { z0 = ready.first.deep; z1 = ready.second.deep; z2 = ready.third.deep });
       least = lowest ∙ ap (biased c.depth_bias-bias.result) (c.min-2.ensures ∙ ap (λ m. min m (get_or c.args.vertices.now 2 none).z) c.min.ensures) ∙ ap (λ (d : DeepTriangle). biased d.bias (min (min d.z0 d.z1) d.z2)) (sym plane);
       greatest = highest ∙ ap (biased c.depth_bias-bias.result) (c.max-2.ensures ∙ ap (λ m. max m (get_or c.args.vertices.now 2 none).z) c.max.ensures) ∙ ap (λ (d : DeepTriangle). biased d.bias (max (max d.z0 d.z1) d.z2)) (sym plane);
-      right = c.within_reach-bounds.ensures.right;
-      bottom = c.within_reach-bounds.ensures.bottom;
+      right = subst (λ (r : PixelRect). r.right ≤ side_bound) (sym c.of.ensures) c.within_reach-bounds.ensures.right;
+      bottom = subst (λ (r : PixelRect). r.bottom ≤ side_bound) (sym c.of.ensures) c.within_reach-bounds.ensures.bottom;
     }
 
 pub returns-clause-setup : goal.returns-clause-setup
@@ -69,9 +71,9 @@ returns-clause-setup c =
     let plane = simp to_z-of_z at c.of_sides-plane.ensures in
     let facing = simp to_z-of_z at c.facing_by_area-facing.ensures in
     let faces = facing_is t s c.facing_by_area-facing.result c.front_ccw.result _ (facing (triangle_of c.of-sides.result.triangle) c.of-sides.result.area_is) c.front_ccw.ensures corners in
-    let Reach : Triangle → Type 0 = λ e. (x y : ℕ) → x < side_bound → y < side_bound → (is_in_rect c.within_reach-bounds.result x y && covers e (centre x y)) ≡ (covers e (centre x y) && in_scissor s x y) in
+    let Reach : PixelRect → Triangle → Type 0 = λ r e. (x y : ℕ) → x < side_bound → y < side_bound → (is_in_rect r x y && covers e (centre x y)) ≡ (covers e (centre x y) && in_scissor s x y) in
     record {
-      edges = c.packed.ensures ∙ c.in_ok-edges.ensures.set ∙ corners;
+      triangle = ap (λ d. d.triangle) plane ∙ corners;
       z0 = ap (λ d. d.z0) plane ∙ ap (λ (p : Primitive). p.first.z) same;
       z1 = ap (λ d. d.z1) plane ∙ ap (λ (p : Primitive). p.second.z) same;
       z2 = ap (λ d. d.z2) plane ∙ ap (λ (p : Primitive). p.third.z) same;
@@ -79,11 +81,26 @@ returns-clause-setup c =
       kept = culled_is t s c.facing_by_area-facing.result c.cull.result c.culled.result false faces c.cull.ensures c.culled.ensures c.if-culled.false;
       face = λ d. c.is_front.ensures d ∙ ap (λ f. face_setting f d) faces;
       rgba = ap (λ (p : Primitive). p.first.rgba) same;
-      reach = subst Reach (sym c.packed.ensures) c.within_reach-bounds.ensures.reach;
+      reach = subst (λ r. Reach r c.of_sides-plane.result.triangle) (sym c.of.ensures) (subst (Reach c.within_reach-bounds.result) (c.in_ok-edges.ensures.set ∙ sym (ap (λ d. d.triangle) plane)) c.within_reach-bounds.ensures.reach);
     }
 
 pub returns-clause-edges : goal.returns-clause-edges
-returns-clause-edges c = sym c.packed.ensures
+returns-clause-edges c =
+    let f : FitsSigned w32 c.depth_bias-bias.result = search rules in
+    let plane = simp to_z-of_z at c.of_sides-plane.ensures in
+    c.in_ok-edges.ensures.set ∙ sym (ap (λ d. d.triangle) plane)
+
+pub of-requires-clause-left : goal.of-requires-clause-left
+of-requires-clause-left c =
+    let wide = c.is_seen.ensures.wide (search rules) in
+    let right = c.within_reach-bounds.ensures.right in
+    omega (arith, wide, right)
+
+pub of-requires-clause-top : goal.of-requires-clause-top
+of-requires-clause-top c =
+    let high = c.is_seen.ensures.high (search rules) in
+    let bottom = c.within_reach-bounds.ensures.bottom in
+    omega (arith, high, bottom)
 
 pub bounds-vertices-0 : goal.bounds-vertices-0
 bounds-vertices-0 c = search rules

@@ -1,4 +1,4 @@
-use Rattle.std.proofs.Common.{rules, arith, ◌≡◌, ◌≢◌, ◌∙◌, ap, ℕ, ◌+◌, below_more, slice_index, w64, FitsSigned}
+use Rattle.std.proofs.Common.{rules, arith, ◌≡◌, ◌≢◌, ◌∙◌, ℕ, ◌+◌, below_more, slice_index, w64, FitsSigned}
 use Rattle.std.specs.Int.{w128}
 use Rattle.std.specs.Prelude.{slice_set}
 use Rattle.std.proofs.lemmas.Int.{to_z-of_z}
@@ -13,18 +13,17 @@ loop-j-preserved c =
     let old = c.loop-j.exact in
     let j = c.loop-j.j in
     let v = c.mended.result in
-    let p = c.plane.inside in
     let x = c.args.x in
     let y = c.args.y in
     let now = c.args.plane.now in
     let i = c.loop-j.invariant in
-    let f : FitsSigned w64 p.area = search rules in
+    let f : FitsSigned w64 c.size-area.result = search rules in
     let g : FitsSigned w128 c.at-there.result = search rules in
     let depth : ℕ → ℕ = λ k. mended_by (height now (centre (x + k) y)) (size_of now) (slice_index c.args.depths k) in
     let there : c.at-there.result ≡ height now (centre (x + j) y) =
     c.at-there.ensures.value ∙ c.height-height.ensures.value (x + j) y in
-    let size : p.area ≡ size_of now = c.plane.invariant.area_is ∙ ap size_of c.plane.view_is in
-    let same : v ≡ mended_by c.at-there.result p.area (slice_index c.args.depths j) = simp to_z-of_z at c.mended.ensures in
+    let size : c.size-area.result ≡ size_of now = c.size-area.ensures.value in
+    let same : v ≡ mended_by c.at-there.result c.size-area.result (slice_index c.args.depths j) = simp to_z-of_z at c.mended.ensures in
     let here : v ≡ depth j = same ∙ (λ k. mended_by (there k) (size k) (slice_index c.args.depths j)) in
     record {
       long = search rules;

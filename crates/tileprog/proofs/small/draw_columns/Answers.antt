@@ -1,5 +1,4 @@
 use Rattle.std.proofs.Common.{◌≡◌, ◌∙◌, ap, sym, subst, rules, arith, ℕ, ◌+◌, ◌*◌, ◌≤◌}
-use Rattle.gfxspec.specs.declared.geometry.PixelRect.{PixelRect}
 use Rattle.depthplane.specs.Places.{Places}
 use Rattle.edges.specs.Walk.{EdgePlace}
 use Rattle.tileprog.specs.Quads.{IsQuads, edges_at, walk_at}

@@ -1,6 +1,4 @@
-use Rattle.std.proofs.Common.{◌∙◌, arith}
-use Rattle.std.specs.Prelude.{IsTrue}
-use Rattle.gfxspec.specs.Raster.{centre, covers}
+use Rattle.std.proofs.Common.{arith}
 use Rattle.tileprog.proofs.Hiding.{vertices_lie}
 use Rattle.tileprog.proofs.triangles.cut_range.Goals as goal
 
@@ -10,9 +8,8 @@ returns-in_default c = vertices_lie c.args.triangle.now c.args.rect
 pub returns : goal.returns
 returns c = λ u v is covered.
     let t = c.args.triangle.now in
-    let there : IsTrue (covers t.plane.triangle (centre u v)) = (λ i. covers (t.same i) (centre u v)) ∙ covered in
     let corners = vertices_lie t c.args.rect u v is covered in
-    let about = c.in-Some.ensures u v is there in
+    let about = c.in-Some.ensures u v is covered in
     let low = corners.0 in
     let high = corners.1 in
     let near = about.0 in

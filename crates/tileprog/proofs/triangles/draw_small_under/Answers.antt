@@ -7,5 +7,5 @@ use Rattle.tileprog.proofs.triangles.draw_small_under.Goals as goal
 
 pub draw_under-requires-clause-class : goal.draw_under-requires-clause-class
 draw_under-requires-clause-class c =
-    let C : Block → Type 0 = λ b. IsClassOf (Cut (edge_bits c.args.mask.now)) c.args.triangle.now.edges b.rect in
+    let C : Block → Type 0 = λ b. IsClassOf (Cut (edge_bits c.args.mask.now)) c.args.triangle.now.plane.triangle b.rect in
     subst C (sym (c.in-None.ensures.none refl)) c.requires.class

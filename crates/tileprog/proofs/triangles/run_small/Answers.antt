@@ -1,4 +1,4 @@
-use Rattle.std.proofs.Common.{true, false, true≢false, sym, subst}
+use Rattle.std.proofs.Common.{false, true≢false, sym, subst}
 use Rattle.tileblock.specs.Block.{Block}
 use Rattle.tileprog.proofs.Hiding.{vertices_lie, kept_if}
 use Rattle.tileprog.specs.Under.{DrewUnder}

@@ -28,7 +28,7 @@ pub depth_range-least-requires-clause-whole : goal.depth_range-least-requires-cl
 depth_range-least-requires-clause-whole c = λ both.
     let t = c.args.triangle.now in
     let r = c.rect-rect.result in
-    let class = subst (λ r. IsClassOf (Cut (edge_bits c.args.mask)) t.edges r) (sym c.rect-rect.ensures) c.requires.class in
+    let class = subst (λ r. IsClassOf (Cut (edge_bits c.args.mask)) t.plane.triangle r) (sym c.rect-rect.ensures) c.requires.class in
     whole_covered t c.args.mask c.clipped-clip.result r class (c.is_whole-whole.ensures both)
 
 pub returns-then-clip-clause-pixels : goal.returns-then-clip-clause-pixels

@@ -9,7 +9,7 @@ use Rattle.tileprog.proofs.triangles.run_unless_hidden.Goals as goal
 -- the pixels that are drawn on are those of the block
 pub run_triangle-requires-clause-class : goal.run_triangle-requires-clause-class
 run_triangle-requires-clause-class g c =
-    subst (λ (b : Block). IsClassOf (Cut (edge_bits c.args.mask)) c.args.triangle.now.edges b.rect) (sym c.pixels_mut.ensures.value) c.requires.class
+    subst (λ (b : Block). IsClassOf (Cut (edge_bits c.args.mask)) c.args.triangle.now.plane.triangle b.rect) (sym c.pixels_mut.ensures.value) c.requires.class
 
 pub returns-then-hidden-clause-pixels : goal.returns-then-hidden-clause-pixels
 returns-then-hidden-clause-pixels g c = λ u v is.

@@ -2,7 +2,7 @@ use Rattle.std.proofs.Common.{rules, arith, ◌≡◌, ◌∙◌, ap, sym, subst
 use Rattle.std.specs.Int.{w128}
 use Rattle.std.proofs.lemmas.Int.{to_z-of_z}
 use Rattle.gfxspec.specs.Raster.{centre, covers}
-use Rattle.depthplane.specs.Height.{DeepTriangle, height, without_bias}
+use Rattle.depthplane.specs.Height.{DeepTriangle, height, size_of, without_bias}
 use Rattle.depthplane.specs.Mended.{mended_by}
 use Rattle.depthplane.specs.Place.{depth_of}
 use Rattle.depthplane.specs.Plane.{deep_of}
@@ -32,7 +32,7 @@ returns c =
     let x = c.args.x in
     let y = c.args.y in
     let v = c.at.result in
-    let f : FitsSigned w64 p.area = search rules in
+    let f : FitsSigned w64 c.size.result = search rules in
     let h : FitsSigned w128 c.at-height.result = search rules in
     let mended = simp to_z-of_z at c.mended.ensures in
     let small : v ≤ 18446744073709551615 = search rules in
@@ -41,5 +41,5 @@ returns c =
     let value = whole ∙ ap (λ n. n / 4294967296 % 4294967296) c.at.ensures in
     let P : DeepTriangle → Type 0 = λ t. IsTrue (covers t.triangle (centre x y)) → c.mended.result ≡ depth_of (without_bias t) x y in
     let here : P d = λ t.
-    mended ∙ (λ k. mended_by (there k) (i.area_is k) (value k)) ∙ covered_mended d p.scaled (of_plane p i) x y (omega (arith, c.requires.x)) (omega (arith, c.requires.y)) t in
+    mended ∙ (λ k. mended_by (there k) ((c.size.ensures.value ∙ ap size_of (sym c.self.view_is)) k) (value k)) ∙ covered_mended d p.scaled (of_plane p i) x y (omega (arith, c.requires.x)) (omega (arith, c.requires.y)) t in
     subst P c.self.view_is here

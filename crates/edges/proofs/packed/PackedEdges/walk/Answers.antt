@@ -3,7 +3,7 @@ use Rattle.edges.proofs.packed.PackedEdges.walk.Goals as goal
 
 pub invariant_of-result : goal.invariant_of-result
 invariant_of-result c =
-    let packed = c.self.invariant in
+    let packed = c.requires.packed in
     record {
       first = c.of.ensures _ packed.first;
       second = c.of-2.ensures _ packed.second;

@@ -1,4 +1,4 @@
-use Rattle.std.proofs.Common.{rules, List, ◌≡◌, ◌∙◌, ap, sym, subst, ◌+◌, ◌*◌, ◌/◌, ◌%◌, ℕ, ◌<◌, slice_index}
+use Rattle.std.proofs.Common.{◌≡◌, ◌∙◌, ap, sym, ◌+◌, ◌*◌, ◌/◌, ◌%◌}
 use Rattle.std.specs.Int.{w32, to_le_bytes}
 use Rattle.tileblock.specs.Block.{Block, value_at, span_of}
 use Rattle.tileblock.specs.QuadStored.{quad_pixel}

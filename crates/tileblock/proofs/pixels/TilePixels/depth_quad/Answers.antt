@@ -1,4 +1,4 @@
-use Rattle.std.proofs.Common.{rules, List, ◌≡◌, ◌∙◌, ap, sym, subst, ◌+◌, ◌*◌, ◌/◌, ◌%◌, ℕ, ◌<◌, slice_index}
+use Rattle.std.proofs.Common.{◌≡◌, ◌∙◌, ap, sym, ◌+◌, ◌*◌, ◌/◌, ◌%◌}
 use Rattle.tileblock.specs.Block.{Block, value_at, span_of}
 use Rattle.tileblock.specs.QuadStored.{quad_pixel}
 use Rattle.tileblock.proofs.Halves.{place_is, lane_is}
