@@ -15,8 +15,8 @@ the gate printed. With --checked the crates are compiled with checks and without
 the clone has: for trying the files themselves, and PROOF.txt says so.
 
 --check builds the commit twice, in clones in different folders, with other users' names, time zones and permissions,
-and tells which files differ. What is wanted: musl-gcc, dpkg-deb, setuptools, shtab and argparse-manpage (Debian:
-musl-tools dpkg python3-setuptools python3-wheel python3-shtab python3-argparse-manpage).
+and tells which files differ. What is wanted: musl-gcc, jemalloc, dpkg-deb, setuptools, shtab and argparse-manpage
+(Debian: musl-tools libjemalloc-dev dpkg python3-setuptools python3-wheel python3-shtab python3-argparse-manpage).
 """
 
 from __future__ import annotations

@@ -87,9 +87,10 @@ build_library() {
 # the files of a release, of a build with checks that says it isn't proved
 release() {
     command -v qemu-x86_64 >/dev/null || get_for_release qemu-user || true
-    for tool in musl-gcc shtab argparse-manpage dpkg-deb; do
-        command -v "$tool" >/dev/null ||
-            get_for_release musl-tools python3-shtab python3-argparse-manpage python3-setuptools python3-wheel || true
+    # (jeprof comes with the memory that is linked in)
+    for tool in musl-gcc jeprof shtab argparse-manpage dpkg-deb; do
+        command -v "$tool" >/dev/null || get_for_release musl-tools libjemalloc-dev python3-shtab \
+            python3-argparse-manpage python3-setuptools python3-wheel || true
         command -v "$tool" >/dev/null || { echo "skipped release: the command $tool is missing" && return; }
     done
     git clone --quiet . "$room/clone" && cd "$room/clone" || return

@@ -208,7 +208,7 @@ class ReleaseTests:
         linked = {it["relatedSpdxElement"] for it in told["relationships"]}
         check(linked == set(ids), "a part isn't related to the package")
         names = {it["name"] for it in told["packages"]}
-        check({"core", "std", "clap", "rayon", "musl", "libgcc"} <= names, f"parts are missing: {sorted(names)}")
+        check({"core", "std", "clap", "rayon", "musl", "jemalloc", "libgcc"} <= names, f"parts are missing: {sorted(names)}")
         without = [it["name"] for it in told["packages"] if it["licenseDeclared"] == "NOASSERTION"]
         return f"{len(ids)} parts; without a licence of their own: {', '.join(without)}"
 

@@ -2,6 +2,7 @@
 
 from __future__ import annotations
 
+import os
 import re
 import stat
 from functools import partial
@@ -18,7 +19,7 @@ from yuzuratchet import read_script, run, run_many
 from yuzuratchet.backends import draw
 from yuzuratchet.errors import ArgumentError, ImageError, ProgramFailed, ProgramMissing
 from yuzuratchet.planes import planes_behind
-from yuzuratchet.program import VARIABLE, find_program, run_program
+from yuzuratchet.program import HUGE_PAGES, TUNABLES, VARIABLE, find_program, run_program
 from yuzuratchet.results import parse_answer
 from yuzuratchet.shapes import draw_triangles, rectangle
 
@@ -55,6 +56,20 @@ def test_the_worked_triangles(program: Path) -> None:
 def test_workers_change_nothing(program: Path) -> None:
     alone, together = (run(TWO_TRIANGLES, program=program, workers=workers) for workers in (0, 3))
     assert (alone.text, alone.tga) == (together.text, together.tga)
+
+
+@pytest.mark.parametrize("tuned", (None, "glibc.malloc.check=0"))
+def test_huge_pages_unless_somebody_tunes(
+    tuned: str | None, tmp_path: Path, monkeypatch: pytest.MonkeyPatch
+) -> None:
+    if tuned is None:
+        monkeypatch.delenv(TUNABLES, raising=False)
+    else:
+        monkeypatch.setenv(TUNABLES, tuned)
+    says = shell_script(tmp_path / "says", f'echo "${TUNABLES} $PATH" >&2; exit 7')
+    with pytest.raises(ProgramFailed) as failure:
+        run("target 1 1\n", program=says)
+    assert f"{tuned or HUGE_PAGES} {os.environ['PATH']}" in str(failure.value)
 
 
 def test_a_scene_in_bytes(program: Path) -> None:

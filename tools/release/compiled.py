@@ -21,11 +21,14 @@ from toolchain import NotBuilt, run
 SCRIPT = package_path.TOP / "crates" / "gallery" / "data" / "fan.txt"
 PROGRAM = package_path.TOP / "library" / "program"
 # what is compiled for the program beside the proved object, whose `main` has another name
-PROGRAM_C = ("program/start.c", "program/of_glibc.c", "processor.c")
+PROGRAM_C = ("program/start.c", "program/memory.c", "program/of_glibc.c", "processor.c")
 MUSL = pathlib.Path("/usr/lib/x86_64-linux-musl")
 # musl-gcc links no program that is static and can lie at any address: so the parts are named here
 STARTS, ENDS = ("rcrt1.o", "crti.o"), ("crtn.o",)
-FLAGS = ("-std=c11", "-O2", "-fPIE", "-Wall", "-Wextra", "-Werror", "-ffile-prefix-map={top}=.")
+# where the program's memory comes from (program/memory.c), and its header, behind musl's
+JEMALLOC = pathlib.Path("/usr/lib/x86_64-linux-gnu/libjemalloc_pic.a")
+HEADERS = ("-idirafter", "/usr/include")
+FLAGS = ("-std=c11", "-O2", "-fPIE", "-Wall", "-Wextra", "-Werror", "-ffile-prefix-map={top}=.", *HEADERS)
 LINKING = (
     "-static",
     "-nostartfiles",
@@ -127,6 +130,8 @@ def link_program(compiled: Compiled, folder: pathlib.Path) -> pathlib.Path:
     """Links the objects of all processors into one program, which needs no library where it runs."""
     if not (MUSL / "rcrt1.o").is_file():
         raise NotBuilt("the program is linked with musl, which is missing (Debian: musl-tools)")
+    if not JEMALLOC.is_file():
+        raise NotBuilt("the program is linked with jemalloc, which is missing (Debian: libjemalloc-dev)")
     objects = []
     for name, path in compiled.programs.items():
         own, renamed = folder / f"main-{name}.o", folder / f"tiledraw-{name}.o"
@@ -138,6 +143,6 @@ def link_program(compiled: Compiled, folder: pathlib.Path) -> pathlib.Path:
         flags = [it.format(top=package_path.TOP) for it in FLAGS]
         run(["musl-gcc", *flags, "-c", source, "-o", objects[-1]])
     of_kit = [toolchain.kit() / "c" / it for it in ("libos_c.a", "liblibc_c.a")]
-    parts = [*(MUSL / it for it in STARTS), *objects, *of_kit, *(MUSL / it for it in ENDS)]
+    parts = [*(MUSL / it for it in STARTS), *objects, *of_kit, JEMALLOC, *(MUSL / it for it in ENDS)]
     run(["gcc", "-specs", MUSL / "musl-gcc.specs", *LINKING, "-o", folder / "tiledraw", *parts])
     return folder / "tiledraw"

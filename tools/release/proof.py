@@ -126,7 +126,8 @@ def text(version: str, state: State, gate: Gate | None, binaries: Mapping[str, B
     lines += [statement, f"\n  {clause}\n\n"]
     lines.append("  (`session` in crates/sessions/src/bytes.rt; premises and limits: README.md, docs/TRUSTED.md)\n")
     lines.append(
-        "\nTrusted, and not proved: the toolchain, the C compiler, musl or the C library, and the C in library/.\n"
+        "\nTrusted, and not proved: the toolchain, the C compiler, musl and jemalloc or the C library, and the C in"
+        " library/.\n"
     )
     lines.append("\nBinaries, by their SHA-256, and what makes them:\n")
     for it in binaries.values():

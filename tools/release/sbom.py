@@ -75,9 +75,11 @@ def parts() -> list[Part]:
     of_kit = [Part(it, version, licence_of_library(kit / "rattle" / it), OF_KIT) for it in libraries()]
     c_parts = [Part(it, version, NOWHERE, "C of the toolchain") for it in ("libos_c", "liblibc_c")]
     musl = Part("musl", version_of("musl-dev"), "MIT", "the C library in the program, from Debian's package musl-dev")
+    of_memory = "the memory of the program, from Debian's package libjemalloc-dev"
+    jemalloc = Part("jemalloc", version_of("libjemalloc-dev"), "BSD-2-Clause", of_memory)
     gcc = "GPL-3.0-or-later WITH GCC-exception-3.1"
     libgcc = Part("libgcc", version_of("libgcc-12-dev"), gcc, "the C compiler's own functions")
-    return [*of_kit, *c_parts, musl, libgcc]
+    return [*of_kit, *c_parts, musl, jemalloc, libgcc]
 
 
 def notices() -> str:
@@ -86,9 +88,10 @@ def notices() -> str:
     for name in libraries():
         for path in sorted((toolchain.kit() / "rattle" / name).glob("LICENSE*")):
             found.setdefault(path.read_text(encoding="utf-8", errors="replace").strip(), []).append(name)
-    musl = pathlib.Path("/usr/share/doc/musl-dev/copyright")
-    if musl.is_file():
-        found.setdefault(musl.read_text(encoding="utf-8").strip(), []).append("musl")
+    for name, package in (("musl", "musl-dev"), ("jemalloc", "libjemalloc-dev")):
+        path = pathlib.Path("/usr/share/doc", package, "copyright")
+        if path.is_file():
+            found.setdefault(path.read_text(encoding="utf-8").strip(), []).append(name)
     rule = "=" * 78
     return "\n".join(f"{rule}\n{', '.join(names)}\n{rule}\n\n{text}\n" for text, names in found.items())
 

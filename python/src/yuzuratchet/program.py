@@ -21,6 +21,10 @@ from .targa import misfit, target_sides
 
 NAME: Final = "tiledraw"
 VARIABLE: Final = "YUZURATCHET_PROGRAM"
+TUNABLES: Final = "GLIBC_TUNABLES"
+HUGE_PAGES: Final = "glibc.malloc.hugetlb=1"
+"""What asks glibc, from 2.35 on, for memory in pages of 2 MB. Targets and lists are large, so that waiting for pages of
+4 KB is a fifth of a drawing's time."""
 BUILT: Final = Path("crates", NAME, "out", NAME)
 CHECKED: Final = BUILT.with_name(f"{NAME}-checked")
 """The program as tools/first_picture.py builds it in a minute: checked, not proved, and slow."""
@@ -216,6 +220,11 @@ def _kill(process: subprocess.Popen[str]) -> None:
             os.killpg(process.pid, signal.SIGKILL)
 
 
+def _environment() -> dict[str, str]:
+    """The environment that the program runs in: this process's, and huge pages where nobody tunes glibc."""
+    return {TUNABLES: HUGE_PAGES, **os.environ}
+
+
 def _communicated(
     words: list[str], seconds: float | None, running: Running
 ) -> subprocess.CompletedProcess[str]:
@@ -229,6 +238,7 @@ def _communicated(
         stdin=subprocess.DEVNULL,
         stdout=pipe,
         stderr=pipe,
+        env=_environment(),
         encoding="utf-8",
         errors="replace",
         start_new_session=True,
