@@ -23,6 +23,7 @@ import argparse
 import functools
 import hashlib
 import http.server
+import itertools
 import json
 import os
 import re
@@ -32,6 +33,7 @@ import sys
 import tempfile
 import threading
 import time
+from collections import Counter
 from collections.abc import Iterable, Iterator, Mapping, Sequence
 from contextlib import contextmanager
 from pathlib import Path
@@ -54,6 +56,8 @@ NAME = f"yuzuratchet-{__version__}"
 FEW = ("fan.txt", "lists.txt", "shadow-volumes.txt", "faces.txt", "rows/counted-triangles.txt")
 PROCESSOR = "YUZURATCHET_PROCESSOR"
 OLDER = {PROCESSOR: "x86-64-v2"}
+# of an image's file, what stands before its sides, and behind them
+TGA_HEAD, TGA_DEPTH = bytes.fromhex("000002000000000000000000"), bytes.fromhex("2028")
 # a processor without AVX2, and one without SSE4.2
 WITHOUT_AVX2, WITHOUT_V2 = "Nehalem", "core2duo"
 PYTHONS = (sys.executable, "/usr/bin/python3")
@@ -207,8 +211,9 @@ class ReleaseTests:
         check(len(ids) == len(set(ids)), "two parts have one name")
         linked = {it["relatedSpdxElement"] for it in told["relationships"]}
         check(linked == set(ids), "a part isn't related to the package")
-        names = {it["name"] for it in told["packages"]}
-        check({"core", "std", "clap", "rayon", "musl", "jemalloc", "libgcc"} <= names, f"parts are missing: {sorted(names)}")
+        wanted = {"core", "std", "clap", "rayon", "musl", "jemalloc", "libgcc"}
+        missing = wanted - {it["name"] for it in told["packages"]}
+        check(not missing, f"parts are missing: {sorted(missing)}")
         without = [it["name"] for it in told["packages"] if it["licenseDeclared"] == "NOASSERTION"]
         return f"{len(ids)} parts; without a licence of their own: {', '.join(without)}"
 
@@ -296,6 +301,28 @@ class ReleaseTests:
         self.of_tarball.draw([self.tarball_folder / "bin" / "tiledraw"], FEW)
         linked = run(["readelf", "-d", self.tarball_folder / "bin" / "tiledraw"])
         check("NEEDED" not in linked, "the program wants a library")
+
+    def memory(self) -> str:
+        """In whatever memory it may have, the program draws a large target, refuses it, or says that it has none."""
+        side, place = 2048, self.of_tarball
+        script, image = place.folder / "large.txt", place.folder / "large.tga"
+        script.write_text(f"target {side} {side}\ni clearc 1 2 3 4\n", encoding="ascii")
+        drawn = TGA_HEAD + side.to_bytes(2, "little") * 2 + TGA_DEPTH + bytes((3, 2, 1, 4)) * (side * side)
+        program, ends = self.tarball_folder / "bin" / "tiledraw", Counter[int]()
+        for kilobytes, workers in itertools.product((*range(8_000, 64_000, 4_000), 200_000), (0, 3)):
+            limited = ["sh", "-c", f'ulimit -v {kilobytes} && exec "$@"', "sh"]
+            words = [*limited, *map(str, (program, script, image)), "--workers", str(workers)]
+            ran = subprocess.run(words, cwd=place.folder, capture_output=True, check=False)
+            is_so = {
+                0: image.is_file() and image.read_bytes() == drawn,
+                1: re.fullmatch(rb"refused [123] 1\n", ran.stdout),
+                2: b"out of memory" in ran.stderr,
+            }
+            told = f"in {kilobytes} KB, status {ran.returncode}: {ran.stdout!r} {ran.stderr!r}"
+            check(is_so.get(ran.returncode, False), told)
+            ends[ran.returncode] += 1
+        check(ends[0] and ends[1], f"statuses {dict(ends)}")
+        return f"{ends[0]} runs drew, {ends[1]} were refused, {ends[2]} did not begin"
 
     def pkg_config(self) -> None:
         """A program in C, by pkg-config."""
@@ -415,6 +442,7 @@ def test_all(results: Results, tests: ReleaseTests, browser: str | None, node: s
         for name in ("suite", "by_library"):
             results.test(f"wheel without AVX2: {name.replace('_', ' ')}", getattr(tests, name), OLDER)
     if is_unpacked:
+        results.test("memory", tests.memory)
         with_tool(results, "qemu-x86_64", "other processors", tests.older_processor)
         with_tool(results, "pkg-config", "pkg-config", tests.pkg_config)
         with_tool(results, "cmake", "CMake", tests.cmake)
