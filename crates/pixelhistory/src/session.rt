@@ -162,7 +162,7 @@ pub fn trace_list<A: Allocator + Copy>(
         let origin = origin_of(trace.step, steps, number);
         add_origins(trace, from, first, origin)?;
         number += 1;
-        state.change(command);
+        state.go_past(command);
     }
     Ok(())
 }
