@@ -6,56 +6,33 @@ use Rattle.gfxspec.specs.Items.{Item}
 use Rattle.gfxspec.specs.Commands.{Command, ClearColor, ClearDepthStencil}
 use Rattle.gfxspec.specs.Recorded.{drawn_items, items_at}
 use Rattle.gfxspec.specs.Predication.{withholds}
-use Rattle.meaning.specs.OneMore.{settings_with, performed_items}
-use Rattle.command.specs.declared.command.Setting.{Setting}
-use Rattle.command.specs.declared.command.Setting.TheVariants as sets
-use Rattle.command.specs.declared.command.DrawCall.{DrawCall}
-use Rattle.command.specs.declared.command.DrawCall.TheVariants as draws
-use Rattle.command.specs.declared.command.ClearCall.{ClearCall}
-use Rattle.command.specs.declared.command.ClearCall.TheVariants as clears
-use Rattle.command.specs.declared.command.QueryCall.{QueryCall}
-use Rattle.command.specs.declared.command.QueryCall.TheVariants as queries
-use Rattle.command.specs.Seen.{setting_value, draw_value, clear_value, query_value}
+use Rattle.meaning.specs.OneMore.{performed_items}
+use Rattle.command.specs.declared.command.Command.{Command as Code}
+use Rattle.command.specs.declared.command.Command.TheVariants as code
+use Rattle.command.specs.Seen.{command_value}
 use Rattle.cmdlist.specs.Drawable.{drawn_by}
 use Rattle.binner.specs.declared.compiling.Compiling.{Compiling}
 use Rattle.binner.specs.Meaning.{entry_of}
 use Rattle.binner.specs.Compiling.{HasCompiled, IsEntry, IsCurrent, CanTake, AddsColor, AddsDepth, Adds}
 use Rattle.binner.proofs.Growing.{color_means, color_sound, depth_means, depth_sound}
 
--- a draw adds the triangles that it draws, and sets nothing
-pub drawn_at : (k : DrawCall) (s : Settings) (opened : List ℕ) → items_at s opened (draw_value k) ≡ drawn_items s opened (drawn_by s (draw_value k))
-drawn_at (draws.Plain v w) s opened = refl
-drawn_at (draws.Indexed v w z) s opened = refl
-
-pub unset_by_draw : (k : DrawCall) (s : Settings) → s ≡ settings_with (draw_value k) s
-unset_by_draw (draws.Plain v w) s = refl
-unset_by_draw (draws.Indexed v w z) s = refl
-
--- nor does a clear
-pub unset_by_clear : (k : ClearCall) (s : Settings) → s ≡ settings_with (clear_value k) s
-unset_by_clear (clears.Color v) s = refl
-unset_by_clear (clears.DepthStencil v w) s = refl
-
--- a call on a query sets and adds nothing
-pub unset_by_query : (k : QueryCall) (s : Settings) → s ≡ settings_with (query_value k) s
-unset_by_query (queries.Begin q) s = refl
-unset_by_query (queries.End q) s = refl
-
-pub none_by_query : (k : QueryCall) (s : Settings) (opened : List ℕ) → items_at s opened (query_value k) ≡ []
-none_by_query (queries.Begin q) s opened = refl
-none_by_query (queries.End q) s opened = refl
-
--- a setting adds nothing
-pub none_by_setting : {A : Type 0} (k : Setting A) (s : Settings) (opened : List ℕ) → items_at s opened (setting_value k) ≡ []
-none_by_setting (sets.Vertices v) s opened = refl
-none_by_setting (sets.Indices v) s opened = refl
-none_by_setting (sets.Topology v) s opened = refl
-none_by_setting (sets.Raster v) s opened = refl
-none_by_setting (sets.Scissor v) s opened = refl
-none_by_setting (sets.DepthStencil v w) s opened = refl
-none_by_setting (sets.Blend v) s opened = refl
-none_by_setting (sets.Predication v) s opened = refl
-none_by_setting (sets.Kept v) s opened = refl
+-- a command that doesn't clear adds the triangles that it draws
+pub drawn_at : {A : Type 0} (k : Code A) (s : Settings) (opened : List ℕ) → ((x : List ℕ) → k ≡ code.ClearColor x → ⊥) → ((x y : ℕ) → k ≡ code.ClearDepthStencil x y → ⊥) → items_at s opened (command_value k) ≡ drawn_items s opened (drawn_by s (command_value k))
+drawn_at (code.ClearColor x) s opened a b = absurd (a x refl)
+drawn_at (code.ClearDepthStencil x y) s opened a b = absurd (b x y refl)
+drawn_at (code.Draw x y) s opened a b = refl
+drawn_at (code.DrawIndexed x y z) s opened a b = refl
+drawn_at (code.SetVertices v) s opened a b = refl
+drawn_at (code.SetIndices v) s opened a b = refl
+drawn_at (code.SetTopology v) s opened a b = refl
+drawn_at (code.SetRaster v) s opened a b = refl
+drawn_at (code.SetScissor v) s opened a b = refl
+drawn_at (code.SetDepthStencil v w) s opened a b = refl
+drawn_at (code.SetBlend v) s opened a b = refl
+drawn_at (code.SetPredication v) s opened a b = refl
+drawn_at (code.Begin v) s opened a b = refl
+drawn_at (code.End v) s opened a b = refl
+drawn_at (code.Kept v) s opened a b = refl
 
 -- nothing is added
 pub adds_nothing : {A : Type 0} (s : Settings) (bits : ℕ) (more : List ℕ → List Item) (k : Compiling A) → ((opened : List ℕ) → more opened ≡ []) → CanTake s bits k → Adds s bits more k k

@@ -13,7 +13,6 @@ pub mod Steps
 pub mod Growing
 pub mod Drawing
 pub mod Commands
-pub mod Passing
 pub mod Opening
 pub mod Accepted
 pub mod Slices

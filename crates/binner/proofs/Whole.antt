@@ -13,23 +13,42 @@ use Rattle.command.specs.declared.command.Command.{Command as Code}
 use Rattle.command.specs.Seen.{command_value}
 use Rattle.cmdlist.specs.Drawable.{IsDrawable}
 use Rattle.gfxspec.specs.Items.{Item}
+use Rattle.gfxspec.specs.Tiles.{tile_count, tile_rect}
 use Rattle.binner.specs.declared.entry.Current.{Current}
 use Rattle.binner.specs.declared.compiling.Compiling.{Compiling}
-use Rattle.binner.specs.declared.opened.OpenIssues.{OpenIssues}
+use Rattle.binner.specs.Meaning.{entry_of}
+use Rattle.binner.specs.Lists.{at, IsLists}
 use Rattle.binner.specs.Opened.{IsOpened, CanNote}
-use Rattle.binner.specs.Compiling.{HasCompiled, IsSound, CanTake, AddsList, SameTables, TakesCommand, CanCompile}
-use Rattle.binner.proofs.Passing.{kept_sound, kept_means}
+use Rattle.binner.specs.Compiling.{tables, ListMeans, HasCompiled, IsSound, IsEntry, CanTake, Adds, AddsList, SameTables, CanCompile}
+use Rattle.binner.proofs.Steps.{list_entered}
 use Rattle.binner.proofs.Accepted.{done, done_more, stands_at}
 
 -- of the first i commands those that are performed are compiled behind what was there, and this is the state behind them
-pub record SoFar {A : Type 0} (results : ℕ → Bool) (cs : List (Code A)) (i : ℕ) (s : Settings) (o : OpenIssues) (start now : Compiling A) : Type 0 where
+pub record SoFar {A : Type 0} (results : ℕ → Bool) (cs : List (Code A)) (i : ℕ) (s : Settings) (bits begun : ℕ) (of_query : List ℕ) (start now : Compiling A) : Type 0 where
   pub state : s ≡ settings_after (done cs i)
-  pub opened : IsOpened o (done cs i)
-  pub few : o.begun ≤ 64
+  pub opened : IsOpened bits begun of_query (done cs i)
+  pub few : begun ≤ 64
   pub size : now.lists.size ≡ start.lists.size
   pub bins : length now.lists.bins ≡ length start.lists.bins
-  pub can : CanTake s o.bits now
+  pub can : CanTake s bits now
   pub means : (is : List Item) → HasCompiled start is → HasCompiled now (is ++ items (performed results (done cs i)))
+
+kept_sound : {A : Type 0} (old new : Compiling A) → SameTables old new → IsSound old → IsSound new
+kept_sound old new h k = record {
+  lists = subst IsLists (sym h.lists) k.lists;
+  short = rw (h.lists, h.triangles, h.colors, h.depths) k.short;
+  triangles = rw h.triangles k.triangles;
+  clears = rw (h.colors, h.depths) k.clears;
+}
+
+kept_means : {A : Type 0} (old new : Compiling A) → SameTables old new → ((n : Current) → new.current ≡ Some n → old.current ≡ Some n) → (is : List Item) → HasCompiled old is → HasCompiled new is
+kept_means old new h cur is m =
+    subst (λ l. (k : ℕ) → k < tile_count l.size → ListMeans (tables new) (tile_rect l.size k) is new.current (at l k)) (sym h.lists)
+    (λ k b. subst (λ t. ListMeans t (tile_rect old.lists.size k) is new.current (at old.lists k)) same
+    (list_entered (tables old) (tile_rect old.lists.size k) is old.current new.current (at old.lists k) (λ z n c q le. cur z c) (m k b)))
+  where
+    same : tables old ≡ tables new
+    same = rw (h.states, h.triangles, h.colors, h.depths) refl
 
 issues_few : (is : List ℕ) (c : Command) → CanNote (length is) c → length is ≤ 64 → length (is ++ issues (c ∷ [])) ≤ 64
 issues_few is c can h = let e = length-append is (issues (c ∷ [])) in let k = one c can h in omega (arith, e, k)
@@ -39,46 +58,53 @@ issues_few is c can h = let e = length-append is (issues (c ∷ [])) in let k = 
     one c can h = omega (arith, h)
 
 module _ {A : Type 0} (results : ℕ → Bool) (cs : List (Code A)) where
-  pub so_far : (s : Settings) (o : OpenIssues) (start now : Compiling A) → s ≡ settings_after [] → IsOpened o [] → IsSound start → SameTables start now → ((n : Current) → now.current ≡ Some n → IsTrue false) → SoFar results cs 0 s o start now
-  so_far s o start now e opened sound same none = record {
+  pub so_far : (s : Settings) (of_query : List ℕ) (start now : Compiling A) → s ≡ settings_after [] → IsOpened 0 0 of_query [] → IsSound start → SameTables start now → ((n : Current) → now.current ≡ Some n → IsTrue false) → SoFar results cs 0 s 0 0 of_query start now
+  so_far s of_query start now e o sound same none = record {
     state = e;
-    opened = opened;
-    few = let n = opened.count in omega (arith, n);
+    opened = o;
+    few = omega arith;
     size = ap (λ l. l.size) same.lists;
     bins = ap (λ l. length l.bins) same.lists;
     can = record { sound = kept_sound start now same sound; current = λ n h. absurd (true≢false (sym (none n h))) };
     means = λ is m. subst (HasCompiled now) (sym (append-nil is)) (kept_means start now same (λ n h. absurd (true≢false (sym (none n h)))) is m);
   }
 
-  module _ {i : ℕ} {s : Settings} {o : OpenIssues} {start now : Compiling A} (h : SoFar results cs i s o start now) where
-    pub stands : (d : Code A) → CanCompile [] (map command_value cs) → i < length cs → IsDrawable s (command_value (get_or cs i d)) × CanNote o.begun (command_value (get_or cs i d))
+  module _ {i : ℕ} {s : Settings} {bits begun : ℕ} {of_query : List ℕ} {start now : Compiling A} (h : SoFar results cs i s bits begun of_query start now) where
+    pub stands : (d : Code A) → CanCompile [] (map command_value cs) → i < length cs → IsDrawable s (command_value (get_or cs i d)) × CanNote begun (command_value (get_or cs i d))
     stands d can l =
         let c = command_value (get_or cs i d) in
         let k = stands_at cs i d can l in
         (subst (λ t. IsDrawable t c) (sym h.state) k.drawable, subst (λ n. CanNote n c) (sym h.opened.count) k.note)
 
-    pub one_more : (d : Code A) (t : Settings) (next : OpenIssues) (new : Compiling A) → CanCompile [] (map command_value cs) → i < length cs → length new.lists.bins ≡ length now.lists.bins → TakesCommand results (command_value (get_or cs i d)) s t o.bits next.bits now new → IsOpened next (done cs i ++ command_value (get_or cs i d) ∷ []) → SoFar results cs (i + 1) t next start new
-    one_more d t next new can l b m opened =
+    pub one_more : (d : Code A) (t : Settings) (bits' begun' : ℕ) (of_query' : List ℕ) (kept : Bool) (mid new : Compiling A) → CanCompile [] (map command_value cs) → i < length cs → length mid.lists.bins ≡ length now.lists.bins → Adds s bits (λ opened. performed_items results s opened (command_value (get_or cs i d))) now mid → SameTables mid new → ((n : Current) → new.current ≡ Some n → IsTrue kept × (bits ≡ bits') × (mid.current ≡ Some n)) → (IsTrue kept → (s : Settings) (b : ℕ) → entry_of (settings_with (command_value (get_or cs i d)) s) b ≡ entry_of s b) → IsOpened bits' begun' of_query' (done cs i ++ command_value (get_or cs i d) ∷ []) → t ≡ settings_with (command_value (get_or cs i d)) s → SoFar results cs (i + 1) t bits' begun' of_query' start new
+    one_more d t bits' begun' of_query' kept mid new can l b m same cur keeps o e =
         let c = command_value (get_or cs i d) in
         let xs = done cs i in
         let more = done_more cs i d l in
         record {
-          state = m.state ∙ ap (settings_with c) h.state ∙ sym (settings_after-push xs c) ∙ ap settings_after (sym more);
-          opened = subst (IsOpened next) (sym more) opened;
-          few = subst (λ n. n ≤ 64) (sym (opened.count ∙ ap length (issues-push xs c))) (issues_few (issues xs) c (stands_at cs i d can l).note (subst (λ n. n ≤ 64) h.opened.count h.few));
-          size = m.size ∙ h.size;
-          bins = b ∙ h.bins;
-          can = m.can;
+          state = e ∙ ap (settings_with c) h.state ∙ sym (settings_after-push xs c) ∙ ap settings_after (sym more);
+          opened = subst (IsOpened bits' begun' of_query') (sym more) o;
+          few = subst (λ n. n ≤ 64) (sym (o.count ∙ ap length (issues-push xs c))) (issues_few (issues xs) c (stands_at cs i d can l).note (subst (λ n. n ≤ 64) h.opened.count h.few));
+          size = ap (λ k. k.size) same.lists ∙ m.size ∙ h.size;
+          bins = ap (λ k. length k.bins) same.lists ∙ b ∙ h.bins;
+          can = record {
+            sound = kept_sound mid new same m.can.sound;
+            current = λ n q.
+                let k = cur n q in
+                let is = ap (entry_of s) k.1 ∙ sym (keeps k.0 s bits') ∙ ap (λ u. entry_of u bits') (sym e) in
+                subst (λ v. IsEntry v.items (entry_of t bits') n) (sym same.states) (subst (λ x. IsEntry mid.states.items x n) is (m.can.current n k.2));
+          };
           means = λ is k.
-              subst (HasCompiled new)
+              kept_means mid new same (λ n q. (cur n q).2) (is ++ items (performed results (done cs (i + 1))))
+              (subst (HasCompiled mid)
               (append_assoc is (items (performed results xs)) (performed_items results s (open_after xs) c)
               ∙ ap (λ js. is ++ js)
               (ap (λ u. items (performed results xs) ++ performed_items results u (open_after xs) c) h.state
               ∙ sym (items_performed-push results xs c) ∙ ap (λ ys. items (performed results ys)) (sym more)))
-              (m.means (is ++ items (performed results xs)) (open_after xs) h.opened.open_bits (h.means is k));
+              (m.means (is ++ items (performed results xs)) (open_after xs) h.opened.open_bits (h.means is k)));
         }
 
-    pub all_added : length cs ≡ i → AddsList results (map command_value cs) o.begun start now
+    pub all_added : length cs ≡ i → AddsList results (map command_value cs) begun start now
     all_added all =
         let whole = take_all i cs (omega (arith, all)) in
         record {

@@ -8,7 +8,6 @@ use Rattle.gfxspec.specs.Items.{Item}
 use Rattle.gfxspec.specs.Commands.{Command}
 use Rattle.gfxspec.specs.Recorded.{items, issues, settings_after}
 use Rattle.gfxspec.specs.Predication.{performed}
-use Rattle.meaning.specs.OneMore.{settings_with, performed_items}
 use Rattle.cmdlist.specs.Drawable.{IsDrawable}
 use Rattle.tileword.specs.declared.word.Word.TheVariants.{ClearC, ClearDs}
 use Rattle.binner.specs.declared.entry.StateEntry.{StateEntry}
@@ -113,13 +112,6 @@ pub record SameTables {A : Type 0} (old new : Compiling A) : Type 0 where
   pub triangles : new.triangles ≡ old.triangles
   pub colors : new.colors ≡ old.colors
   pub depths : new.depths ≡ old.depths
-
--- behind one more command these are the settings and the open issues, and what it draws and clears is added
-pub record TakesCommand {A : Type 0} (results : ℕ → Bool) (c : Command) (s t : Settings) (bits next : ℕ) (old new : Compiling A) : Type 0 where
-  pub state : t ≡ settings_with c s
-  pub can : CanTake t next new
-  pub size : new.lists.size ≡ old.lists.size
-  pub means : (items : List Item) (opened : List ℕ) → AreBits bits opened → HasCompiled old items → HasCompiled new (items ++ performed_items results s opened c)
 
 -- ---- lists
 

@@ -115,13 +115,10 @@ fn parts_of_command<A: Allocator + Copy + Send + Sync, R: Threads + Sync>(
     requires { IsDrawable (state_value state.now) (command_value command.now) }
     ensures { IfOk result (λ parts. IfSome parts (λ p. AreSetups (state_value state.now) size (drawn_by (state_value state.now) (command_value command.now)) (all_setups p.items))) }
 {
-    let Command::Draw(call) = command else {
-        return Ok(None);
-    };
     if is_withheld(results, state.predicate) {
         return Ok(None);
     }
-    let Some(draw) = draw_of(*call, state) else {
+    let Some(draw) = draw_of(command, state) else {
         return Ok(None);
     };
     if triangle_count(&draw) < LEAST_AHEAD {
@@ -162,7 +159,7 @@ pub(crate) fn set_up_ahead<A: Allocator + Copy + Send + Sync, R: Threads + Sync>
     for (place, command) in commands.iter().enumerate() {
         let parts = parts_of_command(rt, alloc, command, &state, size, results)?;
         note(&mut ahead, place, parts)?;
-        state.go_past(command);
+        state.change(command);
     }
     Ok(ahead)
 }

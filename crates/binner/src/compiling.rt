@@ -1,29 +1,27 @@
 //! A list that is being compiled: each command adds to the words of the tiles.
 
-ghost use Rattle.std.specs.Prelude.{◌≡◌, ◌<◌, ◌+◌, ◌++◌, ◌∷◌, [], ℕ, List, map, length, IsTrue, IfOk, IfSome, OnOk, Some, All};
+ghost use Rattle.std.specs.Prelude.{◌≡◌, ◌<◌, ◌+◌, [], ℕ, List, map, length, IsTrue, IfOk, IfSome, OnOk, Some, All};
 ghost use Rattle.std.specs.List.{list_all};
 ghost use Rattle.gfxspec.specs.State.{Settings};
 ghost use Rattle.gfxspec.specs.Refusals.{is_in_range};
-ghost use Rattle.gfxspec.specs.Commands.{Command as Call};
-ghost use Rattle.gfxspec.specs.Recorded.{drawn_items, items_at};
-ghost use Rattle.meaning.specs.OneMore.{settings_with};
+ghost use Rattle.gfxspec.specs.Recorded.{drawn_items};
+ghost use Rattle.meaning.specs.OneMore.{settings_with, performed_items};
 ghost use Rattle.assemble.specs.Drawing.{IsInRange, triangles_of};
-ghost use Rattle.command.specs.Seen.{state_value, command_value, setting_value, draw_value, clear_value, query_value};
+ghost use Rattle.command.specs.Seen.{state_value, command_value};
 ghost use Rattle.cmdlist.specs.Drawable.{IsDrawable, drawn_by, told};
 ghost use Rattle.binner.specs.declared.entry.Current.{Current};
 ghost use Rattle.binner.specs.Meaning.{entry_of};
 ghost use Rattle.binner.specs.Setups.{AreSetups, all_setups, MatchesDraw};
-ghost use Rattle.binner.specs.Opened.{CanNote, IsOpened};
-ghost use Rattle.binner.specs.Compiling.{IsSound, CanTake, AddsSetup, AddsColor, AddsDepth, Enters, Adds, AddsList, SameTables, TakesCommand, CanCompile};
+ghost use Rattle.binner.specs.Compiling.{IsSound, CanTake, AddsSetup, AddsColor, AddsDepth, Enters, Adds, AddsList, SameTables, CanCompile};
 
 use crate::ahead::{DrawSetups, Parts, take_ahead};
 use crate::entry::{Current, StateEntry};
 use crate::lists::{Lists, add_to_all, add_to_tiles};
-use crate::opened::OpenIssues;
+use crate::opened::{note, nothing_begun};
 use crate::prepare::prepared;
 use crate::setup::{Prepared, TriSetup};
 use assemble::{Draw, triangles};
-use cmdlist::{ClearCall, Command, DrawCall, QueryCall, Setting, State, draw_of, is_withheld};
+use cmdlist::{Command, State, draw_of, is_withheld};
 use edges::EdgeSet;
 use gfxspec::DepthStencil;
 use std::alloc::{AllocError, Allocator};
@@ -215,114 +213,65 @@ fn add_drawn<A: Allocator + Copy>(
     }
 }
 
-/// Adds the triangles of a draw under a state, with the open issues as bits. They may be set up already, in parts.
-fn add_draw_call<A: Allocator + Copy>(
+/// Adds what a command draws or clears under a state, with the open issues as bits, unless the state's predicate
+/// withholds it. What it draws may be set up already, in parts.
+fn add_performed<A: Allocator + Copy>(
     compiling: &mut Compiling<A>,
-    draw: DrawCall,
+    command: &Command<A>,
     state: &State<'_>,
     issues: u64,
+    results: &[bool; 64],
     parts: Option<Parts<A>>,
 ) -> Result<(), AllocError>
-    requires drawable { IsDrawable (state_value state.now) (draw_value draw) }
+    requires drawable { IsDrawable (state_value state.now) (command_value command.now) }
     requires can { CanTake (state_value state.now) issues compiling.old }
-    requires made { IfSome parts (λ parts. AreSetups (state_value state.now) compiling.old.lists.size (drawn_by (state_value state.now) (draw_value draw)) (all_setups parts.items)) }
+    requires made { IfSome parts (λ parts. AreSetups (state_value state.now) compiling.old.lists.size (drawn_by (state_value state.now) (command_value command.now)) (all_setups parts.items)) }
     ensures bins { length compiling.new.lists.bins ≡ length compiling.old.lists.bins }
-    ensures drawn { OnOk result (Adds (state_value state.now) issues (λ opened. items_at (state_value state.now) opened (draw_value draw)) compiling.old compiling.new) }
+    ensures drawn { OnOk result (Adds (state_value state.now) issues (λ opened. performed_items (told results.now) (state_value state.now) opened (command_value command.now)) compiling.old compiling.new) }
 {
-    match draw_of(draw, state) {
-        Some(draw) => add_drawn(compiling, &draw, state, issues, parts),
-        None => Ok(()),
+    if is_withheld(results, state.predicate) {
+        return Ok(());
     }
-}
-
-/// Clears what a call clears, whatever state is in force.
-fn add_clear_call<A: Allocator + Copy>(
-    compiling: &mut Compiling<A>,
-    clear: ClearCall,
-) -> Result<(), AllocError>
-    requires { IsSound compiling.old }
-    ensures bins { length compiling.new.lists.bins ≡ length compiling.old.lists.bins }
-    ensures cleared { (s : Settings) (issues : ℕ) → CanTake s issues compiling.old → OnOk result (Adds s issues (λ opened. items_at s opened (clear_value clear)) compiling.old compiling.new) }
-{
-    match clear {
-        ClearCall::Color(rgba) => add_color(compiling, rgba),
-        ClearCall::DepthStencil(depth, stencil) => {
-            add_depth(compiling, DepthStencil { depth, stencil })
+    match command {
+        Command::ClearColor(rgba) => add_color(compiling, *rgba),
+        Command::ClearDepthStencil(depth, stencil) => {
+            let value = DepthStencil {
+                depth: *depth,
+                stencil: *stencil,
+            };
+            add_depth(compiling, value)
         }
+        _ => match draw_of(command, state) {
+            Some(draw) => add_drawn(compiling, &draw, state, issues, parts),
+            None => Ok(()),
+        },
     }
 }
 
-/// Whether a setting leaves what entries are made of as it is.
-fn keeps_entry<A: Allocator>(setting: &Setting<A>) -> bool
-    ensures { IsTrue result → (s : Settings) (issues : ℕ) → entry_of (settings_with (setting_value setting.now) s) issues ≡ entry_of s issues }
+/// Whether a command leaves what entries are made of as it is.
+fn keeps_entry<A: Allocator>(command: &Command<A>) -> bool
+    ensures { IsTrue result → (s : Settings) (issues : ℕ) → entry_of (settings_with (command_value command.now) s) issues ≡ entry_of s issues }
 {
-    match setting {
-        Setting::Vertices(_) => true,
-        Setting::Indices(_) => true,
-        Setting::Topology(_) => true,
-        Setting::Predication(_) => true,
+    match command {
+        Command::SetVertices(_) => true,
+        Command::SetIndices(_) => true,
+        Command::SetTopology(_) => true,
+        Command::SetPredication(_) => true,
+        Command::Draw(_, _) => true,
+        Command::DrawIndexed(_, _, _) => true,
+        Command::ClearColor(_) => true,
+        Command::ClearDepthStencil(_, _) => true,
         _ => false,
     }
 }
 
 /// Has no entry for the state that comes next, unless the last one still is its entry.
-fn forget_unless<A: Allocator>(compiling: &mut Compiling<A>, kept: bool)
+fn forget_unless<A: Allocator>(compiling: &mut Compiling<A>, kept: bool, before: u64, after: u64)
     ensures rest { SameTables compiling.old compiling.new }
-    ensures current { (n : Current) → compiling.new.current ≡ Some n → IsTrue kept × (compiling.old.current ≡ Some n) }
+    ensures current { (n : Current) → compiling.new.current ≡ Some n → IsTrue kept × (before ≡ after) × (compiling.old.current ≡ Some n) }
 {
-    if !kept {
+    if !kept || before != after {
         compiling.current = None;
-    }
-}
-
-/// What goes along with a list from command to command.
-#[derive(Drop)]
-struct Along<'a> {
-    state: State<'a>,
-    issues: OpenIssues,
-}
-
-/// Adds one command of a list behind what is compiled, unless the state's predicate withholds what it draws or clears, which
-/// may be set up already, in parts.
-fn add_command<'a, A: Allocator + Copy>(
-    compiling: &mut Compiling<A>,
-    along: &mut Along<'a>,
-    command: &'a Command<A>,
-    results: &[bool; 64],
-    parts: Option<Parts<A>>,
-) -> Result<(), AllocError>
-    requires drawable { IsDrawable (state_value along.old.state) (command_value command.now) }
-    requires note { CanNote along.old.issues.begun (command_value command.now) }
-    requires can { CanTake (state_value along.old.state) along.old.issues.bits compiling.old }
-    requires made { IfSome parts (λ parts. AreSetups (state_value along.old.state) compiling.old.lists.size (drawn_by (state_value along.old.state) (command_value command.now)) (all_setups parts.items)) }
-    ensures bins { length compiling.new.lists.bins ≡ length compiling.old.lists.bins }
-    ensures opened { (cs : List Call) → IsOpened along.old.issues cs → IsOpened along.new.issues (cs ++ command_value command.now ∷ []) }
-    ensures taken { OnOk result (TakesCommand (told results.now) (command_value command.now) (state_value along.old.state) (state_value along.new.state) along.old.issues.bits along.new.issues.bits compiling.old compiling.new) }
-{
-    match command {
-        Command::Set(setting) => {
-            forget_unless(compiling, keeps_entry(setting));
-            along.state.change(setting);
-            Ok(())
-        }
-        Command::Query(call) => {
-            let before = along.issues.bits;
-            along.issues.note(*call);
-            forget_unless(compiling, along.issues.bits == before);
-            Ok(())
-        }
-        Command::Draw(draw) => {
-            if is_withheld(results, along.state.predicate) {
-                return Ok(());
-            }
-            add_draw_call(compiling, *draw, &along.state, along.issues.bits, parts)
-        }
-        Command::Clear(clear) => {
-            if is_withheld(results, along.state.predicate) {
-                return Ok(());
-            }
-            add_clear_call(compiling, *clear)
-        }
     }
 }
 
@@ -342,15 +291,20 @@ pub(crate) fn add_commands<A: Allocator + Copy>(
     ensures added { IfOk result (λ issues. AddsList (told results.now) (map command_value commands.now) issues compiling.old compiling.new) }
 {
     let size = compiling.lists.size;
-    forget_unless(compiling, false);
-    let mut along = Along {
-        state: State::new(),
-        issues: OpenIssues::none(),
-    };
+    forget_unless(compiling, false, 0, 0);
+    let mut state = State::new();
+    let mut bits = 0_u64;
+    let mut begun = 0_u32;
+    let mut of_query = nothing_begun();
     let mut ahead = ahead;
     for (place, command) in commands.iter().enumerate() {
         let parts = take_ahead(&mut ahead, place, commands, size);
-        add_command(compiling, &mut along, command, results, parts)?;
+        add_performed(compiling, command, &state, bits, results, parts)?;
+        let before = bits;
+        note(&mut bits, &mut begun, &mut of_query, command);
+        let kept = keeps_entry(command);
+        forget_unless(compiling, kept, before, bits);
+        state.change(command);
     }
-    Ok(along.issues.begun)
+    Ok(begun)
 }

@@ -4,12 +4,11 @@ ghost use Rattle.std.specs.Prelude.{◌≡◌, ◌++◌, [], ℕ, Bool, map, OnO
 ghost use Rattle.gfxspec.specs.Recorded.{items, issues as issues_of};
 ghost use Rattle.gfxspec.specs.Predication.{performed};
 ghost use Rattle.gfxspec.specs.Accepted.{AreAccepted};
-ghost use Rattle.meaning.specs.OneMore.{settings_with};
-ghost use Rattle.command.specs.Seen.{command_value, settings_value};
+ghost use Rattle.command.specs.Seen.{command_value};
 ghost use Rattle.binner.specs.Segments.{cut_items};
 
 use assemble::uncut_triangles;
-use cmdlist::{Command, DrawCall, Setting, Settings};
+use cmdlist::{Command, Settings};
 use gfxspec::{LIST_LIMIT, Topology};
 use std::alloc::{AllocError, Allocator};
 use std::marker::Model;
@@ -54,37 +53,16 @@ impl<A: Allocator> Model for OpenSegment<A> {
     ghost invariant = { λ s. IsOpenSegment (map command_value s.commands.items) (settings_value s.settings) };
 }
 
-/// No fewer triangles than a draw has under these settings.
-fn most_triangles<A: Allocator>(settings: &Settings<A>, draw: DrawCall) -> u32 {
-    let count = match draw {
-        DrawCall::Plain(count, _) | DrawCall::Indexed(count, _, _) => count,
+/// No fewer triangles than a command draws under these settings.
+fn most_triangles<A: Allocator>(settings: &Settings<A>, command: &Command<A>) -> u32 {
+    let count = match command {
+        Command::Draw(count, _) => *count,
+        Command::DrawIndexed(count, _, _) => *count,
+        _ => 0,
     };
     match settings.topology {
         Some(topology) => uncut_triangles(topology, count),
         None => 0,
-    }
-}
-
-/// No fewer triangles than a command draws under these settings.
-fn most_drawn<A: Allocator>(settings: &Settings<A>, command: &Command<A>) -> u32 {
-    match command {
-        Command::Draw(draw) => most_triangles(settings, *draw),
-        _ => 0,
-    }
-}
-
-/// Changes what a command sets.
-fn go_past<A: Allocator + Copy>(
-    settings: &mut Settings<A>,
-    command: &Command<A>,
-) -> Result<(), AllocError>
-    ensures { OnOk result (settings_value settings.new ≡ settings_with (command_value command.now) (settings_value settings.old)) }
-{
-    match command {
-        Command::Set(setting) => settings.change(setting),
-        Command::Draw(_) => Ok(()),
-        Command::Clear(_) => Ok(()),
-        Command::Query(_) => Ok(()),
     }
 }
 
@@ -105,10 +83,10 @@ impl ListDraw {
     fn command<A: Allocator>(self) -> Command<A>
         ensures { command_value result ≡ draw_of self.base self.count self.start }
     {
-        Command::Draw(match self.base {
-            None => DrawCall::Plain(self.count, self.start),
-            Some(base) => DrawCall::Indexed(self.count, self.start, base),
-        })
+        match self.base {
+            None => Command::Draw(self.count, self.start),
+            Some(base) => Command::DrawIndexed(self.count, self.start, base),
+        }
     }
 }
 
@@ -117,7 +95,7 @@ impl<A: Allocator + Copy> OpenSegment<A> {
     ghost use Rattle.gfxspec.specs.declared.state.Topology.TheVariants.{TriangleList};
     ghost use Rattle.gfxspec.specs.Commands.{Command as Call};
     ghost use Rattle.gfxspec.specs.Recorded.{settings_after};
-    ghost use Rattle.command.specs.Seen.{command_value, draw_value};
+    ghost use Rattle.command.specs.Seen.{command_value};
     ghost use Rattle.binner.specs.Segments.{CanFollow, IsMore, IsSame, draw_of};
 
     /// No command, under the default settings.
@@ -143,8 +121,8 @@ impl<A: Allocator + Copy> OpenSegment<A> {
         } = self;
         let mut commands = commands;
         let mut settings = settings;
-        let drawn = drawn.saturating_add(most_drawn(&settings, &command));
-        go_past(&mut settings, &command)?;
+        let drawn = drawn.saturating_add(most_triangles(&settings, &command));
+        settings.change(&command)?;
         commands.push(command)?;
         Ok(OpenSegment {
             commands,
@@ -162,7 +140,7 @@ impl<A: Allocator + Copy> OpenSegment<A> {
             settings,
             drawn: _,
         } = self;
-        let kept = Command::Set(Setting::Kept(Box::new(alloc, settings.share()?)?));
+        let kept = Command::Kept(Box::new(alloc, settings.share()?)?);
         segments.push(Segment { commands })?;
         let mut commands = Vec::new(alloc);
         commands.push(kept)?;
@@ -173,17 +151,17 @@ impl<A: Allocator + Copy> OpenSegment<A> {
         })
     }
 
-    /// The segment is finished where it has drawn so many triangles and the draw has more.
+    /// The segment is finished where it has drawn so many triangles and the command draws more.
     fn finish_where_full(
         self,
         alloc: A,
-        draw: DrawCall,
+        command: &Command<A>,
         triangles: u32,
         segments: &mut Vec<Segment<A>, A>,
     ) -> Result<Self, AllocError>
         ensures { IfOk result (λ s. IsSame segments.old.items self segments.new.items s) }
     {
-        let more = most_triangles(&self.settings, draw);
+        let more = most_triangles(&self.settings, command);
         if more == 0 || self.drawn < triangles {
             return Ok(self);
         }
@@ -200,16 +178,17 @@ impl<A: Allocator + Copy> OpenSegment<A> {
         Ok(())
     }
 
-    /// A draw, where each three of its vertices are a triangle of their own.
-    fn list_draw(&self, draw: DrawCall) -> Option<ListDraw>
-        ensures { IfSome result (λ d. (draw_value draw ≡ draw_of d.base d.count d.start) × ((settings_after self.now).topology ≡ Some TriangleList)) }
+    /// The draw that a command is, where each three of its vertices are a triangle of their own.
+    fn list_draw(&self, command: &Command<A>) -> Option<ListDraw>
+        ensures { IfSome result (λ d. (command_value command.now ≡ draw_of d.base d.count d.start) × ((settings_after self.now).topology ≡ Some TriangleList)) }
     {
         let Some(Topology::TriangleList) = self.settings.topology else {
             return None;
         };
-        let (count, start, base) = match draw {
-            DrawCall::Plain(count, start) => (count, start, None),
-            DrawCall::Indexed(count, start, base) => (count, start, Some(base)),
+        let (count, start, base) = match command {
+            Command::Draw(count, start) => (*count, *start, None),
+            Command::DrawIndexed(count, start, base) => (*count, *start, Some(*base)),
+            _ => return None,
         };
         Some(ListDraw { count, start, base })
     }
@@ -255,25 +234,7 @@ impl<A: Allocator + Copy> OpenSegment<A> {
         opened.push(ListDraw { count, start, base }.command())
     }
 
-    /// A draw, behind a cut where the segment is full.
-    fn add_draw(
-        self,
-        alloc: A,
-        draw: DrawCall,
-        triangles: u32,
-        segments: &mut Vec<Segment<A>, A>,
-    ) -> Result<Self, AllocError>
-        requires follows { CanFollow (settings_after self) (draw_value draw) }
-        ensures { IfOk result (λ s. IsMore (draw_value draw) segments.old.items self segments.new.items s) }
-    {
-        let roomy = self.finish_where_full(alloc, draw, triangles, segments)?;
-        match roomy.list_draw(draw) {
-            Some(list) => roomy.add_parts(alloc, list, triangles, segments),
-            None => roomy.push(Command::Draw(draw)),
-        }
-    }
-
-    /// The next command of a list, behind a cut where it is a draw and the segment is full.
+    /// The next command of a list, behind a cut where the segment is full.
     fn add(
         self,
         alloc: A,
@@ -284,9 +245,10 @@ impl<A: Allocator + Copy> OpenSegment<A> {
         requires follows { CanFollow (settings_after self) (command_value command.now) }
         ensures { IfOk result (λ s. IsMore (command_value command.now) segments.old.items self segments.new.items s) }
     {
-        match command {
-            Command::Draw(draw) => self.add_draw(alloc, *draw, triangles, segments),
-            _ => self.push(command.share(alloc)?),
+        let roomy = self.finish_where_full(alloc, command, triangles, segments)?;
+        match roomy.list_draw(command) {
+            Some(draw) => roomy.add_parts(alloc, draw, triangles, segments),
+            None => roomy.push(command.share(alloc)?),
         }
     }
 }

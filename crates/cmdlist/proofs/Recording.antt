@@ -9,8 +9,8 @@ use Rattle.std.proofs.lemmas.List.Elements.{filter_map-append}
 use Rattle.std.proofs.lemmas.Bool.Decides.{nat_tests}
 use Rattle.gfxspec.specs.declared.TheConstants.{LIST_LIMIT, QUERY_LIMIT}
 use Rattle.gfxspec.specs.Assembly.{draw_indexed_primitives}
-use Rattle.gfxspec.specs.Commands.{Command, SetPredication, Draw, DrawIndexed, ClearColor, ClearDepthStencil, Begin, End, Kept}
-use Rattle.gfxspec.specs.Recorded.{settings_after, issues, query_begun, query_named, queries_named, queries_open, triangle_count, is_drawing}
+use Rattle.gfxspec.specs.Commands.{Command, SetPredication, DrawIndexed, Begin, Kept}
+use Rattle.gfxspec.specs.Recorded.{settings_after, issues, query_begun, query_named, queries_named, queries_open, triangle_count}
 use Rattle.gfxspec.specs.declared.error.GfxError.{GfxError}
 use Rattle.gfxspec.specs.State.{Settings as PlainSettings}
 use Rattle.gfxspec.specs.Refusals.{Row, AnswersBy, first_row, list_rows, too_long, is_among, is_bad_predicate}
@@ -21,16 +21,8 @@ use Rattle.meaning.proofs.Growing.{issues-push, triangle_count-push, queries_ope
 use Rattle.meaning.proofs.Accepting.{none_of, sound_after}
 use Rattle.meaning.proofs.Predicates.{along}
 use Rattle.command.specs.declared.command.Command.{Command as Code}
-use Rattle.command.specs.declared.command.Setting.{Setting}
-use Rattle.command.specs.declared.command.Setting.TheVariants as sets
-use Rattle.command.specs.declared.command.DrawCall.{DrawCall}
-use Rattle.command.specs.declared.command.DrawCall.TheVariants as draws
-use Rattle.command.specs.declared.command.ClearCall.{ClearCall}
-use Rattle.command.specs.declared.command.ClearCall.TheVariants as clears
-use Rattle.command.specs.declared.command.QueryCall.{QueryCall}
-use Rattle.command.specs.declared.command.QueryCall.TheVariants as calls
 use Rattle.cmdlist.specs.DrawRows.{draw_indexed_rows}
-use Rattle.command.specs.Seen.{settings_value, setting_value, draw_value, clear_value, query_value, command_value}
+use Rattle.command.specs.Seen.{settings_value, command_value}
 use Rattle.cmdlist.specs.Recorder.{commands_of, IsRecorded, OnlyLength, is_call, is_begin, marked_by, marked, marks_of}
 use Rattle.cmdlist.specs.declared.context.DeferredContext.TheInside.{Inside}
 
@@ -169,82 +161,6 @@ begun_told c q r = ap (λ m. slice_index_or m q false) r.begun ∙ marks_tell (i
 
 pub named_told : {A : Type 0} (c : Inside A) (q : ℕ) → IsRecorded c → slice_index_or c.queries.named q false ≡ is_among q (queries_named (commands_of c))
 named_told c q r = ap (λ m. slice_index_or m q false) r.named ∙ marks_tell (queries_named (commands_of c)) (in_range (commands_of c) r.accepted).named q
-
--- ---- what one more command changes beside the commands
-
-pub record Changes {A : Type 0} (k : Command) (c d : Inside A) : Type 0 where
-  pub commands : d.commands.items ≡ c.commands.items
-  pub triangles : d.triangles ≡ c.triangles
-  pub settings : settings_value d.settings ≡ settings_with k (settings_value c.settings)
-  pub issues : d.queries.issues ≡ c.queries.issues + cond (is_begin k) 1 0
-  pub opened : d.queries.opened.items ≡ queries_with k c.queries.opened.items
-  pub begun : d.queries.begun ≡ marked_by c.queries.begun (query_begun k)
-  pub named : d.queries.named ≡ marked_by c.queries.named (query_named k)
-
--- a command that neither begins nor ends a query
-record Unissued (k : Command) : Type 0 where
-  pub begins : is_begin k ≡ false
-  pub opens : (qs : List ℕ) → queries_with k qs ≡ qs
-  pub begun : query_begun k ≡ None
-
-set_unissued : {A : Type 0} (s : Setting A) → Unissued (setting_value s)
-set_unissued (sets.Kept x) = record { begins = refl; opens = λ qs. refl; begun = refl }
-set_unissued s = record { begins = refl; opens = λ qs. refl; begun = refl }
-
-pub set_changes : {A : Type 0} (s : Setting A) (c d : Inside A) → d.commands.items ≡ c.commands.items → d.triangles ≡ c.triangles → settings_value d.settings ≡ settings_with (setting_value s) (settings_value c.settings) → d.queries.issues ≡ c.queries.issues → d.queries.opened ≡ c.queries.opened → d.queries.begun ≡ c.queries.begun → d.queries.named ≡ marked_by c.queries.named (query_named (setting_value s)) → Changes (setting_value s) c d
-set_changes s c d commands triangles settings issues opened begun named =
-    let u = set_unissued s in
-    record {
-      commands = commands;
-      triangles = triangles;
-      settings = settings;
-      issues = subst (λ b. d.queries.issues ≡ c.queries.issues + cond b 1 0) (sym u.begins) (omega (arith, issues));
-      opened = ap (λ o. o.items) opened ∙ sym (u.opens c.queries.opened.items);
-      begun = begun ∙ ap (marked_by c.queries.begun) (sym u.begun);
-      named = named;
-    }
-
-pub query_changes : {A : Type 0} (q : QueryCall) (c d : Inside A) → d.commands.items ≡ c.commands.items → d.triangles ≡ c.triangles → d.settings ≡ c.settings → d.queries.issues ≡ c.queries.issues + cond (is_begin (query_value q)) 1 0 → d.queries.opened.items ≡ queries_with (query_value q) c.queries.opened.items → d.queries.begun ≡ marked_by c.queries.begun (query_begun (query_value q)) → d.queries.named ≡ c.queries.named → Changes (query_value q) c d
-query_changes (calls.Begin q) c d commands triangles settings issues opened begun named = record { commands = commands; triangles = triangles; settings = ap settings_value settings; issues = issues; opened = opened; begun = begun; named = named }
-query_changes (calls.End q) c d commands triangles settings issues opened begun named = record { commands = commands; triangles = triangles; settings = ap settings_value settings; issues = issues; opened = opened; begun = begun; named = named }
-
--- draws and clears change nothing else
-pub drawing_changes : {A : Type 0} (k : Command) (c d : Inside A) → is_drawing k ≡ true → d.commands.items ≡ c.commands.items → d.triangles ≡ c.triangles → d.settings ≡ c.settings → d.queries ≡ c.queries → Changes k c d
-drawing_changes k c d drawing commands triangles settings queries =
-    record {
-      commands = commands;
-      triangles = triangles;
-      settings = ap settings_value settings ∙ sym (unset k (settings_value c.settings) drawing);
-      issues = subst (λ q. q.issues ≡ c.queries.issues + cond (is_begin k) 1 0) (sym queries) (subst (λ b. c.queries.issues ≡ c.queries.issues + cond b 1 0) (sym (unissued k drawing).begins) (omega arith));
-      opened = ap (λ q. q.opened.items) queries ∙ sym ((unissued k drawing).opens c.queries.opened.items);
-      begun = ap (λ q. q.begun) queries ∙ ap (marked_by c.queries.begun) (sym (unissued k drawing).begun);
-      named = ap (λ q. q.named) queries ∙ ap (marked_by c.queries.named) (sym (unnamed k drawing));
-    }
-  where
-    unset : (k : Command) (s : PlainSettings) → is_drawing k ≡ true → settings_with k s ≡ s
-    unset (Draw x y) s h = refl
-    unset (DrawIndexed x y z) s h = refl
-    unset (ClearColor x) s h = refl
-    unset (ClearDepthStencil x y) s h = refl
-    unset k s h = absurd cc
-
-    unissued : (k : Command) → is_drawing k ≡ true → Unissued k
-    unissued (Begin x) h = absurd cc
-    unissued (End x) h = absurd cc
-    unissued k h = record { begins = refl; opens = λ qs. refl; begun = refl }
-
-    unnamed : (k : Command) → is_drawing k ≡ true → query_named k ≡ None
-    unnamed (SetPredication x) h = absurd cc
-    unnamed (Kept x) h = absurd cc
-    unnamed k h = refl
-
-pub draw_is : (d : DrawCall) → is_drawing (draw_value d) ≡ true
-draw_is (draws.Plain x y) = refl
-draw_is (draws.Indexed x y z) = refl
-
-pub clear_is : (d : ClearCall) → is_drawing (clear_value d) ≡ true
-clear_is (clears.Color x) = refl
-clear_is (clears.DepthStencil x y) = refl
 
 pub recorded : {A : Type 0} (c d : Inside A) (k : Command) (triangles : ℕ) → IsRecorded c → OnlyLength (commands_of c) k triangles → (too_long (commands_of c) triangles).1 ≡ false → commands_of d ≡ commands_of c ++ k ∷ [] → settings_value d.settings ≡ settings_with k (settings_value c.settings) → d.triangles ≡ c.triangles + triangles → d.queries.issues ≡ c.queries.issues + cond (is_begin k) 1 0 → d.queries.opened.items ≡ queries_with k c.queries.opened.items → d.queries.begun ≡ marked_by c.queries.begun (query_begun k) → d.queries.named ≡ marked_by c.queries.named (query_named k) → IsRecorded d
 recorded c d k triangles r only fits commands settings drawn begun opened marks names =

@@ -8,13 +8,13 @@ ghost use Rattle.gfxspec.specs.Commands.{Kept, SetVertices, SetIndices};
 ghost use Rattle.gfxspec.specs.Recorded.{issues, query_begun, query_named, queries_named, queries_open, after_finish};
 ghost use Rattle.gfxspec.specs.Refusals.{AnswersBy, first_row, list_rows, finish_rows, some_open, is_among, is_bad_scissor, is_bad_predicate, is_begun_predicate, too_long};
 ghost use Rattle.gfxspec.specs.Accepted.{AreAccepted, AreSound};
-ghost use Rattle.command.specs.Seen.{command_value, setting_value, draw_value, clear_value, query_value, settings_value};
+ghost use Rattle.command.specs.Seen.{command_value, settings_value};
 
 use crate::device_context::DeviceContext;
 use crate::drawing::{drawn_indexed_triangles, drawn_triangles};
 use crate::list::{CommandList, Commands};
 use crate::queries::{Queries, is_marked};
-use command::{Buffer, ClearCall, Command, DrawCall, QueryCall, Setting, Settings};
+use command::{Buffer, Command, Settings};
 use gfxspec::{
     BUFFER_LIMIT, COORDINATE_LIMIT, DEPTH_MAX, GfxError, ISSUE_LIMIT, LIST_LIMIT, PixelRect,
     QUERY_LIMIT, SIDE_LIMIT, Vertex,
@@ -157,86 +157,42 @@ impl<A: Allocator + Copy> DeferredContext<A> {
         Ok(())
     }
 
-    /// Looks at each row of a setting but that on the length of the list.
-    fn examine_setting(&self, setting: &Setting<A>) -> Result<(), GfxError>
-        ensures ok { OnOk result (OnlyLength self.now (setting_value setting.now) 0) }
-        ensures err { OnErr result (AnswersBy (list_rows self.now (setting_value setting.now)) result) }
-    {
-        match setting {
-            Setting::Vertices(vertices) => self.examine_vertices(vertices.as_slice()),
-            Setting::Indices(indices) => self.examine_indices(indices.as_slice()),
-            Setting::Scissor(scissor) if is_scissor_bad(*scissor) => Err(GfxError::ScissorRect),
-            Setting::Predication(predicate) if is_predicate_bad(*predicate) => {
-                Err(GfxError::QueryNumber)
-            }
-            Setting::Predication(predicate) if self.is_predicate_begun(*predicate) => {
-                Err(GfxError::PredicateInList)
-            }
-            Setting::Kept(_) => Err(GfxError::OutOfMemory),
-            _ => Ok(()),
-        }
-    }
-
-    /// Looks at each row of a draw but that on the length of the list, and counts its triangles.
-    fn examine_draw(&self, draw: DrawCall) -> Result<u32, GfxError>
-        ensures ok { IfOk result (λ triangles. OnlyLength self.now (draw_value draw) triangles) }
-        ensures err { IfErr result (λ e. first_row (list_rows self.now (draw_value draw)) ≡ Some e) }
-    {
-        let state = self.settings.state();
-        match draw {
-            DrawCall::Plain(count, start) => drawn_triangles(&state, count, start),
-            DrawCall::Indexed(count, start, base) => {
-                drawn_indexed_triangles(&state, count, start, base)
-            }
-        }
-    }
-
-    /// Looks at each row of a clear but that on the length of the list.
-    fn examine_clear(&self, clear: ClearCall) -> Result<(), GfxError>
-        ensures ok { OnOk result (OnlyLength self.now (clear_value clear) 0) }
-        ensures err { IfErr result (λ e. first_row (list_rows self.now (clear_value clear)) ≡ Some e) }
-    {
-        match clear {
-            ClearCall::DepthStencil(depth, _) if depth > DEPTH_MAX => Err(GfxError::VertexRange),
-            _ => Ok(()),
-        }
-    }
-
-    /// Looks at each row of a call on a query but that on the length of the list.
-    fn examine_query(&self, call: QueryCall) -> Result<(), GfxError>
-        ensures ok { OnOk result (OnlyLength self.now (query_value call) 0) }
-        ensures err { IfErr result (λ e. first_row (list_rows self.now (query_value call)) ≡ Some e) }
-    {
-        match call {
-            QueryCall::Begin(query) if query >= QUERY_LIMIT => Err(GfxError::QueryNumber),
-            QueryCall::Begin(query) if self.is_open(query) => Err(GfxError::QueryOpen),
-            QueryCall::Begin(query) if self.is_named(query) => Err(GfxError::PredicateInList),
-            QueryCall::Begin(_) if self.has_all_issues() => Err(GfxError::TooManyIssues),
-            QueryCall::End(query) if query >= QUERY_LIMIT => Err(GfxError::QueryNumber),
-            QueryCall::End(query) if !self.is_open(query) => Err(GfxError::QueryNotOpen),
-            _ => Ok(()),
-        }
-    }
-
     /// Looks at each row of a command but that on the length of the list, and counts the triangles that it draws.
     fn examine_but_length(&self, command: &Command<A>) -> Result<u32, GfxError>
         ensures ok { IfOk result (λ triangles. OnlyLength self.now (command_value command.now) triangles) }
         ensures err { OnErr result (AnswersBy (list_rows self.now (command_value command.now)) result) }
     {
         match command {
-            Command::Set(setting) => {
-                self.examine_setting(setting)?;
+            Command::SetVertices(vertices) => {
+                self.examine_vertices(vertices.as_slice())?;
                 Ok(0)
             }
-            Command::Draw(draw) => self.examine_draw(*draw),
-            Command::Clear(clear) => {
-                self.examine_clear(*clear)?;
+            Command::SetIndices(indices) => {
+                self.examine_indices(indices.as_slice())?;
                 Ok(0)
             }
-            Command::Query(call) => {
-                self.examine_query(*call)?;
-                Ok(0)
+            Command::SetScissor(scissor) if is_scissor_bad(*scissor) => Err(GfxError::ScissorRect),
+            Command::SetPredication(predicate) if is_predicate_bad(*predicate) => {
+                Err(GfxError::QueryNumber)
             }
+            Command::SetPredication(predicate) if self.is_predicate_begun(*predicate) => {
+                Err(GfxError::PredicateInList)
+            }
+            Command::Draw(count, start) => drawn_triangles(&self.settings.state(), *count, *start),
+            Command::DrawIndexed(count, start, base) => {
+                drawn_indexed_triangles(&self.settings.state(), *count, *start, *base)
+            }
+            Command::ClearDepthStencil(depth, _) if *depth > DEPTH_MAX => {
+                Err(GfxError::VertexRange)
+            }
+            Command::Begin(query) if *query >= QUERY_LIMIT => Err(GfxError::QueryNumber),
+            Command::Begin(query) if self.is_open(*query) => Err(GfxError::QueryOpen),
+            Command::Begin(query) if self.is_named(*query) => Err(GfxError::PredicateInList),
+            Command::Begin(_) if self.has_all_issues() => Err(GfxError::TooManyIssues),
+            Command::End(query) if *query >= QUERY_LIMIT => Err(GfxError::QueryNumber),
+            Command::End(query) if !self.is_open(*query) => Err(GfxError::QueryNotOpen),
+            Command::Kept(_) => Err(GfxError::OutOfMemory),
+            _ => Ok(0),
         }
     }
 
@@ -271,16 +227,9 @@ impl<A: Allocator + Copy> DeferredContext<A> {
         ensures err { OnErr result (self.new ≡ self.old) }
     {
         self.commands.try_reserve(1)?;
-        match &command {
-            Command::Set(setting) => {
-                self.settings.change(setting)?;
-                self.queries.note_setting(setting);
-            }
-            Command::Query(call) => self.queries.note(*call),
-            Command::Draw(_) => {}
-            Command::Clear(_) => {}
-        }
+        self.settings.change(&command)?;
         self.triangles += triangles;
+        self.queries.note(&command);
         self.commands.push(command).unwrap();
         Ok(())
     }
@@ -325,7 +274,7 @@ impl<A: Allocator + Copy> DeferredContext<A> {
         ensures value { result ≡ is_kept_alone self.now }
         ensures same { IsTrue result → after_finish true self.now ≡ self.now }
     {
-        matches!(self.commands.as_slice(), [Command::Set(Setting::Kept(_))])
+        matches!(self.commands.as_slice(), [Command::Kept(_)])
     }
 
     /// The context for the list behind this one, as a finish makes it. Refused with OutOfMemory alone.
@@ -358,11 +307,11 @@ impl<A: Allocator + Copy> DeferredContext<A> {
         ensures kept { IfOk result (λ context. context ≡ Kept (settings_value settings.now) ∷ []) }
         ensures memory { IfErr result (λ e. e ≡ GfxError.OutOfMemory) }
     {
-        let kept = Setting::Kept(Box::new(alloc, settings.share()?)?);
+        let kept = Command::Kept(Box::new(alloc, settings.share()?)?);
         let mut queries = Queries::none();
-        queries.note_setting(&kept);
+        queries.note(&kept);
         let mut commands = Vec::new(alloc);
-        commands.push(Command::Set(kept))?;
+        commands.push(kept)?;
         Ok(DeferredContext {
             commands,
             settings: settings.share()?,
@@ -391,14 +340,14 @@ impl<A: Allocator + Copy> DeviceContext for DeferredContext<A> {
         self.examine_vertices(vertices)?;
         self.examine_length(0)?;
         let vertices = Buffer::from_slice(*self.commands.allocator(), vertices)?;
-        self.append(Command::Set(Setting::Vertices(vertices)), 0)
+        self.append(Command::SetVertices(vertices), 0)
     }
 
     fn ia_set_indices(&mut self, indices: &[u16]) -> Result<(), GfxError> {
         self.examine_indices(indices)?;
         self.examine_length(0)?;
         let indices = Buffer::from_slice(*self.commands.allocator(), indices)?;
-        self.append(Command::Set(Setting::Indices(indices)), 0)
+        self.append(Command::SetIndices(indices), 0)
     }
 
     ghost appends = { λ commands c. refl };

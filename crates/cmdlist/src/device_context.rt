@@ -5,7 +5,7 @@ ghost use Rattle.gfxspec.specs.Commands.{Command, SetVertices, SetIndices, SetTo
 ghost use Rattle.command.specs.Seen.{command_value};
 ghost use Rattle.cmdlist.specs.Calls.{RecordsCall};
 
-use command::{ClearCall, Command, DrawCall, QueryCall, Setting};
+use command::Command;
 use gfxspec::{GfxError, PixelRect, Topology, Vertex};
 use states::{BlendState, DepthStencilState, RasterState};
 use std::alloc::Allocator;
@@ -42,21 +42,21 @@ pub trait DeviceContext {
     final fn ia_set_topology(&mut self, topology: Topology) -> Result<(), GfxError>
         ensures { RecordsCall recorded with self.old (SetTopology topology) self.new result }
     {
-        self.record(&Command::Set(Setting::Topology(topology)))
+        self.record(&Command::SetTopology(topology))
     }
 
     /// Sets the rasterizer state. Refused with ListTooLong.
     final fn rs_set_state(&mut self, raster: RasterState) -> Result<(), GfxError>
         ensures { RecordsCall recorded with self.old (SetRaster raster) self.new result }
     {
-        self.record(&Command::Set(Setting::Raster(raster)))
+        self.record(&Command::SetRaster(raster))
     }
 
     /// Sets the scissor rectangle, in pixels. Refused with ScissorRect, ListTooLong.
     final fn rs_set_scissor(&mut self, scissor: PixelRect) -> Result<(), GfxError>
         ensures { RecordsCall recorded with self.old (SetScissor scissor) self.new result }
     {
-        self.record(&Command::Set(Setting::Scissor(scissor)))
+        self.record(&Command::SetScissor(scissor))
     }
 
     /// Sets the depth-stencil state with its reference. Refused with ListTooLong.
@@ -67,14 +67,14 @@ pub trait DeviceContext {
     ) -> Result<(), GfxError>
         ensures { RecordsCall recorded with self.old (SetDepthStencil depth_stencil reference) self.new result }
     {
-        self.record(&Command::Set(Setting::DepthStencil(depth_stencil, reference)))
+        self.record(&Command::SetDepthStencil(depth_stencil, reference))
     }
 
     /// Sets the blend state. Refused with ListTooLong.
     final fn om_set_blend(&mut self, blend: BlendState) -> Result<(), GfxError>
         ensures { RecordsCall recorded with self.old (SetBlend blend) self.new result }
     {
-        self.record(&Command::Set(Setting::Blend(blend)))
+        self.record(&Command::SetBlend(blend))
     }
 
     /// Sets the predicate, a query, 0 to 63, and a value, or none. Draws and clears under it are not performed where the
@@ -83,14 +83,14 @@ pub trait DeviceContext {
     final fn set_predication(&mut self, predicate: Option<(u32, bool)>) -> Result<(), GfxError>
         ensures { RecordsCall recorded with self.old (SetPredication predicate) self.new result }
     {
-        self.record(&Command::Set(Setting::Predication(predicate)))
+        self.record(&Command::SetPredication(predicate))
     }
 
     /// Draws vertices: a count, and the first place. Refused with TopologyUnset, DrawRange, ListTooLong.
     final fn draw(&mut self, count: u32, start: u32) -> Result<(), GfxError>
         ensures { RecordsCall recorded with self.old (Draw count start) self.new result }
     {
-        self.record(&Command::Draw(DrawCall::Plain(count, start)))
+        self.record(&Command::Draw(count, start))
     }
 
     /// Draws vertices by indices: a count, the first place in the indices, and what is added to each index. Refused with
@@ -98,14 +98,14 @@ pub trait DeviceContext {
     final fn draw_indexed(&mut self, count: u32, start: u32, base: i32) -> Result<(), GfxError>
         ensures { RecordsCall recorded with self.old (DrawIndexed count start base) self.new result }
     {
-        self.record(&Command::Draw(DrawCall::Indexed(count, start, base)))
+        self.record(&Command::DrawIndexed(count, start, base))
     }
 
     /// Clears the colour of every pixel of the target, whatever the state is but the predicate. Refused with ListTooLong.
     final fn clear_color(&mut self, rgba: [u8; 4]) -> Result<(), GfxError>
         ensures { RecordsCall recorded with self.old (ClearColor rgba) self.new result }
     {
-        self.record(&Command::Clear(ClearCall::Color(rgba)))
+        self.record(&Command::ClearColor(rgba))
     }
 
     /// Clears depth and stencil of every pixel of the target, whatever the state is but the predicate. Refused with
@@ -113,7 +113,7 @@ pub trait DeviceContext {
     final fn clear_depth_stencil(&mut self, depth: u32, stencil: u8) -> Result<(), GfxError>
         ensures { RecordsCall recorded with self.old (ClearDepthStencil depth stencil) self.new result }
     {
-        self.record(&Command::Clear(ClearCall::DepthStencil(depth, stencil)))
+        self.record(&Command::ClearDepthStencil(depth, stencil))
     }
 
     /// Begins a query, 0 to 63. Refused with QueryNumber, QueryOpen, PredicateInList where a predicate of the list names
@@ -121,13 +121,13 @@ pub trait DeviceContext {
     final fn begin(&mut self, query: u32) -> Result<(), GfxError>
         ensures { RecordsCall recorded with self.old (Begin query) self.new result }
     {
-        self.record(&Command::Query(QueryCall::Begin(query)))
+        self.record(&Command::Begin(query))
     }
 
     /// Ends a query that is open. Refused with QueryNumber, QueryNotOpen, ListTooLong.
     final fn end(&mut self, query: u32) -> Result<(), GfxError>
         ensures { RecordsCall recorded with self.old (End query) self.new result }
     {
-        self.record(&Command::Query(QueryCall::End(query)))
+        self.record(&Command::End(query))
     }
 }

@@ -17,7 +17,7 @@ mod draws;
 mod list;
 mod queries;
 
-pub use command::{Buffer, ClearCall, Command, DrawCall, QueryCall, Setting, Settings, State};
+pub use command::{Buffer, Command, Settings, State};
 pub use context::DeferredContext;
 pub use device_context::DeviceContext;
 pub use draws::{draw_of, is_withheld};

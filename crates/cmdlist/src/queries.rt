@@ -4,7 +4,7 @@ ghost use Rattle.std.specs.Prelude.{◌≡◌, false, option_map, replicate, sli
 ghost use Rattle.cmdlist.specs.Recorder.{marked_by};
 
 use arrayvec::ArrayVec;
-use command::{QueryCall, Setting};
+use command::Command;
 use gfxspec::QUERY_LIMIT;
 use std::alloc::Allocator;
 
@@ -54,7 +54,7 @@ impl Queries {
     ghost use Rattle.arrayvec.specs.ArrayVec.{array_vec_len};
     ghost use Rattle.gfxspec.specs.Recorded.{query_begun, query_named};
     ghost use Rattle.meaning.specs.OneMore.{queries_with};
-    ghost use Rattle.command.specs.Seen.{setting_value, query_value};
+    ghost use Rattle.command.specs.Seen.{command_value};
     ghost use Rattle.cmdlist.specs.Recorder.{is_begin, marked_by};
 
     /// Those of no command.
@@ -72,36 +72,25 @@ impl Queries {
         }
     }
 
-    /// Notes the query by which a setting sets a predicate.
-    pub(crate) fn note_setting<A: Allocator>(&mut self, setting: &Setting<A>)
-        ensures issues { self.new.issues ≡ self.old.issues }
-        ensures opened { self.new.opened ≡ self.old.opened }
-        ensures begun { self.new.begun ≡ self.old.begun }
-        ensures named { self.new.named ≡ marked_by self.old.named (query_named (setting_value setting.now)) }
-    {
-        match setting {
-            Setting::Predication(predicate) => mark(&mut self.named, query_of(*predicate)),
-            Setting::Kept(settings) => mark(&mut self.named, query_of(settings.predicate)),
-            _ => {}
-        }
-    }
-
-    /// Notes a call on a query.
-    pub(crate) fn note(&mut self, call: QueryCall)
-        requires room { is_begin (query_value call) ≡ true → array_vec_len self.old.opened < 64 }
+    /// Notes the queries of one more command.
+    pub(crate) fn note<A: Allocator>(&mut self, command: &Command<A>)
+        requires room { is_begin (command_value command.now) ≡ true → array_vec_len self.old.opened < 64 }
         requires few { self.old.issues < 65536 }
-        ensures issues { self.new.issues ≡ self.old.issues + (if is_begin (query_value call) then 1 else 0) }
-        ensures opened { self.new.opened.items ≡ queries_with (query_value call) self.old.opened.items }
-        ensures begun { self.new.begun ≡ marked_by self.old.begun (query_begun (query_value call)) }
-        ensures named { self.new.named ≡ self.old.named }
+        ensures issues { self.new.issues ≡ self.old.issues + (if is_begin (command_value command.now) then 1 else 0) }
+        ensures opened { self.new.opened.items ≡ queries_with (command_value command.now) self.old.opened.items }
+        ensures begun { self.new.begun ≡ marked_by self.old.begun (query_begun (command_value command.now)) }
+        ensures named { self.new.named ≡ marked_by self.old.named (query_named (command_value command.now)) }
     {
-        match call {
-            QueryCall::Begin(query) => {
+        match command {
+            Command::Begin(query) => {
                 self.issues += 1;
-                self.opened.push(query);
-                mark(&mut self.begun, Some(query));
+                self.opened.push(*query);
+                mark(&mut self.begun, Some(*query));
             }
-            QueryCall::End(query) => self.opened.retain(|other| *other != query),
+            Command::End(query) => self.opened.retain(|other| *other != *query),
+            Command::SetPredication(predicate) => mark(&mut self.named, query_of(*predicate)),
+            Command::Kept(settings) => mark(&mut self.named, query_of(settings.predicate)),
+            _ => {}
         }
     }
 }

@@ -11,5 +11,5 @@ mod command;
 mod settings;
 
 pub use buffer::Buffer;
-pub use command::{ClearCall, Command, DrawCall, QueryCall, Setting};
+pub use command::Command;
 pub use settings::{Settings, State};

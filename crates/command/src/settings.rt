@@ -4,7 +4,7 @@ ghost use Rattle.std.specs.Prelude.{◌≡◌, IfOk, OnOk, OnErr};
 ghost use Rattle.gfxspec.specs.State.{defaults};
 
 use crate::buffer::Buffer;
-use crate::command::{Command, Setting};
+use crate::command::Command;
 use gfxspec::{PixelRect, Topology, Vertex};
 use states::{BlendState, DepthStencilState, RasterState};
 use std::alloc::{AllocError, Allocator};
@@ -33,7 +33,7 @@ pub struct Settings<A: Allocator> {
 
 impl<A: Allocator + Copy> Settings<A> {
     ghost use Rattle.meaning.specs.OneMore.{settings_with};
-    ghost use Rattle.command.specs.Seen.{settings_value, setting_value, state_value};
+    ghost use Rattle.command.specs.Seen.{settings_value, command_value, state_value};
 
     /// The state of a context that has set nothing.
     pub fn new() -> Self
@@ -69,24 +69,25 @@ impl<A: Allocator + Copy> Settings<A> {
         })
     }
 
-    /// Changes what a command sets. An `Err` changes nothing.
-    pub fn change(&mut self, setting: &Setting<A>) -> Result<(), AllocError>
-        ensures ok { OnOk result (settings_value self.new ≡ settings_with (setting_value setting.now) (settings_value self.old)) }
+    /// Changes the kinds that a command sets. An `Err` changes nothing.
+    pub fn change(&mut self, command: &Command<A>) -> Result<(), AllocError>
+        ensures ok { OnOk result (settings_value self.new ≡ settings_with (command_value command.now) (settings_value self.old)) }
         ensures err { OnErr result (self.new ≡ self.old) }
     {
-        match setting {
-            Setting::Vertices(vertices) => self.vertices = vertices.share()?,
-            Setting::Indices(indices) => self.indices = indices.share()?,
-            Setting::Topology(topology) => self.topology = Some(*topology),
-            Setting::Raster(raster) => self.raster = *raster,
-            Setting::Scissor(scissor) => self.scissor = *scissor,
-            Setting::DepthStencil(depth_stencil, reference) => {
+        match command {
+            Command::SetVertices(vertices) => self.vertices = vertices.share()?,
+            Command::SetIndices(indices) => self.indices = indices.share()?,
+            Command::SetTopology(topology) => self.topology = Some(*topology),
+            Command::SetRaster(raster) => self.raster = *raster,
+            Command::SetScissor(scissor) => self.scissor = *scissor,
+            Command::SetDepthStencil(depth_stencil, reference) => {
                 self.depth_stencil = *depth_stencil;
                 self.reference = *reference;
             }
-            Setting::Blend(blend) => self.blend = *blend,
-            Setting::Predication(predicate) => self.predicate = *predicate,
-            Setting::Kept(settings) => *self = settings.share()?,
+            Command::SetBlend(blend) => self.blend = *blend,
+            Command::SetPredication(predicate) => self.predicate = *predicate,
+            Command::Kept(settings) => *self = settings.share()?,
+            _ => {}
         }
         Ok(())
     }
@@ -125,7 +126,7 @@ pub struct State<'a> {
 
 impl<'a> State<'a> {
     ghost use Rattle.meaning.specs.OneMore.{settings_with};
-    ghost use Rattle.command.specs.Seen.{settings_value, setting_value, command_value, state_value};
+    ghost use Rattle.command.specs.Seen.{settings_value, command_value, state_value};
 
     /// The state before the first command of a list.
     pub fn new() -> Self
@@ -144,32 +145,24 @@ impl<'a> State<'a> {
         }
     }
 
-    /// Changes what the next command of the list sets, if it sets something.
-    pub fn go_past<A: Allocator + Copy>(&mut self, command: &'a Command<A>)
+    /// Changes the kinds that the next command of the list sets.
+    pub fn change<A: Allocator + Copy>(&mut self, command: &'a Command<A>)
         ensures { state_value self.new ≡ settings_with (command_value command.now) (state_value self.old) }
     {
-        if let Command::Set(setting) = command {
-            self.change(setting);
-        }
-    }
-
-    /// Changes what a command of the list sets.
-    pub fn change<A: Allocator + Copy>(&mut self, setting: &'a Setting<A>)
-        ensures { state_value self.new ≡ settings_with (setting_value setting.now) (state_value self.old) }
-    {
-        match setting {
-            Setting::Vertices(vertices) => self.vertices = vertices.as_slice(),
-            Setting::Indices(indices) => self.indices = indices.as_slice(),
-            Setting::Topology(topology) => self.topology = Some(*topology),
-            Setting::Raster(raster) => self.raster = *raster,
-            Setting::Scissor(scissor) => self.scissor = *scissor,
-            Setting::DepthStencil(depth_stencil, reference) => {
+        match command {
+            Command::SetVertices(vertices) => self.vertices = vertices.as_slice(),
+            Command::SetIndices(indices) => self.indices = indices.as_slice(),
+            Command::SetTopology(topology) => self.topology = Some(*topology),
+            Command::SetRaster(raster) => self.raster = *raster,
+            Command::SetScissor(scissor) => self.scissor = *scissor,
+            Command::SetDepthStencil(depth_stencil, reference) => {
                 self.depth_stencil = *depth_stencil;
                 self.reference = *reference;
             }
-            Setting::Blend(blend) => self.blend = *blend,
-            Setting::Predication(predicate) => self.predicate = *predicate,
-            Setting::Kept(settings) => *self = settings.state(),
+            Command::SetBlend(blend) => self.blend = *blend,
+            Command::SetPredication(predicate) => self.predicate = *predicate,
+            Command::Kept(settings) => *self = settings.state(),
+            _ => {}
         }
     }
 }

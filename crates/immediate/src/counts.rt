@@ -7,7 +7,7 @@ ghost use Rattle.meaning.specs.Contexts.{with_counts};
 ghost use Rattle.command.specs.Seen.{command_value};
 ghost use Rattle.immediate.specs.Issues.{begins};
 
-use cmdlist::{Command, QueryCall};
+use cmdlist::Command;
 use gfxspec::QUERY_LIMIT;
 use std::alloc::Allocator;
 
@@ -52,7 +52,7 @@ fn begins<A: Allocator>(command: &Command<A>, query: u32) -> bool
     ensures { result ≡ begins query (command_value command.now) }
 {
     match command {
-        Command::Query(QueryCall::Begin(begun)) => *begun == query,
+        Command::Begin(begun) => *begun == query,
         _ => false,
     }
 }

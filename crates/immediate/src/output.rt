@@ -29,7 +29,7 @@ use crate::executions::Executions;
 use crate::room::Room;
 use binmem::Bins;
 use binner::Compiled;
-use cmdlist::{Command, Commands, QueryCall};
+use cmdlist::{Command, Commands};
 use gfxspec::GfxError;
 use std::alloc::{AllocError, Allocator};
 use std::marker::Model;
@@ -71,7 +71,11 @@ fn acts<A: Allocator>(command: &Command<A>) -> bool
 {
     matches!(
         command,
-        Command::Draw(_) | Command::Clear(_) | Command::Query(QueryCall::Begin(_))
+        Command::Draw(_, _)
+            | Command::DrawIndexed(_, _, _)
+            | Command::ClearColor(_)
+            | Command::ClearDepthStencil(_, _)
+            | Command::Begin(_)
     )
 }
 

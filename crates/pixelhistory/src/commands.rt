@@ -2,46 +2,34 @@
 
 ghost use Rattle.std.specs.Prelude.{◌≡◌, ◌<◌, ◌≤◌, ◌+◌, ◌^◌, [], ℕ, List, length, OnOk};
 ghost use Rattle.gfxspec.specs.Limits.{side_bound};
-ghost use Rattle.gfxspec.specs.State.{Settings};
-ghost use Rattle.gfxspec.specs.Recorded.{items_at};
+ghost use Rattle.gfxspec.specs.Recorded.{drawn_items, items_at};
 ghost use Rattle.meaning.specs.OneMore.{triangles_of as count_of, performed_items};
-ghost use Rattle.command.specs.Seen.{state_value, command_value, draw_value, clear_value};
+ghost use Rattle.command.specs.Seen.{state_value, command_value};
 ghost use Rattle.cmdlist.specs.Drawable.{IsDrawable, drawn_by, told};
 ghost use Rattle.pixelhistory.specs.Tracing.{GoesPast};
 
 use crate::trace::{Trace, trace_color_clear, trace_depth_stencil_clear, trace_draw};
-use cmdlist::{ClearCall, Command, DrawCall, State, draw_of, is_withheld};
+use cmdlist::{Command, State, draw_of, is_withheld};
 use std::alloc::{AllocError, Allocator};
 
-/// Goes past what a draw draws under a state.
-fn trace_draw_call<A: Allocator + Copy>(
+/// Goes past what a command draws, if it is a draw.
+fn trace_drawing<A: Allocator + Copy>(
     trace: &mut Trace<A>,
-    draw: DrawCall,
+    command: &Command<A>,
     state: &State<'_>,
     x: u32,
     y: u32,
 ) -> Result<(), AllocError>
-    requires drawable { IsDrawable (state_value state.now) (draw_value draw) }
+    requires drawable { IsDrawable (state_value state.now) (command_value command.now) }
     requires x { x < side_bound }
     requires y { y < side_bound }
-    requires few { trace.old.items + length (drawn_by (state_value state.now) (draw_value draw)) < 2 ^ 63 }
-    ensures { (opened : List ℕ) → OnOk result (GoesPast (items_at (state_value state.now) opened (draw_value draw)) x y trace.old trace.new) }
+    requires few { trace.old.items + length (drawn_by (state_value state.now) (command_value command.now)) < 2 ^ 63 }
+    ensures { (opened : List ℕ) → OnOk result (GoesPast (drawn_items (state_value state.now) opened (drawn_by (state_value state.now) (command_value command.now))) x y trace.old trace.new) }
 {
-    let Some(draw) = draw_of(draw, state) else {
+    let Some(draw) = draw_of(command, state) else {
         return Ok(());
     };
     trace_draw(trace, &draw, state, x, y)
-}
-
-/// Goes past a clear.
-fn trace_clear<A: Allocator>(trace: &mut Trace<A>, clear: ClearCall) -> Result<(), AllocError>
-    requires { trace.old.items < 2 ^ 63 }
-    ensures { (s : Settings) (opened : List ℕ) (x y : ℕ) → OnOk result (GoesPast (items_at s opened (clear_value clear)) x y trace.old trace.new) }
-{
-    match clear {
-        ClearCall::Color(rgba) => trace_color_clear(trace, rgba),
-        ClearCall::DepthStencil(depth, stencil) => trace_depth_stencil_clear(trace, depth, stencil),
-    }
 }
 
 /// Goes past what a command draws or clears under a state.
@@ -59,10 +47,13 @@ fn trace_command<A: Allocator + Copy>(
     ensures { (opened : List ℕ) → OnOk result (GoesPast (items_at (state_value state.now) opened (command_value command.now)) x y trace.old trace.new) }
 {
     match command {
-        Command::Draw(draw) => trace_draw_call(trace, *draw, state, x, y),
-        Command::Clear(clear) => trace_clear(trace, *clear),
-        Command::Set(_) => Ok(()),
-        Command::Query(_) => Ok(()),
+        Command::Draw(_, _) => trace_drawing(trace, command, state, x, y),
+        Command::DrawIndexed(_, _, _) => trace_drawing(trace, command, state, x, y),
+        Command::ClearColor(rgba) => trace_color_clear(trace, *rgba),
+        Command::ClearDepthStencil(depth, stencil) => trace_depth_stencil_clear(
+            trace, *depth, *stencil,
+        ),
+        _ => Ok(()),
     }
 }
 

@@ -162,7 +162,7 @@ pub fn trace_list<A: Allocator + Copy>(
         let origin = origin_of(trace.step, steps, number);
         add_origins(trace, from, first, origin)?;
         number += 1;
-        state.go_past(command);
+        state.change(command);
     }
     Ok(())
 }

@@ -35,7 +35,7 @@ pub struct Line<A: Allocator> {
 }
 
 // A script of 60 MB has millions of lines.
-const _: () = prove!(size_of::<Line<Global>>() <= 48);
+const _: () = prove!(size_of::<Line<Global>>() <= 40);
 
 /// Lines in order.
 #[derive(Drop)]

@@ -17,7 +17,7 @@ use crate::numbers::{
 };
 use crate::scene::Verb;
 use crate::words::Words;
-use command::{Buffer, ClearCall, Command, DrawCall, QueryCall, Setting};
+use command::{Buffer, Command};
 use gfxspec::PixelRect;
 use states::{BlendDesc, BlendState, DepthStencilDesc, DepthStencilState, RasterDesc, RasterState};
 use std::alloc::Allocator;
@@ -34,7 +34,7 @@ fn set_vertices<A: Allocator + Copy>(alloc: A, words: &mut Words) -> Result<Verb
     for _ in 0..count / 7 {
         vertices.push(next_vertex(words)?)?;
     }
-    Ok(Verb::Record(Command::Set(Setting::Vertices(Buffer::from_vec(vertices)?))))
+    Ok(Verb::Record(Command::SetVertices(Buffer::from_vec(vertices)?)))
 }
 
 fn set_indices<A: Allocator + Copy>(alloc: A, words: &mut Words) -> Result<Verb<A>, ReadError>
@@ -46,7 +46,7 @@ fn set_indices<A: Allocator + Copy>(alloc: A, words: &mut Words) -> Result<Verb<
     for _ in 0..count {
         indices.push(next_argument(words)?)?;
     }
-    Ok(Verb::Record(Command::Set(Setting::Indices(Buffer::from_vec(indices)?))))
+    Ok(Verb::Record(Command::SetIndices(Buffer::from_vec(indices)?)))
 }
 
 fn set_topology<A: Allocator>(words: &mut Words) -> Result<Verb<A>, ReadError>
@@ -54,7 +54,7 @@ fn set_topology<A: Allocator>(words: &mut Words) -> Result<Verb<A>, ReadError>
     ensures err { IfErr result (Refuses CommandWord.Topology words.old) }
 {
     expect(words, 1)?;
-    Ok(Verb::Record(Command::Set(Setting::Topology(next_argument(words)?))))
+    Ok(Verb::Record(Command::SetTopology(next_argument(words)?)))
 }
 
 /// The rasterizer state that the next three words spell, with no bias.
@@ -84,7 +84,7 @@ fn set_biased_raster<A: Allocator>(words: &mut Words) -> Result<Verb<A>, ReadErr
         depth_bias,
         ..raster
     });
-    Ok(Verb::Record(Command::Set(Setting::Raster(raster))))
+    Ok(Verb::Record(Command::SetRaster(raster)))
 }
 
 fn set_raster<A: Allocator>(words: &mut Words) -> Result<Verb<A>, ReadError>
@@ -96,7 +96,7 @@ fn set_raster<A: Allocator>(words: &mut Words) -> Result<Verb<A>, ReadError>
     }
     expect(words, 3)?;
     let raster = next_raster(words)?;
-    Ok(Verb::Record(Command::Set(Setting::Raster(RasterState::new(raster)))))
+    Ok(Verb::Record(Command::SetRaster(RasterState::new(raster))))
 }
 
 fn set_scissor<A: Allocator>(words: &mut Words) -> Result<Verb<A>, ReadError>
@@ -104,12 +104,12 @@ fn set_scissor<A: Allocator>(words: &mut Words) -> Result<Verb<A>, ReadError>
     ensures err { IfErr result (Refuses CommandWord.Scissor words.old) }
 {
     expect(words, 4)?;
-    Ok(Verb::Record(Command::Set(Setting::Scissor(PixelRect {
+    Ok(Verb::Record(Command::SetScissor(PixelRect {
         left: next_argument(words)?,
         top: next_argument(words)?,
         right: next_argument(words)?,
         bottom: next_argument(words)?,
-    }))))
+    })))
 }
 
 fn set_depth_stencil<A: Allocator>(words: &mut Words) -> Result<Verb<A>, ReadError>
@@ -128,7 +128,7 @@ fn set_depth_stencil<A: Allocator>(words: &mut Words) -> Result<Verb<A>, ReadErr
         back: next_face(words)?,
     });
     let reference = next_argument(words)?;
-    Ok(Verb::Record(Command::Set(Setting::DepthStencil(state, reference))))
+    Ok(Verb::Record(Command::SetDepthStencil(state, reference)))
 }
 
 fn set_blend<A: Allocator>(words: &mut Words) -> Result<Verb<A>, ReadError>
@@ -141,7 +141,7 @@ fn set_blend<A: Allocator>(words: &mut Words) -> Result<Verb<A>, ReadError>
         op: next_argument(words)?,
         mask: next_argument(words)?,
     });
-    Ok(Verb::Record(Command::Set(Setting::Blend(blend))))
+    Ok(Verb::Record(Command::SetBlend(blend)))
 }
 
 fn set_predication<A: Allocator>(words: &mut Words) -> Result<Verb<A>, ReadError>
@@ -149,12 +149,12 @@ fn set_predication<A: Allocator>(words: &mut Words) -> Result<Verb<A>, ReadError
     ensures err { IfErr result (Refuses CommandWord.Predicate words.old) }
 {
     if words.count() == 0 {
-        return Ok(Verb::Record(Command::Set(Setting::Predication(None))));
+        return Ok(Verb::Record(Command::SetPredication(None)));
     }
     expect(words, 2)?;
     let query = next_argument(words)?;
     let value = next_argument(words)?;
-    Ok(Verb::Record(Command::Set(Setting::Predication(Some((query, value))))))
+    Ok(Verb::Record(Command::SetPredication(Some((query, value)))))
 }
 
 fn draw<A: Allocator>(words: &mut Words) -> Result<Verb<A>, ReadError>
@@ -164,7 +164,7 @@ fn draw<A: Allocator>(words: &mut Words) -> Result<Verb<A>, ReadError>
     expect(words, 2)?;
     let count = next_argument(words)?;
     let start = next_argument(words)?;
-    Ok(Verb::Record(Command::Draw(DrawCall::Plain(count, start))))
+    Ok(Verb::Record(Command::Draw(count, start)))
 }
 
 fn draw_indexed<A: Allocator>(words: &mut Words) -> Result<Verb<A>, ReadError>
@@ -175,7 +175,7 @@ fn draw_indexed<A: Allocator>(words: &mut Words) -> Result<Verb<A>, ReadError>
     let count = next_argument(words)?;
     let start = next_argument(words)?;
     let base = next_integer(words)?;
-    Ok(Verb::Record(Command::Draw(DrawCall::Indexed(count, start, base))))
+    Ok(Verb::Record(Command::DrawIndexed(count, start, base)))
 }
 
 fn clear_color<A: Allocator>(words: &mut Words) -> Result<Verb<A>, ReadError>
@@ -183,7 +183,7 @@ fn clear_color<A: Allocator>(words: &mut Words) -> Result<Verb<A>, ReadError>
     ensures err { IfErr result (Refuses CommandWord.Clearc words.old) }
 {
     expect(words, 4)?;
-    Ok(Verb::Record(Command::Clear(ClearCall::Color(next_color(words)?))))
+    Ok(Verb::Record(Command::ClearColor(next_color(words)?)))
 }
 
 fn clear_depth_stencil<A: Allocator>(words: &mut Words) -> Result<Verb<A>, ReadError>
@@ -193,7 +193,7 @@ fn clear_depth_stencil<A: Allocator>(words: &mut Words) -> Result<Verb<A>, ReadE
     expect(words, 2)?;
     let depth = next_argument(words)?;
     let stencil = next_argument(words)?;
-    Ok(Verb::Record(Command::Clear(ClearCall::DepthStencil(depth, stencil))))
+    Ok(Verb::Record(Command::ClearDepthStencil(depth, stencil)))
 }
 
 fn begin<A: Allocator>(words: &mut Words) -> Result<Verb<A>, ReadError>
@@ -201,7 +201,7 @@ fn begin<A: Allocator>(words: &mut Words) -> Result<Verb<A>, ReadError>
     ensures err { IfErr result (Refuses CommandWord.Begin words.old) }
 {
     expect(words, 1)?;
-    Ok(Verb::Record(Command::Query(QueryCall::Begin(next_argument(words)?))))
+    Ok(Verb::Record(Command::Begin(next_argument(words)?)))
 }
 
 fn end<A: Allocator>(words: &mut Words) -> Result<Verb<A>, ReadError>
@@ -209,7 +209,7 @@ fn end<A: Allocator>(words: &mut Words) -> Result<Verb<A>, ReadError>
     ensures err { IfErr result (Refuses CommandWord.End words.old) }
 {
     expect(words, 1)?;
-    Ok(Verb::Record(Command::Query(QueryCall::End(next_argument(words)?))))
+    Ok(Verb::Record(Command::End(next_argument(words)?)))
 }
 
 fn finish<A: Allocator>(words: &mut Words) -> Result<Verb<A>, ReadError>

@@ -22,8 +22,8 @@ loop-place-preserved g c =
     let is = c.index-commands-place.is in
     let s = state_value l.state in
     record {
-      state = settings_more cs l.place d s (state_value c.go_past.new.self) (search rules) l.invariant.state
-          (subst (λ k. state_value c.go_past.new.self ≡ settings_with (command_value k) s) is c.go_past.ensures);
+      state = settings_more cs l.place d s (state_value c.change.new.self) (search rules) l.invariant.state
+          (subst (λ k. state_value c.change.new.self ≡ settings_with (command_value k) s) is c.change.ensures);
       ahead = noted cs c.args.size l.place d s c.in_ok-parts.parts l.ahead.items c.note.new.ahead.items l.invariant.state l.invariant.ahead
           (subst (λ k. IfSome c.in_ok-parts.parts (λ p. AreSetups s c.args.size (drawn_by s (command_value k)) (all_setups p.items))) is c.in_ok-parts.ensures)
           c.in_ok-note.ensures;

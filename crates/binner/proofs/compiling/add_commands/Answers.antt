@@ -1,7 +1,10 @@
-use Rattle.std.proofs.Common.{rules, sym, subst, ◌++◌, ◌∷◌, []}
+use Rattle.std.proofs.Common.{rules, sym, subst, ◌≡◌, ◌++◌, ◌∷◌, [], ℕ}
+use Rattle.gfxspec.specs.State.{Settings}
+use Rattle.meaning.specs.OneMore.{settings_with, performed_items}
 use Rattle.command.specs.Seen.{state_value, command_value}
-use Rattle.binner.specs.Opened.{CanNote, IsOpened}
-use Rattle.binner.specs.Compiling.{TakesCommand}
+use Rattle.binner.specs.Meaning.{entry_of}
+use Rattle.binner.specs.Opened.{IsOpened, CanNote}
+use Rattle.binner.specs.Compiling.{Adds}
 use Rattle.cmdlist.specs.Drawable.{IsDrawable, told, drawn_by}
 use Rattle.std.specs.Prelude.{IfSome}
 use Rattle.binner.specs.Setups.{AreSetups, all_setups}
@@ -12,41 +15,44 @@ use Rattle.binner.proofs.compiling.add_commands.Goals as goal
 
 pub loop-place-init : goal.loop-place-init
 loop-place-init g c = record {
-  so_far = so_far (told c.args.results.now) c.args.commands.now (state_value c.new.result) c.none.result c.args.compiling.now c.forget_unless.new.compiling c.new.ensures c.none.ensures c.requires.sound c.forget_unless.ensures.rest (λ n h. (c.forget_unless.ensures.current n h).0);
+  so_far = so_far (told c.args.results.now) c.args.commands.now (state_value c.new-state.result) c.nothing_begun-of_query.result c.args.compiling.now c.forget_unless.new.compiling c.new-state.ensures c.nothing_begun-of_query.ensures c.requires.sound c.forget_unless.ensures.rest (λ n h. (c.forget_unless.ensures.current n h).0);
   ahead = c.requires.ahead;
 }
 
-pub add_command-requires-clause-drawable : goal.add_command-requires-clause-drawable
-add_command-requires-clause-drawable g c =
+pub add_performed-requires-clause-drawable : goal.add_performed-requires-clause-drawable
+add_performed-requires-clause-drawable g c =
     let l = c.loop-place in
-    subst (λ k. IsDrawable (state_value l.along.state) (command_value k)) (sym c.index-commands-place.is)
+    subst (λ k. IsDrawable (state_value l.state) (command_value k)) (sym c.index-commands-place.is)
     (stands (told c.args.results.now) c.args.commands.now l.invariant.so_far c.index-commands-place.result c.requires.can (search rules)).0
 
-pub add_command-requires-clause-note : goal.add_command-requires-clause-note
-add_command-requires-clause-note g c =
+pub add_performed-requires-clause-made : goal.add_performed-requires-clause-made
+add_performed-requires-clause-made g c =
     let l = c.loop-place in
-    subst (λ k. CanNote l.along.issues.begun (command_value k)) (sym c.index-commands-place.is)
-    (stands (told c.args.results.now) c.args.commands.now l.invariant.so_far c.index-commands-place.result c.requires.can (search rules)).1
-
-pub add_command-requires-clause-made : goal.add_command-requires-clause-made
-add_command-requires-clause-made g c =
-    let l = c.loop-place in
-    let s = state_value l.along.state in
+    let s = state_value l.state in
     subst (λ k. IfSome c.take_ahead-parts.result (λ p. AreSetups s l.compiling.lists.size (drawn_by s (command_value k)) (all_setups p.items))) (sym c.index-commands-place.is)
     (set_up_for c.args.commands.now c.args.compiling.now.lists.size l.place c.index-commands-place.result s l.compiling.lists.size c.take_ahead-parts.result (search rules) l.invariant.so_far.state l.invariant.so_far.size c.take_ahead-parts.ensures.taken)
+
+pub note-requires : goal.note-requires
+note-requires g c =
+    let l = c.loop-place in
+    subst (λ k. CanNote l.begun (command_value k)) (sym c.index-commands-place.is)
+    (stands (told c.args.results.now) c.args.commands.now l.invariant.so_far c.index-commands-place.result c.requires.can (search rules)).1
 
 pub loop-place-preserved : goal.loop-place-preserved
 loop-place-preserved g c =
     let l = c.loop-place in
     let cs = c.args.commands.now in
-    let r = told c.args.results.now in
-    let next = c.add_command.new.along in
-    let new = c.add_command.new.compiling in
+    let d = c.index-commands-place.result in
     let is = c.index-commands-place.is in
+    let s = state_value l.state in
     record {
-      so_far = one_more r cs l.invariant.so_far c.index-commands-place.result (state_value next.state) next.issues new c.requires.can (search rules) c.add_command.ensures.bins
-          (subst (λ k. TakesCommand r (command_value k) (state_value l.along.state) (state_value next.state) l.along.issues.bits next.issues.bits l.compiling new) is c.in_ok-add_command.ensures.taken)
-          (subst (λ k. IsOpened next.issues (done cs l.place ++ command_value k ∷ [])) is (c.add_command.ensures.opened (done cs l.place) l.invariant.so_far.opened));
+      so_far = one_more (told c.args.results.now) cs l.invariant.so_far d (state_value c.change.new.self) c.note.new.bits c.note.new.begun c.note.new.of_query c.keeps_entry-kept.result c.add_performed.new.compiling c.forget_unless-in-loop-place.new.compiling c.requires.can (search rules) c.add_performed.ensures.bins
+          (subst (λ k. Adds s l.bits (λ opened. performed_items (told c.args.results.now) s opened (command_value k)) l.compiling c.add_performed.new.compiling) is c.in_ok-add_performed.ensures.drawn)
+          c.forget_unless-in-loop-place.ensures.rest
+          c.forget_unless-in-loop-place.ensures.current
+          (λ h. subst (λ k. (s : Settings) (b : ℕ) → entry_of (settings_with (command_value k) s) b ≡ entry_of s b) is (c.keeps_entry-kept.ensures h))
+          (subst (λ k. IsOpened c.note.new.bits c.note.new.begun c.note.new.of_query (done cs l.place ++ command_value k ∷ [])) is (c.note.ensures (done cs l.place) l.invariant.so_far.opened))
+          (subst (λ k. state_value c.change.new.self ≡ settings_with (command_value k) s) is c.change.ensures);
       ahead = c.take_ahead-parts.ensures.rest;
     }
 

@@ -53,9 +53,9 @@ loop-command-preserved g c =
     let s = state_value l.state in
     let results = told c.args.results.now in
     let after = c.trace_performed.new.trace in
-    passed_more results c.args.commands.now c.args.steps c.args.x c.args.y l.command-index l.number c.command-item.result s (state_value c.go_past.new.self) c.args.trace.now l.trace c.add_origins.new.trace after c.origin_of-origin.result (search rules) l.invariant
+    passed_more results c.args.commands.now c.args.steps c.args.x c.args.y l.command-index l.number c.command-item.result s (state_value c.change.new.self) c.args.trace.now l.trace c.add_origins.new.trace after c.origin_of-origin.result (search rules) l.invariant
     (λ opened. subst (λ k. GoesPast (performed_items results s opened (command_value k)) c.args.x c.args.y l.trace.trace after) c.command-item.is (c.in_ok-trace_performed.ensures opened))
-    (subst (λ k. state_value c.go_past.new.self ≡ settings_with (command_value k) s) c.command-item.is c.go_past.ensures)
+    (subst (λ k. state_value c.change.new.self ≡ settings_with (command_value k) s) c.command-item.is c.change.ensures)
     c.in_ok-add_origins.ensures.trace c.in_ok-add_origins.ensures.step c.origin_of-origin.ensures (search rules)
 
 pub returns : goal.returns

@@ -10,9 +10,9 @@ pub invariant_of-result : goal.invariant_of-result
 invariant_of-result g c =
     let k = command_value c.args.command in
     let s = settings_value c.self.inside.settings in
-    let t = settings_value c.go_past.new.settings in
+    let t = settings_value c.change.new.self in
     subst (λ (xs : List Command). IsOpenSegment xs t) (sym (pushed c.self.inside.commands.items c.push.new.self.items c.args.command c.args.self c.self.view_is c.in_ok-push.ensures.items))
-    (still_open c.args.self s t k (subst (λ (xs : List Command). IsOpenSegment xs s) c.self.view_is c.self.invariant) c.requires.follows c.in_ok-go_past.ensures)
+    (still_open c.args.self s t k (subst (λ (xs : List Command). IsOpenSegment xs s) c.self.view_is c.self.invariant) c.requires.follows c.in_ok-change.ensures.ok)
 
 pub returns : goal.returns
 returns g c finished =

@@ -8,11 +8,11 @@ bounds-0 g c = search rules
 pub bounds-0-2 : goal.bounds-0-2
 bounds-0-2 g c = search rules
 
-pub returns-in-Set-clause-value : goal.returns-in-Set-clause-value
-returns-in-Set-clause-value g c = grind (arith, common_steps)
+pub returns-in-Kept-clause-value : goal.returns-in-Kept-clause-value
+returns-in-Kept-clause-value g c = grind (arith, common_steps)
 
-pub returns-in-Set-clause-same : goal.returns-in-Set-clause-same
-returns-in-Set-clause-same g c = grind (arith, common_steps)
+pub returns-in-Kept-clause-same : goal.returns-in-Kept-clause-same
+returns-in-Kept-clause-same g c = grind (arith, common_steps)
 
 pub returns-in_default-clause-value : goal.returns-in_default-clause-value
 returns-in_default-clause-value g c = grind (arith, common_steps)

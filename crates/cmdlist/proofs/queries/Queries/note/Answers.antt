@@ -3,4 +3,5 @@ use Rattle.arrayvec.proofs.ArrayVecLemmas.{filter-from_retain}
 use Rattle.cmdlist.proofs.queries.Queries.note.Goals as goal
 
 pub returns-in-End-clause-opened : goal.returns-in-End-clause-opened
-returns-in-End-clause-opened c = rw c.in-End.is (filter-from_retain _ _ _ (λ x b f' y called. search rules) _ _ c.retain.ensures.filtered)
+returns-in-End-clause-opened g c =
+    rw c.in-End.is (filter-from_retain _ _ _ (λ x b f' y called. search rules) _ _ c.retain.ensures.filtered)
