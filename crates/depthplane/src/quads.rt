@@ -64,12 +64,10 @@ impl ValueQuad {
 fn whole_parts4(lanes: &[u64; 4]) -> [u32; 4]
     ensures { (j : ℕ) → j < 4 → slice_index result j ≡ slice_index lanes.now j / 4294967296 % 4294967296 }
 {
-    let whole = (u64x4::from_array(*lanes) >> u64x4::splat(32)).to_array();
-    let mut parts = [0; 4];
-    for j in 0..4usize {
-        parts[j] = (whole[j] % 4_294_967_296) as u32;
-    }
-    parts
+    let whole = u64x4::from_array(*lanes) >> u64x4::splat(32);
+    (whole & u64x4::splat(4_294_967_295))
+        .cast::<u32>()
+        .to_array()
 }
 
 impl Plane {

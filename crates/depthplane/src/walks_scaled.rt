@@ -56,12 +56,10 @@ impl<'a> Model for ScaledWalks<'a> {
 fn whole_parts(lanes: &[u64; 8]) -> [u32; 8]
     ensures { (j : ℕ) → j < 8 → slice_index result j ≡ slice_index lanes.now j / 4294967296 % 4294967296 }
 {
-    let whole = (u64x8::from_array(*lanes) >> u64x8::splat(32)).to_array();
-    let mut parts = [0; 8];
-    for j in 0..8usize {
-        parts[j] = (whole[j] % 4_294_967_296) as u32;
-    }
-    parts
+    let whole = u64x8::from_array(*lanes) >> u64x8::splat(32);
+    (whole & u64x8::splat(4_294_967_295))
+        .cast::<u32>()
+        .to_array()
 }
 
 /// The lesser of what two values have above whole numbers.
