@@ -12,8 +12,7 @@ use Rattle.command.specs.declared.command.Command.TheVariants as code
 use Rattle.command.specs.Seen.{command_value}
 use Rattle.cmdlist.specs.Drawable.{drawn_by}
 use Rattle.binner.specs.declared.compiling.Compiling.{Compiling}
-use Rattle.binner.specs.Meaning.{entry_of}
-use Rattle.binner.specs.Compiling.{HasCompiled, IsEntry, IsCurrent, CanTake, AddsColor, AddsDepth, Adds}
+use Rattle.binner.specs.Compiling.{HasCompiled, IsSound, AddsColor, AddsDepth, Adds}
 use Rattle.binner.proofs.Growing.{color_means, color_sound, depth_means, depth_sound}
 
 -- a command that doesn't clear adds the triangles that it draws
@@ -35,17 +34,17 @@ drawn_at (code.End v) s opened a b = refl
 drawn_at (code.Kept v) s opened a b = refl
 
 -- nothing is added
-pub adds_nothing : {A : Type 0} (s : Settings) (bits : ℕ) (more : List ℕ → List Item) (k : Compiling A) → ((opened : List ℕ) → more opened ≡ []) → CanTake s bits k → Adds s bits more k k
-adds_nothing s bits more k none can = record {
-  can = can;
+pub adds_nothing : {A : Type 0} (bits : ℕ) (more : List ℕ → List Item) (k : Compiling A) → ((opened : List ℕ) → more opened ≡ []) → IsSound k → Adds bits more k k
+adds_nothing bits more k none sound = record {
+  sound = sound;
   size = refl;
   means = λ items opened are h. subst (HasCompiled k) (sym (ap (λ l. items ++ l) (none opened) ∙ append-nil items)) h;
 }
 
 -- the same items
-pub adds_same : {A : Type 0} {s : Settings} {bits : ℕ} {old new : Compiling A} (f g : List ℕ → List Item) → ((opened : List ℕ) → f opened ≡ g opened) → Adds s bits f old new → Adds s bits g old new
+pub adds_same : {A : Type 0} {bits : ℕ} {old new : Compiling A} (f g : List ℕ → List Item) → ((opened : List ℕ) → f opened ≡ g opened) → Adds bits f old new → Adds bits g old new
 adds_same {new = new} f g is h = record {
-  can = h.can;
+  sound = h.sound;
   size = h.size;
   means = λ items opened are m. subst (λ l. HasCompiled new (items ++ l)) (is opened) (h.means items opened are m);
 }
@@ -55,23 +54,20 @@ pub performed_by : (results : ℕ → Bool) (s : Settings) (c : Command) (b : Bo
 performed_by results s c b is opened = ap (λ w. if w then [] else items_at s opened c) is
 
 -- what isn't withheld is added
-pub adds_performed : {A : Type 0} {s : Settings} {bits : ℕ} {old new : Compiling A} (results : ℕ → Bool) (c : Command) → withholds results s.predicate ≡ false → Adds s bits (λ opened. items_at s opened c) old new → Adds s bits (λ opened. performed_items results s opened c) old new
-adds_performed {s = s} results c is h = adds_same (λ opened. items_at s opened c) (λ opened. performed_items results s opened c) (λ opened. sym (performed_by results s c false is opened)) h
+pub adds_performed : {A : Type 0} (s : Settings) {bits : ℕ} {old new : Compiling A} (results : ℕ → Bool) (c : Command) → withholds results s.predicate ≡ false → Adds bits (λ opened. items_at s opened c) old new → Adds bits (λ opened. performed_items results s opened c) old new
+adds_performed s results c is h = adds_same (λ opened. items_at s opened c) (λ opened. performed_items results s opened c) (λ opened. sym (performed_by results s c false is opened)) h
 
-module _ {A : Type 0} (old new : Compiling A) (s : Settings) (bits : ℕ) (can : CanTake s bits old) where
-  stays_current : new.states.items ≡ old.states.items → new.current ≡ old.current → IsCurrent new s bits
-  stays_current p q n e = subst (λ es. IsEntry es (entry_of s bits) n) (sym p) (can.current n (sym q ∙ e))
-
-  pub adds_color : (rgba : List ℕ) → AddsColor rgba old new → Adds s bits (λ opened. items_at s opened (ClearColor rgba)) old new
+module _ {A : Type 0} (old new : Compiling A) (s : Settings) (bits : ℕ) (sound : IsSound old) where
+  pub adds_color : (rgba : List ℕ) → AddsColor rgba old new → Adds bits (λ opened. items_at s opened (ClearColor rgba)) old new
   adds_color rgba h = record {
-    can = record { sound = color_sound old new rgba h can.sound; current = stays_current h.states h.current };
+    sound = color_sound old new rgba h sound;
     size = h.lists.size;
     means = λ items opened are c. color_means old new rgba items h c;
   }
 
-  pub adds_depth : (v : DepthStencil) → AddsDepth v old new → Adds s bits (λ opened. items_at s opened (ClearDepthStencil v.depth v.stencil)) old new
+  pub adds_depth : (v : DepthStencil) → AddsDepth v old new → Adds bits (λ opened. items_at s opened (ClearDepthStencil v.depth v.stencil)) old new
   adds_depth v h = record {
-    can = record { sound = depth_sound old new v h can.sound; current = stays_current h.states h.current };
+    sound = depth_sound old new v h sound;
     size = h.lists.size;
     means = λ items opened are c. depth_means old new v items h c;
   }

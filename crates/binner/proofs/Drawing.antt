@@ -9,12 +9,12 @@ use Rattle.gfxspec.specs.Recorded.{drawn_items}
 use Rattle.binner.specs.declared.entry.Current.{Current}
 use Rattle.binner.specs.declared.setup.TriSetup.{TriSetup}
 use Rattle.binner.specs.declared.compiling.Compiling.{Compiling}
-use Rattle.binner.specs.Meaning.{IsSetupOf, AreBits, entry_of}
+use Rattle.binner.specs.Meaning.{IsSetupOf, AreBits, DrawsUnder}
 use Rattle.binner.specs.Lists.{at}
 use Rattle.binner.specs.Compiling.{tables, HasCompiled, IsSound, IsEntry, Enters, AddsSetup, Adds}
 use Rattle.gfxspec.proofs.TileLaws.{tile_within}
 use Rattle.binner.proofs.Steps.{skip_listed, small_tile}
-use Rattle.binner.proofs.Growing.{entered_means, entered_sound, setup_means, setup_sound}
+use Rattle.binner.proofs.Growing.{entered_means, entered_sound, same_entry, setup_means, setup_sound}
 
 -- the triangles before `left` are drawn
 pub record Drew {A : Type 0} (old new : Compiling A) (s : Settings) (bits : ℕ) (now : Current) (all left : List Primitive) : Type 0 where
@@ -23,21 +23,23 @@ pub record Drew {A : Type 0} (old new : Compiling A) (s : Settings) (bits : ℕ)
   pub size : new.lists.size ≡ old.lists.size
   pub bins : length new.lists.bins ≡ length old.lists.bins
   pub sound : IsSound new
-  pub place : IsEntry new.states.items (entry_of s bits) now
+  pub is : IsEntry new.states.items now
+  pub draws : DrawsUnder is.entry s bits
   pub current : new.current ≡ Some now
   pub means : (items : List Item) (opened : List ℕ) → AreBits bits opened → HasCompiled old items → HasCompiled new (items ++ drawn_items s opened done)
 
 module _ {A : Type 0} (old : Compiling A) (s : Settings) (bits : ℕ) (now : Current) (all : List Primitive) where
-  pub drew_begin : (new : Compiling A) (left : List Primitive) → left ≡ all → IsSound old → Enters (entry_of s bits) now old new → Drew old new s bits now all left
+  pub drew_begin : (new : Compiling A) (left : List Primitive) → left ≡ all → IsSound old → Enters s bits now old new → Drew old new s bits now all left
   drew_begin new left is sound h = record {
     done = [];
     split = is;
     size = ap (λ l. l.size) h.lists;
     bins = ap (λ l. length l.bins) h.lists;
-    sound = entered_sound old new (entry_of s bits) now h sound;
-    place = h.entry;
+    sound = entered_sound old new s bits now h sound;
+    is = h.is;
+    draws = h.draws;
     current = h.current;
-    means = λ items opened are c. subst (HasCompiled new) (sym (append-nil items)) (entered_means old new (entry_of s bits) now items h c);
+    means = λ items opened are c. subst (HasCompiled new) (sym (append-nil items)) (entered_means old new s bits now items h c);
   }
 
   module _ (mid : Compiling A) (p : Primitive) (left : List Primitive) where
@@ -53,11 +55,12 @@ module _ {A : Type 0} (old : Compiling A) (s : Settings) (bits : ℕ) (now : Cur
       size = a.lists.size ∙ h.size;
       bins = b ∙ h.bins;
       sound = setup_sound mid new setup now a h.sound;
-      place = subst (λ es. IsEntry es (entry_of s bits) now) (sym a.states) h.place;
+      is = same_entry mid.states.items new.states.items now a.states h.is;
+      draws = h.draws;
       current = a.current ∙ h.current;
       means = λ items opened are c.
           subst (HasCompiled new) (pushed items opened h.done)
-          (setup_means mid new setup now p s bits opened (items ++ drawn_items s opened h.done) a h.sound.lists k are h.current h.place (h.means items opened are c));
+          (setup_means mid new setup now p s bits opened (items ++ drawn_items s opened h.done) a h.sound.lists k are h.current h.is h.draws (h.means items opened are c));
     }
 
     pub drew_skip : (whole : List Primitive) → whole ≡ p ∷ left → Drew old mid s bits now all whole → ((x y : ℕ) → x < 4096 → y < 4096 → x < mid.lists.size.width → y < mid.lists.size.height → reaches p s x y ≡ false) → Drew old mid s bits now all left
@@ -67,7 +70,8 @@ module _ {A : Type 0} (old : Compiling A) (s : Settings) (bits : ℕ) (now : Cur
       size = h.size;
       bins = h.bins;
       sound = h.sound;
-      place = h.place;
+      is = h.is;
+      draws = h.draws;
       current = h.current;
       means = λ items opened are c.
           subst (HasCompiled mid) (pushed items opened h.done)
@@ -78,12 +82,9 @@ module _ {A : Type 0} (old : Compiling A) (s : Settings) (bits : ℕ) (now : Cur
   drew_all new left is h items opened are c =
       subst (λ ps. HasCompiled new (items ++ drawn_items s opened ps)) (sym (append-nil h.done) ∙ ap (λ l. h.done ++ l) (sym is) ∙ h.split) (h.means items opened are c)
 
-  pub drew_whole : (new : Compiling A) (left : List Primitive) → left ≡ [] → Drew old new s bits now all left → Adds s bits (λ opened. drawn_items s opened all) old new
+  pub drew_whole : (new : Compiling A) (left : List Primitive) → left ≡ [] → Drew old new s bits now all left → Adds bits (λ opened. drawn_items s opened all) old new
   drew_whole new left is h = record {
-    can = record { sound = h.sound; current = λ n e. subst (IsEntry new.states.items (entry_of s bits)) (same n (sym h.current ∙ e)) h.place };
+    sound = h.sound;
     size = h.size;
     means = drew_all new left is h;
   }
-    where
-      same : (n : Current) → Some now ≡ Some n → now ≡ n
-      same n e = cc

@@ -87,11 +87,14 @@ module _ {A : Type 0} (c : Compiling A) (size : IsTrue (is_size c.lists.size)) (
       none : (n : ℕ) → None ≡ Some n → ⊥
       none n p = cc
 
-  pub fresh : c.triangles.items ≡ [] → c.colors.items ≡ [] → c.depths.items ≡ [] → IsFresh c
-  fresh t u v = record {
-    sound = record { lists = first_lists; short = λ k. no_longer k _; triangles = rw t (omega arith); clears = rw (u, v) (omega arith) };
+  pub fresh : c.current ≡ None → c.triangles.items ≡ [] → c.colors.items ≡ [] → c.depths.items ≡ [] → IsFresh c
+  fresh n t u v = record {
+    sound = record { current = λ now e. absurd (no_entry now (sym n ∙ e)); lists = first_lists; short = λ k. no_longer k _; triangles = rw t (omega arith); clears = rw (u, v) (omega arith) };
     compiled = λ k l. subst (ListMeans (tables c) (tile_rect c.lists.size k) [] c.current) (sym (at_first k)) (nothing_listed (tables c) (tile_rect c.lists.size k) c.current);
   }
+    where
+      no_entry : (now : Current) → None ≡ Some now → ⊥
+      no_entry now p = cc
 
 -- ---- the end
 

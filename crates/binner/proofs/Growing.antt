@@ -1,8 +1,8 @@
 -- A compilation that goes on by one step.
-use Rattle.std.proofs.Common.{◌≡◌, ◌∙◌, ap, sym, subst, refl, arith, ℕ, zero, suc, ◌+◌, ◌*◌, ◌<◌, ◌≤◌, inl, inr, ⊎_elim, List, [], ◌∷◌, ◌++◌, length, Some, None, slice_get, length-append, true, false, Bool}
+use Rattle.std.proofs.Common.{◌≡◌, ◌∙◌, ap, sym, subst, refl, arith, ℕ, zero, suc, ◌+◌, ◌*◌, ◌<◌, ◌≤◌, inl, inr, ⊎_elim, List, [], ◌∷◌, ◌++◌, length, Some, None, slice_get, get_or, length-append, true, false, Bool}
 use Rattle.std.specs.Prelude.{nat_lt, slice_index_or, unwrap_or, not, ◌==◌}
 use Rattle.std.proofs.lemmas.Bool.Decides.{nat_tests}
-use Rattle.std.proofs.lemmas.Option.{slice_get_within}
+use Rattle.std.proofs.lemmas.Option.{slice_get_within, get_or_from_slice_get}
 use Rattle.gfxspec.specs.declared.pixel.DepthStencil.{DepthStencil}
 use Rattle.gfxspec.specs.declared.geometry.PixelRect.{PixelRect}
 use Rattle.gfxspec.specs.State.{Settings}
@@ -15,7 +15,7 @@ use Rattle.binner.specs.declared.entry.Current.{Current}
 use Rattle.binner.specs.declared.setup.TriSetup.{TriSetup}
 use Rattle.binner.specs.declared.lists.Lists.{Lists}
 use Rattle.binner.specs.declared.compiling.Compiling.{Compiling}
-use Rattle.binner.specs.Meaning.{Keeps, IsSetupOf, AreBits, entry_of}
+use Rattle.binner.specs.Meaning.{Keeps, IsSetupOf, AreBits, DrawsUnder, entry_of}
 use Rattle.binner.specs.Program.{program}
 use Rattle.binner.specs.Lists.{TileList, at, IsLists, IsShort, EachChanges, TakesTriangle, TakesClear, drawn_behind}
 use Rattle.binner.specs.Compiling.{tables, ListMeans, HasCompiled, IsSound, IsEntry, Enters, AddsSetup, AddsColor, AddsDepth}
@@ -25,24 +25,52 @@ use Rattle.binner.proofs.Steps.{triangle_listed, color_listed, depth_listed, lis
 more_or_same : {A : Type 0} (xs ys zs : List A) → ys ≡ xs ++ zs → (n : ℕ) (x : A) → slice_get xs n ≡ Some x → slice_get ys n ≡ Some x
 more_or_same xs ys zs e n x h = ap (λ l. slice_get l n) e ∙ get_more xs zs n x h
 
-same_get : {A : Type 0} (xs ys : List A) → ys ≡ xs → (n : ℕ) (x : A) → slice_get xs n ≡ Some x → slice_get ys n ≡ Some x
+pub same_get : {A : Type 0} (xs ys : List A) → ys ≡ xs → (n : ℕ) (x : A) → slice_get xs n ≡ Some x → slice_get ys n ≡ Some x
 same_get xs ys e n x h = ap (λ l. slice_get l n) e ∙ h
 
 at_end : {A : Type 0} (xs ys : List A) (x : A) → ys ≡ xs ++ x ∷ [] → slice_get ys (length xs) ≡ Some x
 at_end xs ys x e = ap (λ l. slice_get l (length xs)) e ∙ new_place xs x
 
--- an entry that is new
-pub new_entry : (old new : List StateEntry) (e : StateEntry) (n first : ℕ) → n ≡ length old → new ≡ old ++ e ∷ [] → IsEntry new e (record { entry = n; first = first; counted = not (e.issues == 0) })
-new_entry old new e n first is items = record { place = ap (slice_get new) is ∙ at_end old new e items; uncounted = none e.issues }
-  where
-    none : (k : ℕ) → not (k == 0) ≡ false → k ≡ 0
-    none k h = grind (arith, nat_tests)
+-- the same entry, in a table that didn't change
+abbrev pub same_entry : (old new : List StateEntry) (now : Current) → new ≡ old → IsEntry old now → IsEntry new now
+same_entry old new now is i = record { entry = i.entry; place = same_get old new is now.entry i.entry i.place; uncounted = i.uncounted }
 
 -- ---- what is compiled
 
+-- the current entry, under which triangles are drawn alike
+pub same_enters : {A : Type 0} (old : Compiling A) (s : Settings) (bits : ℕ) (now : Current) (e : StateEntry) → IsSound old → old.current ≡ Some now → e ≡ get_or old.states.items now.entry e → DrawsUnder e s bits → Enters s bits now old old
+same_enters old s bits now e sound c read draws =
+    let i = sound.current now c in
+    record {
+      is = i;
+      draws = subst (λ x. DrawsUnder x s bits) (read ∙ get_or_from_slice_get old.states.items now.entry i.entry e i.place) draws;
+      current = c;
+      states = inl (c, refl);
+      lists = refl;
+      triangles = refl;
+      colors = refl;
+      depths = refl;
+    }
+
 module _ {A : Type 0} (old new : Compiling A) where
-  pub entered_means : (e : StateEntry) (s : Current) (items : List Item) → Enters e s old new → HasCompiled old items → HasCompiled new items
-  entered_means e s items h all =
+  -- an entry that is new
+  pub new_enters : (s : Settings) (bits : ℕ) (now : Current) → now.entry ≡ length old.states.items → now.first ≡ length old.triangles.items → now.counted ≡ not (bits == 0) → new.current ≡ Some now → new.states.items ≡ old.states.items ++ entry_of s bits ∷ [] → new.lists ≡ old.lists → new.triangles.items ≡ old.triangles.items → new.colors.items ≡ old.colors.items → new.depths.items ≡ old.depths.items → Enters s bits now old new
+  new_enters s bits now place first counted c states lists triangles colors depths = record {
+    is = record { entry = entry_of s bits; place = ap (slice_get new.states.items) place ∙ at_end old.states.items new.states.items (entry_of s bits) states; uncounted = λ h. none bits (sym counted ∙ h) };
+    draws = record { scissor = λ x y. refl; depth_stencil = refl; reference = refl; blend = refl; issues = refl };
+    current = c;
+    states = inr (first, states);
+    lists = lists;
+    triangles = triangles;
+    colors = colors;
+    depths = depths;
+  }
+    where
+      none : (k : ℕ) → not (k == 0) ≡ false → k ≡ 0
+      none k h = grind (arith, nat_tests)
+
+  pub entered_means : (t : Settings) (bits : ℕ) (s : Current) (items : List Item) → Enters t bits s old new → HasCompiled old items → HasCompiled new items
+  entered_means t bits s items h all =
       subst (λ ls. (k : ℕ) → k < tile_count ls.size → ListMeans (tables new) (tile_rect ls.size k) items new.current (at ls k)) (sym h.lists)
       (λ k l. list_kept (tables old) (tables new) (tile_rect old.lists.size k) items new.current (at old.lists k) kept
       (list_entered (tables old) (tile_rect old.lists.size k) items old.current new.current (at old.lists k) (was k l) (all k l)))
@@ -64,11 +92,11 @@ module _ {A : Type 0} (old new : Compiling A) where
         depths = same_get _ _ h.depths;
       }
 
-  pub setup_means : (setup : TriSetup) (now : Current) (p : Primitive) (s : Settings) (bits : ℕ) (opened : List ℕ) (items : List Item) → AddsSetup setup now old new → IsLists old.lists → IsSetupOf setup p s → AreBits bits opened → old.current ≡ Some now → IsEntry old.states.items (entry_of s bits) now → HasCompiled old items → HasCompiled new (items ++ Drawn p s opened ∷ [])
-  setup_means setup now p s bits opened items h sound is are c e all =
+  pub setup_means : (setup : TriSetup) (now : Current) (p : Primitive) (s : Settings) (bits : ℕ) (opened : List ℕ) (items : List Item) → AddsSetup setup now old new → IsLists old.lists → IsSetupOf setup p s → AreBits bits opened → old.current ≡ Some now → (i : IsEntry old.states.items now) → DrawsUnder i.entry s bits → HasCompiled old items → HasCompiled new (items ++ Drawn p s opened ∷ [])
+  setup_means setup now p s bits opened items h sound is are c i u all =
       subst (λ z. (k : ℕ) → k < tile_count z → ListMeans (tables new) (tile_rect z k) (items ++ Drawn p s opened ∷ []) new.current (at new.lists k)) (sym h.lists.size)
       (λ k l. triangle_listed setup p s is (tables new) (tile_rect old.lists.size k) items new.current opened bits now (length old.triangles.items) (at old.lists k) (at new.lists k)
-      (small_tile old.lists.size k sound.size) are (h.current ∙ c) (subst (λ es. IsEntry es (entry_of s bits) now) (sym h.states) e) (at_end _ _ setup h.triangles) (h.lists.each k l)
+      (small_tile old.lists.size k sound.size) are (h.current ∙ c) (same_entry old.states.items new.states.items now h.states i) u (at_end _ _ setup h.triangles) (h.lists.each k l)
       (subst (λ z. ListMeans (tables new) (tile_rect old.lists.size k) items z (at old.lists k)) (sym h.current)
       (list_kept (tables old) (tables new) (tile_rect old.lists.size k) items old.current (at old.lists k) kept (all k l))))
     where
@@ -143,22 +171,30 @@ taken_longer setup r s number o n (inl m) = subst (Longer 2 o) (sym m.same) (ome
 taken_longer setup r s number o n (inr a) = added_longer setup.plane.triangle r s number o n a
 
 module _ {A : Type 0} (old new : Compiling A) where
-  pub entered_sound : (e : StateEntry) (n : Current) → Enters e n old new → IsSound old → IsSound new
-  entered_sound e n h k = record {
+  pub entered_sound : (t : Settings) (bits : ℕ) (n : Current) → Enters t bits n old new → IsSound old → IsSound new
+  entered_sound t bits n h k = record {
+    current = λ z e. subst (IsEntry new.states.items) (the_same n z (sym h.current ∙ e)) h.is;
     lists = subst IsLists (sym h.lists) k.lists;
     short = λ j. same _ _ _ _ (ap (λ l. length (at l j).numbers) h.lists) (ap length h.triangles) (ap length h.colors) (ap length h.depths) (k.short j);
     triangles = rw h.triangles k.triangles;
     clears = rw (h.colors, h.depths) k.clears;
   }
     where
+      the_same : (a b : Current) → Some a ≡ Some b → a ≡ b
+      the_same a b e = cc
+
       same : {x t c d : ℕ} (y u b a : ℕ) → y ≡ x → u ≡ t → b ≡ c → a ≡ d → x ≤ 2 * t + (c + d) → y ≤ 2 * u + (b + a)
       same y u b a p q r s h = omega arith
+
+  stays_current : new.states.items ≡ old.states.items → new.current ≡ old.current → IsSound old → (z : Current) → new.current ≡ Some z → IsEntry new.states.items z
+  stays_current p q k z e = same_entry old.states.items new.states.items z p (k.current z (sym q ∙ e))
 
   budget : (t c d u b a : ℕ) (l : Lists A) (m : ℕ) → IsShort (2 * t + (c + d) + m) l → 2 * t + (c + d) + m ≡ 2 * u + (b + a) → IsShort (2 * u + (b + a)) l
   budget t c d u b a l m h e = subst (λ n. IsShort n l) e h
 
   pub setup_sound : (setup : TriSetup) (entry : Current) → AddsSetup setup entry old new → IsSound old → IsSound new
   setup_sound setup entry h k = record {
+    current = stays_current h.states h.current k;
     lists = h.sound;
     short = budget _ _ _ _ _ _ new.lists 2
         (grown_short (λ j. TakesTriangle setup.plane.triangle setup.bounds (tile_rect old.lists.size j) entry (length old.triangles.items)) old.lists new.lists _ 2 (λ j o w p. taken_longer setup (tile_rect old.lists.size j) entry (length old.triangles.items) o w p) h.sound h.lists k.short)
@@ -172,6 +208,7 @@ module _ {A : Type 0} (old new : Compiling A) where
 
   pub color_sound : (rgba : List ℕ) → AddsColor rgba old new → IsSound old → IsSound new
   color_sound rgba h k = record {
+    current = stays_current h.states h.current k;
     lists = h.sound;
     short = budget _ _ _ _ _ _ new.lists 1
         (grown_short (λ j. TakesClear (ClearC (length old.colors.items))) old.lists new.lists _ 1 (λ j o w p. cleared_longer (ClearC (length old.colors.items)) o w p) h.sound h.lists k.short)
@@ -185,6 +222,7 @@ module _ {A : Type 0} (old new : Compiling A) where
 
   pub depth_sound : (v : DepthStencil) → AddsDepth v old new → IsSound old → IsSound new
   depth_sound v h k = record {
+    current = stays_current h.states h.current k;
     lists = h.sound;
     short = budget _ _ _ _ _ _ new.lists 1
         (grown_short (λ j. TakesClear (ClearDs (length old.depths.items))) old.lists new.lists _ 1 (λ j o w p. cleared_longer (ClearDs (length old.depths.items)) o w p) h.sound h.lists k.short)

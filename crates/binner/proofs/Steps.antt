@@ -23,7 +23,7 @@ use Rattle.binner.specs.declared.entry.StateEntry.{StateEntry}
 use Rattle.binner.specs.declared.setup.TriSetup.{TriSetup}
 use Rattle.binner.specs.declared.entry.Current.{Current}
 use Rattle.binner.specs.Program.{Tables, program, force_after, force_behind}
-use Rattle.binner.specs.Meaning.{Decode, Means, Keeps, IsSetupOf, IsSkipped, AreBits, entry_of}
+use Rattle.binner.specs.Meaning.{Decode, Means, Keeps, IsSetupOf, IsSkipped, AreBits, DrawsUnder}
 use Rattle.binner.specs.Cuts.{IsUncounted, AreUncounted}
 use Rattle.binner.specs.Lists.{TileList, drawn_after, drawn_behind, GainsWord, PutsInForce, with_triangle, TakesTriangle, TakesClear}
 use Rattle.binner.specs.Compiling.{ListMeans, IsEntry}
@@ -126,14 +126,14 @@ module _ (t : Tables) (r : PixelRect) where
     stands = l.stands;
   })
 
-  pub tri_listed : (items : List Item) (current : Option Current) (number : ℕ) (mask : EdgeMask) (setup : TriSetup) (p : Primitive) (s : Settings) (bits : ℕ) (opened : List ℕ) (now : Current) (o n : TileList) → current ≡ Some now → IsEntry t.states (entry_of s bits) now → slice_get t.triangles number ≡ Some setup → IsSetupOf setup p s → AreBits bits opened → IsClassOf (Cut (edge_bits mask)) setup.plane.triangle r → forced o.numbers ≡ Some (entry_of s bits) → n ≡ with_triangle (Tri number mask) now.counted o → decoded (encoded (Tri number mask)) ≡ Some (Tri number mask) → ListMeans t r items current o → ListMeans t r (items ++ Drawn p s opened ∷ []) current n
-  tri_listed items current number mask setup p s bits opened now o n c i place k are class f is d l =
+  pub tri_listed : (items : List Item) (current : Option Current) (number : ℕ) (mask : EdgeMask) (setup : TriSetup) (p : Primitive) (s : Settings) (bits : ℕ) (opened : List ℕ) (now : Current) (o n : TileList) → current ≡ Some now → (i : IsEntry t.states now) → DrawsUnder i.entry s bits → slice_get t.triangles number ≡ Some setup → IsSetupOf setup p s → AreBits bits opened → IsClassOf (Cut (edge_bits mask)) setup.plane.triangle r → forced o.numbers ≡ Some i.entry → n ≡ with_triangle (Tri number mask) now.counted o → decoded (encoded (Tri number mask)) ≡ Some (Tri number mask) → ListMeans t r items current o → ListMeans t r (items ++ Drawn p s opened ∷ []) current n
+  tri_listed items current number mask setup p s bits opened now o n c i u place k are class f is d l =
       word_listed items (Drawn p s opened ∷ []) current (Tri number mask) (o.counted || now.counted) o n is d
-      (subst (λ z. Means t r z z (Drawn p s opened ∷ []) (Tri number mask ∷ [])) (sym f) (tri_means t r number mask setup p s bits opened place k are class))
+      (subst (λ z. Means t r z z (Drawn p s opened ∷ []) (Tri number mask ∷ [])) (sym f) (tri_means t r number mask setup p s bits opened i.entry u place k are class))
       (λ q. (left o.counted now.counted q, subst (λ z. IsUncounted z (Tri number mask)) (sym f) (i.uncounted (right o.counted now.counted q))))
       (record {
         below = λ j q. (setup, ap (slice_get t.triangles) (sym (same number j q)) ∙ place);
-        stands = λ z j e q le. (entry_of s bits, ap (λ (a : Current). slice_get t.states a.entry) (same_current now z (sym c ∙ e)) ∙ i.place, f);
+        stands = λ z j e q le. (i.entry, ap (λ (a : Current). slice_get t.states a.entry) (same_current now z (sym c ∙ e)) ∙ i.place, f);
       }) l
     where
       left : (a b : Bool) → (a || b) ≡ false → a ≡ false
@@ -231,12 +231,12 @@ module _ (setup : TriSetup) (p : Primitive) (s : Settings) (k : IsSetupOf setup 
       let n = small x y inside in
       not_reached x y (sym (k.reach x y n.0 n.1) ∙ none_covered (is_in_rect setup.bounds x y) (h x y inside) (covers setup.plane.triangle (centre x y)))
 
-  pub triangle_listed : (t : Tables) (r : PixelRect) (items : List Item) (current : Option Current) (opened : List ℕ) (bits : ℕ) (now : Current) (number : ℕ) (o n : TileList) → ((x y : ℕ) → IsIn r x y → (x < 4096) × (y < 4096)) → AreBits bits opened → current ≡ Some now → IsEntry t.states (entry_of s bits) now → slice_get t.triangles number ≡ Some setup → TakesTriangle setup.plane.triangle setup.bounds r now number o n → ListMeans t r items current o → ListMeans t r (items ++ Drawn p s opened ∷ []) current n
-  triangle_listed t r items current opened bits now number o n small are c e place (inl m) l = skip_listed t r items current p s opened o n (missed_skipped r small m.nowhere) m.same l
-  triangle_listed t r items current opened bits now number o n small are c e place (inr (inl m)) l = skip_listed t r items current p s opened o n (outside_skipped r m.outside) m.same l
-  triangle_listed t r items current opened bits now number o n small are c e place (inr (inr m)) l =
-      let f = forced_listed t r items current now (entry_of s bits) o m.mid c e.place m.forced l in
-      tri_listed t r items current number m.mask setup p s bits opened now m.mid n c e place k are m.class f.1 m.drawn m.decodes f.0
+  pub triangle_listed : (t : Tables) (r : PixelRect) (items : List Item) (current : Option Current) (opened : List ℕ) (bits : ℕ) (now : Current) (number : ℕ) (o n : TileList) → ((x y : ℕ) → IsIn r x y → (x < 4096) × (y < 4096)) → AreBits bits opened → current ≡ Some now → (i : IsEntry t.states now) → DrawsUnder i.entry s bits → slice_get t.triangles number ≡ Some setup → TakesTriangle setup.plane.triangle setup.bounds r now number o n → ListMeans t r items current o → ListMeans t r (items ++ Drawn p s opened ∷ []) current n
+  triangle_listed t r items current opened bits now number o n small are c i u place (inl m) l = skip_listed t r items current p s opened o n (missed_skipped r small m.nowhere) m.same l
+  triangle_listed t r items current opened bits now number o n small are c i u place (inr (inl m)) l = skip_listed t r items current p s opened o n (outside_skipped r m.outside) m.same l
+  triangle_listed t r items current opened bits now number o n small are c i u place (inr (inr m)) l =
+      let f = forced_listed t r items current now i.entry o m.mid c i.place m.forced l in
+      tri_listed t r items current number m.mask setup p s bits opened now m.mid n c i u place k are m.class f.1 m.drawn m.decodes f.0
 
 -- ---- tables that grow
 

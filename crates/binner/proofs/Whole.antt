@@ -1,5 +1,5 @@
 -- A list, command by command.
-use Rattle.std.proofs.Common.{◌≡◌, ◌∙◌, ap, sym, subst, refl, arith, Bool, false, true≢false, ℕ, ◌+◌, ◌<◌, ◌≤◌, IsTrue, List, [], ◌∷◌, ◌++◌, length, map, get_or, Some, length-append, append_assoc, append-nil}
+use Rattle.std.proofs.Common.{◌≡◌, ◌∙◌, ap, sym, subst, refl, arith, Bool, ℕ, ◌+◌, ◌<◌, ◌≤◌, List, [], ◌∷◌, ◌++◌, length, map, get_or, length-append, append_assoc, append-nil}
 use Rattle.std.proofs.lemmas.List.{take_all}
 use Rattle.gfxspec.specs.State.{Settings}
 use Rattle.gfxspec.specs.Commands.{Command, Begin}
@@ -13,14 +13,9 @@ use Rattle.command.specs.declared.command.Command.{Command as Code}
 use Rattle.command.specs.Seen.{command_value}
 use Rattle.cmdlist.specs.Drawable.{IsDrawable}
 use Rattle.gfxspec.specs.Items.{Item}
-use Rattle.gfxspec.specs.Tiles.{tile_count, tile_rect}
-use Rattle.binner.specs.declared.entry.Current.{Current}
 use Rattle.binner.specs.declared.compiling.Compiling.{Compiling}
-use Rattle.binner.specs.Meaning.{entry_of}
-use Rattle.binner.specs.Lists.{at, IsLists}
 use Rattle.binner.specs.Opened.{IsOpened, CanNote}
-use Rattle.binner.specs.Compiling.{tables, ListMeans, HasCompiled, IsSound, IsEntry, CanTake, Adds, AddsList, SameTables, CanCompile}
-use Rattle.binner.proofs.Steps.{list_entered}
+use Rattle.binner.specs.Compiling.{HasCompiled, IsSound, Adds, AddsList, CanCompile}
 use Rattle.binner.proofs.Accepted.{done, done_more, stands_at}
 
 -- of the first i commands those that are performed are compiled behind what was there, and this is the state behind them
@@ -30,25 +25,8 @@ pub record SoFar {A : Type 0} (results : ℕ → Bool) (cs : List (Code A)) (i :
   pub few : begun ≤ 64
   pub size : now.lists.size ≡ start.lists.size
   pub bins : length now.lists.bins ≡ length start.lists.bins
-  pub can : CanTake s bits now
+  pub sound : IsSound now
   pub means : (is : List Item) → HasCompiled start is → HasCompiled now (is ++ items (performed results (done cs i)))
-
-kept_sound : {A : Type 0} (old new : Compiling A) → SameTables old new → IsSound old → IsSound new
-kept_sound old new h k = record {
-  lists = subst IsLists (sym h.lists) k.lists;
-  short = rw (h.lists, h.triangles, h.colors, h.depths) k.short;
-  triangles = rw h.triangles k.triangles;
-  clears = rw (h.colors, h.depths) k.clears;
-}
-
-kept_means : {A : Type 0} (old new : Compiling A) → SameTables old new → ((n : Current) → new.current ≡ Some n → old.current ≡ Some n) → (is : List Item) → HasCompiled old is → HasCompiled new is
-kept_means old new h cur is m =
-    subst (λ l. (k : ℕ) → k < tile_count l.size → ListMeans (tables new) (tile_rect l.size k) is new.current (at l k)) (sym h.lists)
-    (λ k b. subst (λ t. ListMeans t (tile_rect old.lists.size k) is new.current (at old.lists k)) same
-    (list_entered (tables old) (tile_rect old.lists.size k) is old.current new.current (at old.lists k) (λ z n c q le. cur z c) (m k b)))
-  where
-    same : tables old ≡ tables new
-    same = rw (h.states, h.triangles, h.colors, h.depths) refl
 
 issues_few : (is : List ℕ) (c : Command) → CanNote (length is) c → length is ≤ 64 → length (is ++ issues (c ∷ [])) ≤ 64
 issues_few is c can h = let e = length-append is (issues (c ∷ [])) in let k = one c can h in omega (arith, e, k)
@@ -58,15 +36,15 @@ issues_few is c can h = let e = length-append is (issues (c ∷ [])) in let k = 
     one c can h = omega (arith, h)
 
 module _ {A : Type 0} (results : ℕ → Bool) (cs : List (Code A)) where
-  pub so_far : (s : Settings) (of_query : List ℕ) (start now : Compiling A) → s ≡ settings_after [] → IsOpened 0 0 of_query [] → IsSound start → SameTables start now → ((n : Current) → now.current ≡ Some n → IsTrue false) → SoFar results cs 0 s 0 0 of_query start now
-  so_far s of_query start now e o sound same none = record {
+  pub so_far : (s : Settings) (of_query : List ℕ) (start : Compiling A) → s ≡ settings_after [] → IsOpened 0 0 of_query [] → IsSound start → SoFar results cs 0 s 0 0 of_query start start
+  so_far s of_query start e o sound = record {
     state = e;
     opened = o;
     few = omega arith;
-    size = ap (λ l. l.size) same.lists;
-    bins = ap (λ l. length l.bins) same.lists;
-    can = record { sound = kept_sound start now same sound; current = λ n h. absurd (true≢false (sym (none n h))) };
-    means = λ is m. subst (HasCompiled now) (sym (append-nil is)) (kept_means start now same (λ n h. absurd (true≢false (sym (none n h)))) is m);
+    size = refl;
+    bins = refl;
+    sound = sound;
+    means = λ is m. subst (HasCompiled start) (sym (append-nil is)) m;
   }
 
   module _ {i : ℕ} {s : Settings} {bits begun : ℕ} {of_query : List ℕ} {start now : Compiling A} (h : SoFar results cs i s bits begun of_query start now) where
@@ -76,8 +54,8 @@ module _ {A : Type 0} (results : ℕ → Bool) (cs : List (Code A)) where
         let k = stands_at cs i d can l in
         (subst (λ t. IsDrawable t c) (sym h.state) k.drawable, subst (λ n. CanNote n c) (sym h.opened.count) k.note)
 
-    pub one_more : (d : Code A) (t : Settings) (bits' begun' : ℕ) (of_query' : List ℕ) (kept : Bool) (mid new : Compiling A) → CanCompile [] (map command_value cs) → i < length cs → length mid.lists.bins ≡ length now.lists.bins → Adds s bits (λ opened. performed_items results s opened (command_value (get_or cs i d))) now mid → SameTables mid new → ((n : Current) → new.current ≡ Some n → IsTrue kept × (bits ≡ bits') × (mid.current ≡ Some n)) → (IsTrue kept → (s : Settings) (b : ℕ) → entry_of (settings_with (command_value (get_or cs i d)) s) b ≡ entry_of s b) → IsOpened bits' begun' of_query' (done cs i ++ command_value (get_or cs i d) ∷ []) → t ≡ settings_with (command_value (get_or cs i d)) s → SoFar results cs (i + 1) t bits' begun' of_query' start new
-    one_more d t bits' begun' of_query' kept mid new can l b m same cur keeps o e =
+    pub one_more : (d : Code A) (t : Settings) (bits' begun' : ℕ) (of_query' : List ℕ) (new : Compiling A) → CanCompile [] (map command_value cs) → i < length cs → length new.lists.bins ≡ length now.lists.bins → Adds bits (λ opened. performed_items results s opened (command_value (get_or cs i d))) now new → IsOpened bits' begun' of_query' (done cs i ++ command_value (get_or cs i d) ∷ []) → t ≡ settings_with (command_value (get_or cs i d)) s → SoFar results cs (i + 1) t bits' begun' of_query' start new
+    one_more d t bits' begun' of_query' new can l b m o e =
         let c = command_value (get_or cs i d) in
         let xs = done cs i in
         let more = done_more cs i d l in
@@ -85,23 +63,16 @@ module _ {A : Type 0} (results : ℕ → Bool) (cs : List (Code A)) where
           state = e ∙ ap (settings_with c) h.state ∙ sym (settings_after-push xs c) ∙ ap settings_after (sym more);
           opened = subst (IsOpened bits' begun' of_query') (sym more) o;
           few = subst (λ n. n ≤ 64) (sym (o.count ∙ ap length (issues-push xs c))) (issues_few (issues xs) c (stands_at cs i d can l).note (subst (λ n. n ≤ 64) h.opened.count h.few));
-          size = ap (λ k. k.size) same.lists ∙ m.size ∙ h.size;
-          bins = ap (λ k. length k.bins) same.lists ∙ b ∙ h.bins;
-          can = record {
-            sound = kept_sound mid new same m.can.sound;
-            current = λ n q.
-                let k = cur n q in
-                let is = ap (entry_of s) k.1 ∙ sym (keeps k.0 s bits') ∙ ap (λ u. entry_of u bits') (sym e) in
-                subst (λ v. IsEntry v.items (entry_of t bits') n) (sym same.states) (subst (λ x. IsEntry mid.states.items x n) is (m.can.current n k.2));
-          };
+          size = m.size ∙ h.size;
+          bins = b ∙ h.bins;
+          sound = m.sound;
           means = λ is k.
-              kept_means mid new same (λ n q. (cur n q).2) (is ++ items (performed results (done cs (i + 1))))
-              (subst (HasCompiled mid)
+              subst (HasCompiled new)
               (append_assoc is (items (performed results xs)) (performed_items results s (open_after xs) c)
               ∙ ap (λ js. is ++ js)
               (ap (λ u. items (performed results xs) ++ performed_items results u (open_after xs) c) h.state
               ∙ sym (items_performed-push results xs c) ∙ ap (λ ys. items (performed results ys)) (sym more)))
-              (m.means (is ++ items (performed results xs)) (open_after xs) h.opened.open_bits (h.means is k)));
+              (m.means (is ++ items (performed results xs)) (open_after xs) h.opened.open_bits (h.means is k));
         }
 
     pub all_added : length cs ≡ i → AddsList results (map command_value cs) begun start now
@@ -111,6 +82,6 @@ module _ {A : Type 0} (results : ℕ → Bool) (cs : List (Code A)) where
           begun_are = h.opened.count ∙ ap (λ ds. length (issues (map command_value ds))) whole;
           few = h.few;
           size = h.size;
-          sound = h.can.sound;
+          sound = h.sound;
           means = λ is m. subst (λ ds. HasCompiled now (is ++ items (performed results (map command_value ds)))) whole (h.means is m);
         }

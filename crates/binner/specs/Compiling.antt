@@ -15,7 +15,7 @@ use Rattle.binner.specs.declared.entry.Current.{Current}
 use Rattle.binner.specs.declared.setup.TriSetup.{TriSetup}
 use Rattle.binner.specs.declared.compiling.Compiling.{Compiling}
 use Rattle.binner.specs.Program.{Tables, program, force_behind}
-use Rattle.binner.specs.Meaning.{Decode, Means, AreBits, entry_of}
+use Rattle.binner.specs.Meaning.{Decode, Means, AreBits, DrawsUnder}
 use Rattle.binner.specs.Compiled.{Compilation}
 use Rattle.binner.specs.Opened.{CanNote}
 use Rattle.binner.specs.Cuts.{AreUncounted}
@@ -37,33 +37,28 @@ abbrev pub HasCompiled : {A : Type 0} → Compiling A → List Item → Type 0
 HasCompiled c items =
     (k : ℕ) → k < tile_count c.lists.size → ListMeans (tables c) (tile_rect c.lists.size k) items c.current (at c.lists k)
 
+-- what names the current entry names one of the table
+pub record IsEntry (states : List StateEntry) (now : Current) : Type 0 where
+  pub entry : StateEntry
+  pub place : slice_get states now.entry ≡ Some entry
+  pub uncounted : now.counted ≡ false → entry.issues ≡ 0
+
 -- no list has more words than two for each triangle and one for each clear, and there are no more of them than 65,536
 pub record IsSound {A : Type 0} (c : Compiling A) : Type 0 where
+  pub current : (now : Current) → c.current ≡ Some now → IsEntry c.states.items now
   pub lists : IsLists c.lists
   pub short : IsShort (2 * length c.triangles.items + (length c.colors.items + length c.depths.items)) c.lists
   pub triangles : length c.triangles.items ≤ 65536
   pub clears : length c.colors.items + length c.depths.items ≤ 65536
 
--- the current entry is that of the state
-pub record IsEntry (states : List StateEntry) (e : StateEntry) (s : Current) : Type 0 where
-  pub place : slice_get states s.entry ≡ Some e
-  pub uncounted : s.counted ≡ false → e.issues ≡ 0
-
-abbrev pub IsCurrent : {A : Type 0} → Compiling A → Settings → ℕ → Type 0
-IsCurrent c s issues = (now : Current) → c.current ≡ Some now → IsEntry c.states.items (entry_of s issues) now
-
--- more can be added under these settings, with these issues open
-pub record CanTake {A : Type 0} (s : Settings) (bits : ℕ) (c : Compiling A) : Type 0 where
-  pub sound : IsSound c
-  pub current : IsCurrent c s bits
-
 -- ---- steps
 
--- it is the current one; it may be new
-pub record Enters {A : Type 0} (e : StateEntry) (s : Current) (old new : Compiling A) : Type 0 where
-  pub entry : IsEntry new.states.items e s
-  pub current : new.current ≡ Some s
-  pub states : ((old.current ≡ Some s) × (new.states.items ≡ old.states.items)) ⊎ ((s.first ≡ length old.triangles.items) × (new.states.items ≡ old.states.items ++ e ∷ []))
+-- the current entry is one under which triangles are drawn as under these settings, with these issues open; it may be new
+pub record Enters {A : Type 0} (s : Settings) (bits : ℕ) (now : Current) (old new : Compiling A) : Type 0 where
+  pub is : IsEntry new.states.items now
+  pub draws : DrawsUnder is.entry s bits
+  pub current : new.current ≡ Some now
+  pub states : ((old.current ≡ Some now) × (new.states.items ≡ old.states.items)) ⊎ ((now.first ≡ length old.triangles.items) × (new.states.items ≡ old.states.items ++ is.entry ∷ []))
   pub lists : new.lists ≡ old.lists
   pub triangles : new.triangles.items ≡ old.triangles.items
   pub colors : new.colors.items ≡ old.colors.items
@@ -99,19 +94,11 @@ pub record AddsDepth {A : Type 0} (value : DepthStencil) (old new : Compiling A)
   pub depths : new.depths.items ≡ old.depths.items ++ value ∷ []
   pub current : new.current ≡ old.current
 
--- what was added under these settings, with these issues open, means these items
-pub record Adds {A : Type 0} (s : Settings) (bits : ℕ) (more : List ℕ → List Item) (old new : Compiling A) : Type 0 where
-  pub can : CanTake s bits new
+-- what was added with these issues open, as bits, means these items
+pub record Adds {A : Type 0} (bits : ℕ) (more : List ℕ → List Item) (old new : Compiling A) : Type 0 where
+  pub sound : IsSound new
   pub size : new.lists.size ≡ old.lists.size
   pub means : (items : List Item) (opened : List ℕ) → AreBits bits opened → HasCompiled old items → HasCompiled new (items ++ more opened)
-
--- all but the current entry
-pub record SameTables {A : Type 0} (old new : Compiling A) : Type 0 where
-  pub lists : new.lists ≡ old.lists
-  pub states : new.states ≡ old.states
-  pub triangles : new.triangles ≡ old.triangles
-  pub colors : new.colors ≡ old.colors
-  pub depths : new.depths ≡ old.depths
 
 -- ---- lists
 

@@ -72,6 +72,14 @@ abbrev pub entry_of : Settings → ℕ → StateEntry
 entry_of s issues =
     record { raster = s.raster; scissor = s.scissor; depth_stencil = s.depth_stencil; reference = s.reference; blend = s.blend; issues = issues }
 
+-- Under this entry triangles that are made ready are drawn as under these settings, with these issues open as bits. Culling, facing and the bias may differ, since they were heeded before.
+pub record DrawsUnder (e : StateEntry) (s : Settings) (bits : ℕ) : Type 0 where
+  pub scissor : (x y : ℕ) → lets_through e x y ≡ in_scissor s x y
+  pub depth_stencil : e.depth_stencil ≡ s.depth_stencil
+  pub reference : e.reference ≡ s.reference
+  pub blend : e.blend ≡ s.blend
+  pub issues : e.issues ≡ bits
+
 -- the bits are the open issues
 abbrev pub AreBits : ℕ → List ℕ → Type 0
 AreBits bits opened = (k : ℕ) → k < 64 → (bit_at bits k == 1) ≡ list_any (λ j. j == k) opened

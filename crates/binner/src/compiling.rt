@@ -2,20 +2,17 @@
 
 ghost use Rattle.std.specs.Prelude.{◌≡◌, ◌<◌, ◌+◌, [], ℕ, List, map, length, IsTrue, IfOk, IfSome, OnOk, Some, All};
 ghost use Rattle.std.specs.List.{list_all};
-ghost use Rattle.gfxspec.specs.State.{Settings};
 ghost use Rattle.gfxspec.specs.Refusals.{is_in_range};
 ghost use Rattle.gfxspec.specs.Recorded.{drawn_items};
-ghost use Rattle.meaning.specs.OneMore.{settings_with, performed_items};
+ghost use Rattle.meaning.specs.OneMore.{performed_items};
 ghost use Rattle.assemble.specs.Drawing.{IsInRange, triangles_of};
 ghost use Rattle.command.specs.Seen.{state_value, command_value};
 ghost use Rattle.cmdlist.specs.Drawable.{IsDrawable, drawn_by, told};
-ghost use Rattle.binner.specs.declared.entry.Current.{Current};
-ghost use Rattle.binner.specs.Meaning.{entry_of};
 ghost use Rattle.binner.specs.Setups.{AreSetups, all_setups, MatchesDraw};
-ghost use Rattle.binner.specs.Compiling.{IsSound, CanTake, AddsSetup, AddsColor, AddsDepth, Enters, Adds, AddsList, SameTables, CanCompile};
+ghost use Rattle.binner.specs.Compiling.{IsSound, AddsSetup, AddsColor, AddsDepth, Enters, Adds, AddsList, CanCompile};
 
 use crate::ahead::{DrawSetups, Parts, take_ahead};
-use crate::entry::{Current, StateEntry};
+use crate::entry::{Current, StateEntry, entry};
 use crate::lists::{Lists, add_to_all, add_to_tiles};
 use crate::opened::{note, nothing_begun};
 use crate::prepare::prepared;
@@ -35,39 +32,28 @@ pub struct Compiling<A: Allocator> {
     pub triangles: Vec<TriSetup, A>,
     pub colors: Vec<[u8; 4], A>,
     pub depths: Vec<DepthStencil, A>,
-    /// The entry of the state that comes next, if it has one.
+    /// The entry that the last triangles were drawn under, if there is one.
     pub current: Option<Current>,
 }
 
 /// How many states, triangles or clears a compiled list has at most.
 const MOST: usize = 65_536;
 
-/// The entry of a state, with the open issues as bits.
-fn entry(state: &State<'_>, issues: u64) -> StateEntry
-    ensures { result ≡ entry_of (state_value state.now) issues }
-{
-    StateEntry {
-        raster: state.raster,
-        scissor: state.scissor,
-        depth_stencil: state.depth_stencil,
-        reference: state.reference,
-        blend: state.blend,
-        issues,
-    }
-}
-
-/// The entry of the state, which is new where the state has none. Refused too where no more states have room.
+/// The entry of the state: the current one, if triangles are drawn alike under it, and else a new one. Refused too where no
+/// more states have room.
 fn current_entry<A: Allocator + Copy>(
     compiling: &mut Compiling<A>,
     state: &State<'_>,
     issues: u64,
 ) -> Result<Current, AllocError>
-    requires { CanTake (state_value state.now) issues compiling.old }
+    requires { IsSound compiling.old }
     ensures bins { length compiling.new.lists.bins ≡ length compiling.old.lists.bins }
-    ensures enters { IfOk result (λ s. Enters (entry_of (state_value state.now) issues) s compiling.old compiling.new) }
+    ensures enters { IfOk result (λ now. Enters (state_value state.now) issues now compiling.old compiling.new) }
 {
     if let Some(current) = compiling.current {
-        return Ok(current);
+        if compiling.states[current.entry as usize].draws_as(state, issues) {
+            return Ok(current);
+        }
     }
     let states = compiling.states.len();
     if states >= MOST {
@@ -154,11 +140,11 @@ fn add_draw<A: Allocator + Copy>(
     state: &State<'_>,
     issues: u64,
 ) -> Result<(), AllocError>
-    requires can { CanTake (state_value state.now) issues compiling.old }
+    requires sound { IsSound compiling.old }
     requires range { IsInRange draw.now }
     requires vertices { IsTrue (list_all is_in_range draw.now.vertices.now) }
     ensures bins { length compiling.new.lists.bins ≡ length compiling.old.lists.bins }
-    ensures drawn { OnOk result (Adds (state_value state.now) issues (λ opened. drawn_items (state_value state.now) opened (triangles_of draw.now)) compiling.old compiling.new) }
+    ensures drawn { OnOk result (Adds issues (λ opened. drawn_items (state_value state.now) opened (triangles_of draw.now)) compiling.old compiling.new) }
 {
     let current = current_entry(compiling, state, issues)?;
     for tri in triangles(draw) {
@@ -177,10 +163,10 @@ fn add_parts<A: Allocator + Copy>(
     issues: u64,
     parts: Parts<A>,
 ) -> Result<(), AllocError>
-    requires can { CanTake (state_value state.now) issues compiling.old }
+    requires sound { IsSound compiling.old }
     requires made { AreSetups (state_value state.now) compiling.old.lists.size (triangles_of draw.now) (all_setups parts.items) }
     ensures bins { length compiling.new.lists.bins ≡ length compiling.old.lists.bins }
-    ensures drawn { OnOk result (Adds (state_value state.now) issues (λ opened. drawn_items (state_value state.now) opened (triangles_of draw.now)) compiling.old compiling.new) }
+    ensures drawn { OnOk result (Adds issues (λ opened. drawn_items (state_value state.now) opened (triangles_of draw.now)) compiling.old compiling.new) }
 {
     let current = current_entry(compiling, state, issues)?;
     'parts: for part in parts {
@@ -200,12 +186,12 @@ fn add_drawn<A: Allocator + Copy>(
     issues: u64,
     parts: Option<Parts<A>>,
 ) -> Result<(), AllocError>
-    requires can { CanTake (state_value state.now) issues compiling.old }
+    requires sound { IsSound compiling.old }
     requires range { IsInRange draw.now }
     requires vertices { IsTrue (list_all is_in_range draw.now.vertices.now) }
     requires made { IfSome parts (λ parts. AreSetups (state_value state.now) compiling.old.lists.size (triangles_of draw.now) (all_setups parts.items)) }
     ensures bins { length compiling.new.lists.bins ≡ length compiling.old.lists.bins }
-    ensures drawn { OnOk result (Adds (state_value state.now) issues (λ opened. drawn_items (state_value state.now) opened (triangles_of draw.now)) compiling.old compiling.new) }
+    ensures drawn { OnOk result (Adds issues (λ opened. drawn_items (state_value state.now) opened (triangles_of draw.now)) compiling.old compiling.new) }
 {
     match parts {
         Some(parts) => add_parts(compiling, draw, state, issues, parts),
@@ -224,10 +210,10 @@ fn add_performed<A: Allocator + Copy>(
     parts: Option<Parts<A>>,
 ) -> Result<(), AllocError>
     requires drawable { IsDrawable (state_value state.now) (command_value command.now) }
-    requires can { CanTake (state_value state.now) issues compiling.old }
+    requires sound { IsSound compiling.old }
     requires made { IfSome parts (λ parts. AreSetups (state_value state.now) compiling.old.lists.size (drawn_by (state_value state.now) (command_value command.now)) (all_setups parts.items)) }
     ensures bins { length compiling.new.lists.bins ≡ length compiling.old.lists.bins }
-    ensures drawn { OnOk result (Adds (state_value state.now) issues (λ opened. performed_items (told results.now) (state_value state.now) opened (command_value command.now)) compiling.old compiling.new) }
+    ensures drawn { OnOk result (Adds issues (λ opened. performed_items (told results.now) (state_value state.now) opened (command_value command.now)) compiling.old compiling.new) }
 {
     if is_withheld(results, state.predicate) {
         return Ok(());
@@ -248,33 +234,6 @@ fn add_performed<A: Allocator + Copy>(
     }
 }
 
-/// Whether a command leaves what entries are made of as it is.
-fn keeps_entry<A: Allocator>(command: &Command<A>) -> bool
-    ensures { IsTrue result → (s : Settings) (issues : ℕ) → entry_of (settings_with (command_value command.now) s) issues ≡ entry_of s issues }
-{
-    match command {
-        Command::SetVertices(_) => true,
-        Command::SetIndices(_) => true,
-        Command::SetTopology(_) => true,
-        Command::SetPredication(_) => true,
-        Command::Draw(_, _) => true,
-        Command::DrawIndexed(_, _, _) => true,
-        Command::ClearColor(_) => true,
-        Command::ClearDepthStencil(_, _) => true,
-        _ => false,
-    }
-}
-
-/// Has no entry for the state that comes next, unless the last one still is its entry.
-fn forget_unless<A: Allocator>(compiling: &mut Compiling<A>, kept: bool, before: u64, after: u64)
-    ensures rest { SameTables compiling.old compiling.new }
-    ensures current { (n : Current) → compiling.new.current ≡ Some n → IsTrue kept × (before ≡ after) × (compiling.old.current ≡ Some n) }
-{
-    if !kept || before != after {
-        compiling.current = None;
-    }
-}
-
 /// Adds what the commands of a list draw and clear behind what is compiled, from the default state on and under the results
 /// before the list, and tells how many issues they begin. Some draws may be set up already. Refused too where the tables have
 /// no room.
@@ -291,7 +250,6 @@ pub(crate) fn add_commands<A: Allocator + Copy>(
     ensures added { IfOk result (λ issues. AddsList (told results.now) (map command_value commands.now) issues compiling.old compiling.new) }
 {
     let size = compiling.lists.size;
-    forget_unless(compiling, false, 0, 0);
     let mut state = State::new();
     let mut bits = 0_u64;
     let mut begun = 0_u32;
@@ -300,10 +258,7 @@ pub(crate) fn add_commands<A: Allocator + Copy>(
     for (place, command) in commands.iter().enumerate() {
         let parts = take_ahead(&mut ahead, place, commands, size);
         add_performed(compiling, command, &state, bits, results, parts)?;
-        let before = bits;
         note(&mut bits, &mut begun, &mut of_query, command);
-        let kept = keeps_entry(command);
-        forget_unless(compiling, kept, before, bits);
         state.change(command);
     }
     Ok(begun)

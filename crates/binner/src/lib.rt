@@ -17,6 +17,7 @@ mod entry;
 mod lists;
 mod opened;
 mod prepare;
+mod same;
 mod segment;
 mod setup;
 mod short_rect;

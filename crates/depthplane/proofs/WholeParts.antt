@@ -36,8 +36,8 @@ module _ (n : ℕ) (xs : List ℕ) (long : length xs ≡ n) where
       ∙ ap (bit_and (slice_index (high n xs) j)) (get_or-replicate n j 4294967295 0 h)
       ∙ and_mask (slice_index (high n xs) j) 32
       ∙ ap (λ m. m % 4294967296)
-          (get_or-zip2 shift xs (replicate n 32) j 0 0 0 (subst (λ m. j < m) (sym long) h) (subst (λ m. j < m) (sym (length-replicate n 32)) h)
-          ∙ ap (λ m. slice_index xs j / 2 ^ m) (get_or-replicate n j 32 0 h))
+      (get_or-zip2 shift xs (replicate n 32) j 0 0 0 (subst (λ m. j < m) (sym long) h) (subst (λ m. j < m) (sym (length-replicate n 32)) h)
+      ∙ ap (λ m. slice_index xs j / 2 ^ m) (get_or-replicate n j 32 0 h))
 
   below : (a b : ℕ) → a ≡ b % 4294967296 → a ≤ 4294967295
   below a b is = omega arith

@@ -1,8 +1,6 @@
-use Rattle.std.proofs.Common.{rules, sym, subst, ◌≡◌, ◌++◌, ◌∷◌, [], ℕ}
-use Rattle.gfxspec.specs.State.{Settings}
+use Rattle.std.proofs.Common.{rules, sym, subst, ◌≡◌, ◌++◌, ◌∷◌, []}
 use Rattle.meaning.specs.OneMore.{settings_with, performed_items}
 use Rattle.command.specs.Seen.{state_value, command_value}
-use Rattle.binner.specs.Meaning.{entry_of}
 use Rattle.binner.specs.Opened.{IsOpened, CanNote}
 use Rattle.binner.specs.Compiling.{Adds}
 use Rattle.cmdlist.specs.Drawable.{IsDrawable, told, drawn_by}
@@ -15,7 +13,7 @@ use Rattle.binner.proofs.compiling.add_commands.Goals as goal
 
 pub loop-place-init : goal.loop-place-init
 loop-place-init g c = record {
-  so_far = so_far (told c.args.results.now) c.args.commands.now (state_value c.new-state.result) c.nothing_begun-of_query.result c.args.compiling.now c.forget_unless.new.compiling c.new-state.ensures c.nothing_begun-of_query.ensures c.requires.sound c.forget_unless.ensures.rest (λ n h. (c.forget_unless.ensures.current n h).0);
+  so_far = so_far (told c.args.results.now) c.args.commands.now (state_value c.new-state.result) c.nothing_begun-of_query.result c.args.compiling.now c.new-state.ensures c.nothing_begun-of_query.ensures c.requires.sound;
   ahead = c.requires.ahead;
 }
 
@@ -46,11 +44,8 @@ loop-place-preserved g c =
     let is = c.index-commands-place.is in
     let s = state_value l.state in
     record {
-      so_far = one_more (told c.args.results.now) cs l.invariant.so_far d (state_value c.change.new.self) c.note.new.bits c.note.new.begun c.note.new.of_query c.keeps_entry-kept.result c.add_performed.new.compiling c.forget_unless-in-loop-place.new.compiling c.requires.can (search rules) c.add_performed.ensures.bins
-          (subst (λ k. Adds s l.bits (λ opened. performed_items (told c.args.results.now) s opened (command_value k)) l.compiling c.add_performed.new.compiling) is c.in_ok-add_performed.ensures.drawn)
-          c.forget_unless-in-loop-place.ensures.rest
-          c.forget_unless-in-loop-place.ensures.current
-          (λ h. subst (λ k. (s : Settings) (b : ℕ) → entry_of (settings_with (command_value k) s) b ≡ entry_of s b) is (c.keeps_entry-kept.ensures h))
+      so_far = one_more (told c.args.results.now) cs l.invariant.so_far d (state_value c.change.new.self) c.note.new.bits c.note.new.begun c.note.new.of_query c.add_performed.new.compiling c.requires.can (search rules) c.add_performed.ensures.bins
+          (subst (λ k. Adds l.bits (λ opened. performed_items (told c.args.results.now) s opened (command_value k)) l.compiling c.add_performed.new.compiling) is c.in_ok-add_performed.ensures.drawn)
           (subst (λ k. IsOpened c.note.new.bits c.note.new.begun c.note.new.of_query (done cs l.place ++ command_value k ∷ [])) is (c.note.ensures (done cs l.place) l.invariant.so_far.opened))
           (subst (λ k. state_value c.change.new.self ≡ settings_with (command_value k) s) is c.change.ensures);
       ahead = c.take_ahead-parts.ensures.rest;

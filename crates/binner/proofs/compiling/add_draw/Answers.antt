@@ -13,7 +13,7 @@ loop-tri-init g c =
       can_next = tt;
       is_finite = tt;
       ready = subst AreReady (sym same) (draw_ready c.args.draw.now c.requires.vertices);
-      drew = drew_begin c.args.compiling.now (state_value c.args.state.now) c.args.issues c.in_ok-current.current (triangles_of c.args.draw.now) c.current_entry.new.compiling c.into_iter-tri-iterator.result same c.requires.can.sound c.in_ok-current.ensures.enters;
+      drew = drew_begin c.args.compiling.now (state_value c.args.state.now) c.args.issues c.in_ok-current.current (triangles_of c.args.draw.now) c.current_entry.new.compiling c.into_iter-tri-iterator.result same c.requires.sound c.in_ok-current.ensures.enters;
     }
 
 pub loop-tri-preserved-in-Continue-branch-2 : goal.loop-tri-preserved-in-Continue-branch-2

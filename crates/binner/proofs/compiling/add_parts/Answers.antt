@@ -14,7 +14,7 @@ parts-init g c =
     record {
       left = all;
       made = subst (λ l. AreSetups s c.args.compiling.now.lists.size all (all_setups l)) (sym c.into_iter-part-iterator.ensures.into_iter_gives.0) c.requires.made;
-      drew = drew_begin c.args.compiling.now s c.args.issues c.in_ok-current.current all c.current_entry.new.compiling all refl c.requires.can.sound c.in_ok-current.ensures.enters;
+      drew = drew_begin c.args.compiling.now s c.args.issues c.in_ok-current.current all c.current_entry.new.compiling all refl c.requires.sound c.in_ok-current.ensures.enters;
     }
 
 pub setups-preserved : goal.setups-preserved
