@@ -5,8 +5,8 @@ ghost use Rattle.gfxspec.specs.Tiles.{tile_count};
 
 use binmem::Bins;
 use binner::{Compiled, compile};
-use cmdlist::{CommandList, DeferredContext};
-use gfxspec::{DepthStencil, GfxError, Size, Topology, Vertex, tile_count};
+use cmdlist::{CommandList, DeferredContext, DeviceContext};
+use gfxspec::{GfxError, PixelRect, Size, Topology, Vertex, tile_count};
 use refusing::Refusing;
 use std::alloc::{Allocator, Global};
 use std::process::Abort;
@@ -174,6 +174,21 @@ fn a_state_stands_again_behind_both_clears(rt: HostRuntime) -> Result<(), Fail> 
     let calls = [DRAW, DEPTH, COLOR, DRAW];
     let words = [0xC000_0000, 0x8000_0000, 0, 0x4001_0001];
     assert_words(&rt, rt.alloc(), &mut context, &calls, &words)
+}
+
+// The rectangle of a scissor test that is off changes nothing of how triangles are drawn: no state is put in force anew.
+#[test]
+fn states_that_draw_alike_are_one_entry(rt: HostRuntime) -> Result<(), Fail> {
+    let mut context = half(rt.alloc())?;
+    record_all(&mut context, &[DRAW])?;
+    context.rs_set_scissor(PixelRect {
+        left: 0,
+        top: 0,
+        right: 2,
+        bottom: 2,
+    })?;
+    let words = [0, 0x4001_0000, 0x4001_0001];
+    assert_words(&rt, rt.alloc(), &mut context, &[DRAW], &words)
 }
 
 const SIZE: Size = Size {
