@@ -15,7 +15,7 @@ ghost use Rattle.cmdlist.specs.Drawable.{IsDrawable, drawn_by};
 ghost use Rattle.binner.specs.Setups.{AreSetups, all_setups, MatchesDraw, Notes};
 
 use crate::prepare::prepared;
-use crate::setup::{Prepared, TriSetup};
+use crate::setup::TriSetup;
 use assemble::{Draw, triangle_count, triangles};
 use cmdlist::{Command, State, draw_of, is_withheld};
 use gfxspec::{Size, Vertex};
@@ -74,7 +74,7 @@ fn setups_of<A: Allocator>(
 {
     let mut setups = Vec::with_capacity(alloc, tris.len())?;
     for tri in tris {
-        if let Some(Prepared { setup, edges: _ }) = prepared(&tri.v, state, size) {
+        if let Some(setup) = prepared(&tri.v, state, size) {
             setups.push(setup)?;
         }
     }

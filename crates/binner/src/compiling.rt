@@ -16,10 +16,9 @@ use crate::entry::{Current, StateEntry, entry};
 use crate::lists::{Lists, add_to_all, add_to_tiles};
 use crate::opened::{note, nothing_begun};
 use crate::prepare::prepared;
-use crate::setup::{Prepared, TriSetup};
+use crate::setup::TriSetup;
 use assemble::{Draw, triangles};
 use cmdlist::{Command, State, draw_of, is_withheld};
-use edges::EdgeSet;
 use gfxspec::DepthStencil;
 use std::alloc::{AllocError, Allocator};
 use tileword::Word;
@@ -69,16 +68,14 @@ fn current_entry<A: Allocator + Copy>(
     Ok(current)
 }
 
-/// Adds a triangle with these edges under an entry. Refused too where no more triangles have room.
+/// Adds a triangle under an entry. Refused too where no more triangles have room.
 #[inline(always)]
 fn add_setup<A: Allocator + Copy>(
     compiling: &mut Compiling<A>,
     setup: TriSetup,
-    edges: &EdgeSet,
     current: Current,
 ) -> Result<(), AllocError>
     requires sound { IsSound compiling.old }
-    requires edges { edges.now ≡ setup.plane.triangle }
     ensures bins { length compiling.new.lists.bins ≡ length compiling.old.lists.bins }
     ensures added { OnOk result (AddsSetup setup current compiling.old compiling.new) }
 {
@@ -86,7 +83,7 @@ fn add_setup<A: Allocator + Copy>(
     if number >= MOST {
         return Err(AllocError);
     }
-    add_to_tiles(&mut compiling.lists, &setup, edges, current, number as u16)?;
+    add_to_tiles(&mut compiling.lists, &setup, current, number as u16)?;
     compiling.triangles.push(setup)?;
     Ok(())
 }
@@ -148,8 +145,8 @@ fn add_draw<A: Allocator + Copy>(
 {
     let current = current_entry(compiling, state, issues)?;
     for tri in triangles(draw) {
-        if let Some(Prepared { setup, edges }) = prepared(&tri.v, state, compiling.lists.size) {
-            add_setup(compiling, setup, &edges, current)?;
+        if let Some(setup) = prepared(&tri.v, state, compiling.lists.size) {
+            add_setup(compiling, setup, current)?;
         }
     }
     Ok(())
@@ -171,8 +168,7 @@ fn add_parts<A: Allocator + Copy>(
     let current = current_entry(compiling, state, issues)?;
     'parts: for part in parts {
         'setups: for setup in part {
-            let edges = setup.edge_set();
-            add_setup(compiling, setup, &edges, current)?;
+            add_setup(compiling, setup, current)?;
         }
     }
     Ok(())

@@ -183,18 +183,16 @@ fn add_triangle<A: Allocator + Copy>(
     Ok(())
 }
 
-/// Adds a triangle with these edges to each tile that its bounds meet.
+/// Adds a triangle to each tile that its bounds meet.
 #[inline(always)]
 pub(crate) fn add_to_tiles<A: Allocator + Copy>(
     lists: &mut Lists<A>,
     setup: &TriSetup,
-    edges: &EdgeSet,
     current: Current,
     number: u16,
 ) -> Result<(), AllocError>
     requires sound { IsLists lists.old }
     requires room { IsShort 239997 lists.old }
-    requires edges { edges.now ≡ setup.now.plane.triangle }
     ensures bins { length lists.new.bins ≡ length lists.old.bins }
     ensures sound { OnOk result (IsLists lists.new) }
     ensures added { OnOk result (EachChanges (λ k. TakesTriangle setup.now.plane.triangle setup.now.bounds (tile_rect lists.old.size k) current number) lists.old lists.new) }
@@ -213,7 +211,7 @@ pub(crate) fn add_to_tiles<A: Allocator + Copy>(
         'columns: for column in left..right {
             let rect = rect_at(size, column, row);
             let tile = row * along + column;
-            add_triangle(lists, tile, rect, edges, current, number)?;
+            add_triangle(lists, tile, rect, &setup.edges, current, number)?;
         }
     }
     Ok(())

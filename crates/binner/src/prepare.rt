@@ -10,7 +10,7 @@ ghost use Rattle.command.specs.Seen.{state_value};
 ghost use Rattle.binner.specs.Ready.{IsReady, common_rect};
 ghost use Rattle.binner.specs.Meaning.{IsSetupOf};
 
-use crate::setup::{Prepared, TriSetup};
+use crate::setup::TriSetup;
 use crate::short_rect::ShortRect;
 use assemble::{culled, facing_by_area};
 use cmdlist::State;
@@ -68,10 +68,9 @@ fn is_seen(bounds: PixelRect, size: Size) -> bool
 /// A triangle under these settings, unless it is dropped or reaches no pixel of the target; the leading vertex is first.
 #[inline(always)]
 #[tactic(auto, using(gfxspec::proofs::Threes::All_three))]
-pub(crate) fn prepared(vertices: &[Vertex; 3], state: &State<'_>, size: Size) -> Option<Prepared>
+pub(crate) fn prepared(vertices: &[Vertex; 3], state: &State<'_>, size: Size) -> Option<TriSetup>
     requires { IsReady (primitive_of (record { v = vertices.now })) }
-    ensures setup { IfSome result (λ p. IsSetupOf p.setup (primitive_of (record { v = vertices.now })) (state_value state.now)) }
-    ensures edges { IfSome result (λ p. p.edges ≡ p.setup.plane.triangle) }
+    ensures setup { IfSome result (λ setup. IsSetupOf setup (primitive_of (record { v = vertices.now })) (state_value state.now)) }
     ensures dropped { IsNone result → (x y : ℕ) → x < side_bound → y < side_bound → x < size.width → y < size.height
         → reaches (primitive_of (record { v = vertices.now })) (state_value state.now) x y ≡ false }
 {
@@ -89,14 +88,13 @@ pub(crate) fn prepared(vertices: &[Vertex; 3], state: &State<'_>, size: Size) ->
     }
     let bias = state.raster.depth_bias();
     let plane = Plane::of_sides(&sides, [first.z, second.z, third.z], bias);
-    let setup = TriSetup {
-        edges: edges.packed(),
+    Some(TriSetup {
+        edges,
         plane,
         bounds: ShortRect::of(bounds),
         front: is_front(facing),
         rgba: first.rgba,
         least_depth: with_bias(first.z.min(second.z).min(third.z), bias),
         greatest_depth: with_bias(first.z.max(second.z).max(third.z), bias),
-    };
-    Some(Prepared { setup, edges })
+    })
 }

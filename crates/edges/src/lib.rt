@@ -5,7 +5,6 @@
 //! cover rule, ties included, and a step from pixel to pixel is one addition.
 #![tactic(auto)]
 
-mod packed;
 mod quads;
 mod reach;
 mod signs;
@@ -19,13 +18,12 @@ ghost use Rattle.snap.specs.Bounds.{step_bound};
 ghost use Rattle.snap.specs.Corners.{triangle_of};
 ghost use Rattle.snap.specs.Sides.{IsSideOf, IsSmallSide};
 ghost use Rattle.edges.specs.Extremes.{IsWithinExtremes};
-ghost use Rattle.edges.specs.Function.{IsFunctionOf, IsSmall, linear};
+ghost use Rattle.edges.specs.Function.{IsFunctionOf, IsSmall, linear, unpacked};
 ghost use Rattle.edges.specs.Partition.{SharedEdgeCoversOnce, SharedEdgeCoversAll};
 ghost use Rattle.edges.specs.Value.{edge_value, bias, goes_up_or_right};
 
 use crate::reach::centres_between;
 use gfxspec::PixelRect;
-pub use packed::PackedEdges;
 pub use quads::EdgeQuads;
 use snap::{Side, Sides, SnapTri};
 use std::marker::Model;
@@ -39,10 +37,18 @@ struct EdgeFunction {
     step_y: i64,
 }
 
+/// The same with steps of 32 bits, as a set keeps it.
+#[derive(Clone, Copy, Debug)]
+struct PackedFunction {
+    origin: i64,
+    step_x: i32,
+    step_y: i32,
+}
+
 /// The edges of a triangle whose area is not zero. Edge i lies opposite vertex i. Contracts see it as its triangle.
 #[derive(Debug, Drop)]
 pub struct EdgeSet {
-    functions: [EdgeFunction; 3],
+    functions: [PackedFunction; 3],
     triangle: SnapTri,
 }
 
@@ -73,7 +79,8 @@ impl EdgeFunction {
     /// The function of an edge, from the side at it.
     fn of(side: Side) -> EdgeFunction
         requires { IsSmallSide side }
-        ensures { (e : Edge) (area : ℤ) → area ≢ pos 0 → area ≡ side_of e e.opposite → IsSideOf side area e.start e.end → IsFunctionOf result e }
+        ensures small { IsSmall result }
+        ensures function { (e : Edge) (area : ℤ) → area ≢ pos 0 → area ≡ side_of e e.opposite → IsSideOf side area e.start e.end → IsFunctionOf result e }
     {
         EdgeFunction {
             origin: side.origin - bias_of(side.step_x, side.step_y),
@@ -90,6 +97,33 @@ impl EdgeFunction {
         ensures { result ≡ linear self x y }
     {
         self.origin + x as i64 * self.step_x + y as i64 * self.step_y
+    }
+}
+
+impl PackedFunction {
+    /// A function, packed.
+    #[inline(always)]
+    fn of(function: EdgeFunction) -> PackedFunction
+        requires { IsSmall function }
+        ensures { unpacked result ≡ function }
+    {
+        PackedFunction {
+            origin: function.origin,
+            step_x: function.step_x as i32,
+            step_y: function.step_y as i32,
+        }
+    }
+
+    /// The function.
+    #[inline(always)]
+    fn function(self) -> EdgeFunction
+        ensures { result ≡ unpacked self }
+    {
+        EdgeFunction {
+            origin: self.origin,
+            step_x: i64::from(self.step_x),
+            step_y: i64::from(self.step_y),
+        }
     }
 }
 
@@ -115,9 +149,9 @@ impl EdgeSet {
         }
         Some(EdgeSet {
             functions: [
-                EdgeFunction::of(sides.first),
-                EdgeFunction::of(sides.second),
-                EdgeFunction::of(sides.third),
+                PackedFunction::of(EdgeFunction::of(sides.first)),
+                PackedFunction::of(EdgeFunction::of(sides.second)),
+                PackedFunction::of(EdgeFunction::of(sides.third)),
             ],
             triangle: sides.triangle,
         })
@@ -136,7 +170,7 @@ impl EdgeSet {
         ensures anywhere { (u v : ℕ) → (pos 0 ≤ℤ edge_value (edge self.now i) u v) ↔ IsTrue (edge_holds (edge self.now i) (centre u v)) }
         ensures small { (u v : ℕ) → u < walk_bound → v < walk_bound → unsigned_abs (edge_value (edge self.now i) u v) ≤ 2 ^ 45 }
     {
-        self.functions[i].at(x, y)
+        self.functions[i].function().at(x, y)
     }
 
     /// What one pixel to the right adds to the value of edge i.
@@ -145,7 +179,7 @@ impl EdgeSet {
         ensures adds { (x y : ℕ) → edge_value (edge self.now i) (x + 1) y ≡ edge_value (edge self.now i) x y +ℤ result }
         ensures small { unsigned_abs result ≤ step_bound }
     {
-        self.functions[i].step_x
+        self.functions[i].function().step_x
     }
 
     /// What one pixel down adds to the value of edge i.
@@ -154,7 +188,7 @@ impl EdgeSet {
         ensures adds { (x y : ℕ) → edge_value (edge self.now i) x (y + 1) ≡ edge_value (edge self.now i) x y +ℤ result }
         ensures small { unsigned_abs result ≤ step_bound }
     {
-        self.functions[i].step_y
+        self.functions[i].function().step_y
     }
 
     /// The pixels among the first 4,096 each way whose centres lie between the corners' least and greatest places in
@@ -174,6 +208,12 @@ impl EdgeSet {
             right: across.past,
             bottom: down.past,
         }
+    }
+
+    /// Reads a part, so that the memory is on its way. The number is no result: a caller keeps it only so that the read is done.
+    #[inline]
+    pub fn prefetch(&self) -> u64 {
+        u64::from(self.functions[2].step_y.unsigned_abs())
     }
 }
 

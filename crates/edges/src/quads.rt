@@ -5,7 +5,8 @@ ghost use Rattle.gfxspec.specs.Limits.{side_bound};
 ghost use Rattle.gfxspec.specs.Raster.{centre, covers};
 ghost use Rattle.edges.specs.Walk.{IsNearBegin};
 
-use crate::signs::QuadSigns;
+use crate::EdgeSet;
+use crate::signs::{QuadSigns, ShortFunction};
 use snap::SnapTri;
 use std::marker::Model;
 use std::simd::prelude::*;
@@ -33,6 +34,27 @@ impl<'a> Model for EdgeQuads<'a> {
     ghost view = { place_of };
 
     ghost invariant = { IsAt };
+}
+
+impl EdgeSet {
+    /// A walk that begins at the four pixels from (x, y) on.
+    #[inline(always)]
+    pub fn quads(&self, x: u32, y: u32) -> EdgeQuads<'_>
+        requires x { x < side_bound }
+        requires y { y < side_bound }
+        ensures { result ≡ record { triangle = self.now; left = x; top = y; x = x; y = y } }
+    {
+        EdgeQuads {
+            triangle: &self.triangle,
+            left: x,
+            top: y,
+            x,
+            y,
+            first: QuadSigns::of(ShortFunction::of(self.functions[0].function()), x, y),
+            second: QuadSigns::of(ShortFunction::of(self.functions[1].function()), x, y),
+            third: QuadSigns::of(ShortFunction::of(self.functions[2].function()), x, y),
+        }
+    }
 }
 
 impl<'a> EdgeQuads<'a> {

@@ -50,9 +50,9 @@ impl EdgeSet {
             top: y,
             x,
             y,
-            first: SignLanes::of(ShortFunction::of(self.functions[0]), x, y),
-            second: SignLanes::of(ShortFunction::of(self.functions[1]), x, y),
-            third: SignLanes::of(ShortFunction::of(self.functions[2]), x, y),
+            first: SignLanes::of(ShortFunction::of(self.functions[0].function()), x, y),
+            second: SignLanes::of(ShortFunction::of(self.functions[1].function()), x, y),
+            third: SignLanes::of(ShortFunction::of(self.functions[2].function()), x, y),
         }
     }
 }

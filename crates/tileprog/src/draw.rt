@@ -196,7 +196,7 @@ fn draw_tested(
     let first = (clip.left - rect.left) / 8;
     let left = rect.left + 8 * first;
     let plane = &triangle.plane;
-    let edges = triangle.edges.walk(plane.triangle(), left, clip.top);
+    let edges = triangle.edges.walk(left, clip.top);
     let over = TileTriangle {
         plane,
         mask,
@@ -240,7 +240,7 @@ pub(crate) fn draw_quads(
     let left = rect.left + 4 * first;
     let plane = &triangle.plane;
     let walk = plane.quads(left, clip.top)?;
-    let edges = triangle.edges.quads(plane.triangle(), left, clip.top);
+    let edges = triangle.edges.quads(left, clip.top);
     let (least, greatest) = (triangle.least_depth, triangle.greatest_depth);
     let over = TileTriangle {
         plane,
@@ -288,8 +288,7 @@ pub(crate) fn draw(
                 test: StencilTest::of(&brush.state, brush.front, brush.reference),
                 brush: *brush,
             };
-            let set = triangle.edge_set();
-            let tests = MadeTests::Both(&tested, &set);
+            let tests = MadeTests::Both(&tested, &triangle.edges);
             draw_tested(block, triangle, mask, &tests, brush, clip)
         }
     }

@@ -14,8 +14,8 @@ loop-tri-preserved g c =
     let whole = map primitive_at (take (i + 1) c.args.tris.now) in
     elim c.match-prepared.branch [
       | in-Some+in_ok-push w ↦ subst (λ v. AreSetups s c.args.size whole v.items) (sym w.setups-is)
-          (one_made s c.args.size c.args.tris.now i d c.loop-tri.setups.items c.loop-tri-test.true c.loop-tri.invariant w.in-Some.field-0.setup w.push.new.self.items
-          (subst (λ z. IsSetupOf w.in-Some.field-0.setup (primitive_at z) s) c.tri-item.is w.in-Some.ensures.setup) w.in_ok-push.ensures.items)
+          (one_made s c.args.size c.args.tris.now i d c.loop-tri.setups.items c.loop-tri-test.true c.loop-tri.invariant w.in-Some.setup w.push.new.self.items
+          (subst (λ z. IsSetupOf w.in-Some.setup (primitive_at z) s) c.tri-item.is w.in-Some.ensures.setup) w.in_ok-push.ensures.items)
       | in_default w ↦ subst (λ v. AreSetups s c.args.size whole v.items) (sym w.setups-is)
           (one_dropped s c.args.size c.args.tris.now i d c.loop-tri.setups.items c.loop-tri-test.true c.loop-tri.invariant
           (subst (λ z. ReachesNothing s c.args.size (primitive_at z)) c.tri-item.is (c.prepared.ensures.dropped (subst IsNone (sym w.in_default.is) refl))))

@@ -23,7 +23,7 @@ loop-tri-preserved-in-Continue-branch-2 g c =
       can_next = tt;
       is_finite = tt;
       ready = (subst AreReady is c.loop-tri.invariant.ready).1;
-      drew = drew_setup c.args.compiling.now (state_value c.args.state.now) c.args.issues c.in_ok-current.current (triangles_of c.args.draw.now) c.loop-tri.compiling (primitive_of c.in-Some.tri) c.next.new.self c.add_setup.new.compiling c.loop-tri.tri-iterator c.in-Some-prepared.field-0.setup is c.loop-tri.invariant.drew c.in_ok-add_setup.ensures.added c.in_ok-add_setup.ensures.bins c.in-Some-prepared.ensures.setup;
+      drew = drew_setup c.args.compiling.now (state_value c.args.state.now) c.args.issues c.in_ok-current.current (triangles_of c.args.draw.now) c.loop-tri.compiling (primitive_of c.in-Some.tri) c.next.new.self c.add_setup.new.compiling c.loop-tri.tri-iterator c.in-Some-prepared.setup is c.loop-tri.invariant.drew c.in_ok-add_setup.ensures.added c.in_ok-add_setup.ensures.bins c.in-Some-prepared.ensures.setup;
     }
 
 pub loop-tri-preserved : goal.loop-tri-preserved

@@ -10,7 +10,6 @@ use Rattle.gfxspec.specs.Items.{face_setting, in_scissor, is_in_rect, snapped_tr
 use Rattle.gfxspec.specs.Limits.{side_bound}
 use Rattle.gfxspec.specs.Raster.{Triangle, centre, covers}
 use Rattle.snap.specs.Corners.{triangle_of}
-use Rattle.edges.specs.Packed.{ArePackedOf}
 use Rattle.depthplane.specs.Height.{AreDepths, DeepTriangle}
 use Rattle.assemble.specs.Triangle.{primitive_of}
 use Rattle.command.specs.Seen.{state_value}
@@ -43,15 +42,15 @@ returns-then-not-is_seen-clause-dropped c n x y small_x small_y within_x within_
     out_of_sight t s c.in_ok-edges.edges c.within_reach-bounds.result x y (c.in_ok-edges.ensures.set ∙ ap triangle_of c.of-sides.ensures ∙ c.of-corners.ensures ∙ ap snapped_triangle same)
     (c.within_reach-bounds.ensures.reach x y small_x small_y) (c.is_seen.ensures.unseen (search rules) x y within_x within_y)
 
-pub invariant_of-setup : goal.invariant_of-setup
-invariant_of-setup c =
+pub invariant_of-result : goal.invariant_of-result
+invariant_of-result c =
     let ready = all_ready c.args.vertices.now none (search rules) c.requires in
     let f : FitsSigned w32 c.depth_bias-bias.result = search rules in
     let plane = simp to_z-of_z at c.of_sides-plane.ensures in
     let lowest = simp to_z-of_z at c.with_bias.ensures in
     let highest = simp to_z-of_z at c.with_bias-2.ensures in
     record {
-      packed = subst (ArePackedOf c.packed.result) (c.in_ok-edges.ensures.set ∙ sym (ap (λ d. d.triangle) plane)) c.packed.ensures;
+      same = c.in_ok-edges.ensures.set ∙ sym (ap (λ d. d.triangle) plane);
       solid = solid _ c.of_sides-plane.result.triangle (ap (λ d. d.triangle) plane) (search rules);
       deep = subst AreDepths (sym plane) (record { z0 = ready.first.deep; z1 = ready.second.deep; z2 = ready.third.deep });
       least = lowest ∙ ap (biased c.depth_bias-bias.result) (c.min-2.ensures ∙ ap (λ m. min m (get_or c.args.vertices.now 2 none).z) c.min.ensures) ∙ ap (λ (d : DeepTriangle). biased d.bias (min (min d.z0 d.z1) d.z2)) (sym plane);
@@ -83,12 +82,6 @@ returns-clause-setup c =
       rgba = ap (λ (p : Primitive). p.first.rgba) same;
       reach = subst (λ r. Reach r c.of_sides-plane.result.triangle) (sym c.of.ensures) (subst (Reach c.within_reach-bounds.result) (c.in_ok-edges.ensures.set ∙ sym (ap (λ d. d.triangle) plane)) c.within_reach-bounds.ensures.reach);
     }
-
-pub returns-clause-edges : goal.returns-clause-edges
-returns-clause-edges c =
-    let f : FitsSigned w32 c.depth_bias-bias.result = search rules in
-    let plane = simp to_z-of_z at c.of_sides-plane.ensures in
-    c.in_ok-edges.ensures.set ∙ sym (ap (λ d. d.triangle) plane)
 
 pub of-requires-clause-left : goal.of-requires-clause-left
 of-requires-clause-left c =

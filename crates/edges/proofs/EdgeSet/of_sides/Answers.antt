@@ -1,7 +1,8 @@
-use Rattle.std.proofs.Common.{rules, pos, ◌≢◌}
+use Rattle.std.proofs.Common.{rules, pos, ◌≢◌, subst, sym}
 use Rattle.gfxspec.specs.Raster.{edge}
 use Rattle.snap.specs.Corners.{triangle_of}
-use Rattle.edges.specs.Function.{IsFunctionOf}
+use Rattle.edges.specs.declared.PackedFunction.{PackedFunction}
+use Rattle.edges.specs.Function.{IsFunctionOf, unpacked}
 use Rattle.edges.proofs.FunctionLaws.{each_edge, whole_first, whole_second}
 use Rattle.edges.proofs.EdgeSet.of_sides.Goals as goal
 
@@ -10,10 +11,19 @@ invariant_of-result c =
     let s = c.args.sides.now in
     let t = triangle_of s.triangle in
     let real : s.area ≢ pos 0 = search rules in
-    each_edge IsFunctionOf t c.of.result c.of-2.result c.of-3.result (record { origin = pos 0; step_x = pos 0; step_y = pos 0 })
-    (c.of.ensures (edge t 0) s.area real (whole_first t s.area s.area_is) s.first_is)
-    (c.of-2.ensures (edge t 1) s.area real (whole_second t s.area s.area_is) s.second_is)
-    (c.of-3.ensures (edge t 2) s.area real s.area_is s.third_is)
+    each_edge (λ (p : PackedFunction) e. IsFunctionOf (unpacked p) e) t c.of-2.result c.of-4.result c.of-6.result (record { origin = pos 0; step_x = pos 0; step_y = pos 0 })
+    (subst (λ f. IsFunctionOf f (edge t 0)) (sym c.of-2.ensures) (c.of.ensures.function (edge t 0) s.area real (whole_first t s.area s.area_is) s.first_is))
+    (subst (λ f. IsFunctionOf f (edge t 1)) (sym c.of-4.ensures) (c.of-3.ensures.function (edge t 1) s.area real (whole_second t s.area s.area_is) s.second_is))
+    (subst (λ f. IsFunctionOf f (edge t 2)) (sym c.of-6.ensures) (c.of-5.ensures.function (edge t 2) s.area real s.area_is s.third_is))
+
+pub of-requires-2 : goal.of-requires-2
+of-requires-2 c = c.of.ensures.small
+
+pub of-requires-4 : goal.of-requires-4
+of-requires-4 c = c.of-3.ensures.small
+
+pub of-requires-6 : goal.of-requires-6
+of-requires-6 c = c.of-5.ensures.small
 
 pub returns-then-sides-eq0-clause-none : goal.returns-then-sides-eq0-clause-none
 returns-then-sides-eq0-clause-none c = search rules
