@@ -1,19 +1,18 @@
 -- An edge's signs in lanes of 32 bits.
 use Rattle.std.proofs.Common.{◌≡◌, ◌∙◌, ap, sym, subst, refl, arith, ℕ, zero, suc, ◌+◌, ◌*◌, ◌%◌, ◌^◌, ◌<◌, ◌≤◌, List, [], ◌∷◌, length, map, get_or, w32, to_z, of_z, FitsSigned}
-use Rattle.std.specs.Prelude.{ℤ, pos, ◌+ℤ◌, ◌-ℤ◌, ◌*ℤ◌, ◌≤ℤ◌, ◌<ℤ◌, ◌↔◌, unsigned_abs, slice_index_or, replicate}
+use Rattle.std.specs.Prelude.{ℤ, pos, ◌+ℤ◌, ◌-ℤ◌, ◌*ℤ◌, ◌≤ℤ◌, ◌↔◌, unsigned_abs, slice_index_or, replicate}
 use Rattle.std.specs.Int.{int_wrap}
 use Rattle.std.specs.Simd.Lanes.{zip2}
 use Rattle.std.proofs.lemmas.Int.{ints, to_z-of_z, to_z_pos, wrapping_add-bits, wrapping_add_onto, wrapping_mul-bits, int_wrap-add_left, int_wrap-add_right, SFits-int_wrap, fits_signed_from_abs}
 use Rattle.std.proofs.Math.IntN.{*ℤ_comm}
 use Rattle.std.proofs.lemmas.List.{get_or-map, get_or-replicate, length-map, length-replicate}
 use Rattle.std.proofs.lemmas.Simd.{get_or-zip2, length-zip2}
-use Rattle.gfxspec.proofs.Integers.{spread, add-mul, abs-mul_le, mul_left_comm}
+use Rattle.gfxspec.proofs.Integers.{add-mul, mul-add, abs-mul_le, mul_left_comm}
 use Rattle.gfxspec.specs.Raster.{Edge}
-use Rattle.edges.specs.Function.{linear, IsFunctionOf}
-use Rattle.edges.specs.Signs.{SignFunction, AreLanes, sign_at, wide_of, IsShortOf}
+use Rattle.edges.specs.Function.{linear, IsFunctionOf, unpacked}
+use Rattle.edges.specs.Signs.{IsShort, SignFunction, AreLanes, sign_at}
 use Rattle.edges.specs.Value.{edge_value}
-use Rattle.edges.specs.declared.EdgeFunction.{EdgeFunction}
-use Rattle.edges.specs.declared.signs.ShortFunction.{ShortFunction}
+use Rattle.edges.specs.declared.PackedFunction.{PackedFunction}
 
 -- ---- the value some steps away
 
@@ -23,8 +22,8 @@ value_away o right below x y a b = omega (arith, ints, add-mul (pos x) (pos a) r
 sign_away : (c right below : ℤ) (x y a b : ℕ) → (c -ℤ pos x *ℤ right -ℤ pos y *ℤ below) +ℤ pos (x + a) *ℤ right +ℤ pos (y + b) *ℤ below ≡ c +ℤ (pos a *ℤ right +ℤ pos b *ℤ below)
 sign_away c right below x y a b = omega (arith, ints, add-mul (pos x) (pos a) right, add-mul (pos y) (pos b) below)
 
-small_away : (right below : ℤ) (a b : ℕ) → unsigned_abs right ≤ 2 ^ 21 → unsigned_abs below ≤ 2 ^ 21 → a < 32 → b < 32 → unsigned_abs (pos a *ℤ right +ℤ pos b *ℤ below) < 2 ^ 27
-small_away right below a b p q h k =
+small_away : (right below : ℤ) → unsigned_abs right ≤ 2 ^ 21 → unsigned_abs below ≤ 2 ^ 21 → (a b : ℕ) → a < 32 → b < 32 → unsigned_abs (pos a *ℤ right +ℤ pos b *ℤ below) < 2 ^ 27
+small_away right below p q a b h k =
     by (pos a *ℤ right) (pos b *ℤ below) (abs-mul_le (pos a) right 31 (2 ^ 21) (omega arith) p) (abs-mul_le (pos b) below 31 (2 ^ 21) (omega arith) q)
   where
     by : (m n : ℤ) → unsigned_abs m ≤ 31 * 2 ^ 21 → unsigned_abs n ≤ 31 * 2 ^ 21 → unsigned_abs (m +ℤ n) < 2 ^ 27
@@ -39,59 +38,49 @@ eight_fits r small = let less : unsigned_abs (pos 8 *ℤ r) < 2 ^ 31 = omega (ar
 pub four_fits : (r : ℤ) → unsigned_abs r ≤ 2 ^ 21 → FitsSigned w32 (pos 4 *ℤ r)
 four_fits r small = let less : unsigned_abs (pos 4 *ℤ r) < 2 ^ 31 = omega (arith, ints) in fits_signed_from_abs w32 (pos 4 *ℤ r) less
 
+pub small_step : (r : ℤ) → unsigned_abs (pos 256 *ℤ r) ≤ 2 ^ 29 → unsigned_abs r ≤ 2 ^ 21
+small_step r small = omega (arith, ints)
+
 -- ---- without the last eight bits
 
-short_tells : (o f k : ℤ) → (pos 256 *ℤ o) ≤ℤ f → f <ℤ (pos 256 *ℤ o +ℤ pos 256) → (pos 0 ≤ℤ (o +ℤ k)) ↔ (pos 0 ≤ℤ (f +ℤ pos 256 *ℤ k))
-short_tells o f k least most = (λ p. omega (arith, ints), λ p. omega (arith, ints))
+short_tells : (n v k : ℤ) → IsShort n v → (pos 0 ≤ℤ (n +ℤ k)) ↔ (pos 0 ≤ℤ (v +ℤ pos 256 *ℤ k))
+short_tells n v k short = let least = short.least in let most = short.most in (λ p. omega (arith, ints), λ p. omega (arith, ints))
 
-whole_steps : (f s t right below : ℤ) (x y : ℕ) → s ≡ pos 256 *ℤ right → t ≡ pos 256 *ℤ below → f +ℤ pos 256 *ℤ (pos x *ℤ right +ℤ pos y *ℤ below) ≡ f +ℤ pos x *ℤ s +ℤ pos y *ℤ t
-whole_steps f s t right below x y p q =
-    by (pos x *ℤ s) (pos y *ℤ t) (pos x *ℤ right) (pos y *ℤ below)
-    (ap (λ v. pos x *ℤ v) p ∙ mul_left_comm (pos x) (pos 256) right) (ap (λ v. pos y *ℤ v) q ∙ mul_left_comm (pos y) (pos 256) below)
-  where
-    by : (m n k l : ℤ) → m ≡ pos 256 *ℤ k → n ≡ pos 256 *ℤ l → f +ℤ pos 256 *ℤ (k +ℤ l) ≡ f +ℤ m +ℤ n
-    by m n k l g h = simp spread (omega (arith, ints))
+scaled_steps : (right below : ℤ) (a b : ℕ) → pos 256 *ℤ (pos a *ℤ right +ℤ pos b *ℤ below) ≡ pos a *ℤ (pos 256 *ℤ right) +ℤ pos b *ℤ (pos 256 *ℤ below)
+scaled_steps right below a b = mul-add (pos 256) (pos a *ℤ right) (pos b *ℤ below) ∙ (λ i. mul_left_comm (pos 256) (pos a) right i +ℤ mul_left_comm (pos 256) (pos b) below i)
 
-abbrev steps_to : ShortFunction → ℕ → ℕ → ℤ
-steps_to s x y = pos x *ℤ s.step_x +ℤ pos y *ℤ s.step_y
+-- a function's value without its last eight bits, from its origin without them
+pub short_linear : (p : PackedFunction) (o : ℤ) (x y : ℕ) → IsShort o p.origin → IsShort (o +ℤ pos x *ℤ p.step_x +ℤ pos y *ℤ p.step_y) (linear (unpacked p) x y)
+short_linear p o x y short =
+    let least = short.least in
+    let most = short.most in
+    let steps = scaled_steps p.step_x p.step_y x y in
+    record { least = omega (arith, ints, least, steps); most = omega (arith, ints, most, steps) }
 
--- a function whose origin and steps are a function's in units of 256, rounded down
-pub short_of : (f : EdgeFunction) (e : Edge) → IsFunctionOf f e → (s : ShortFunction) → (pos 256 *ℤ s.origin) ≤ℤ f.origin → f.origin <ℤ (pos 256 *ℤ s.origin +ℤ pos 256) → unsigned_abs s.origin ≤ 2 ^ 37
-    → ((n : ℤ) → f.step_x ≡ pos 256 *ℤ n → s.step_x ≡ n) → unsigned_abs s.step_x ≤ 2 ^ 21 → ((n : ℤ) → f.step_y ≡ pos 256 *ℤ n → s.step_y ≡ n) → unsigned_abs s.step_y ≤ 2 ^ 21 → IsShortOf s e
-short_of f e is s least most small across x_small down y_small =
-    record {
-      short = record { small = record { origin = omega (arith, small); step_x = omega (arith, x_small); step_y = omega (arith, y_small) }; step_x = x_small; step_y = y_small };
-      tells = λ x y. subst (λ v. (pos 0 ≤ℤ linear (wide_of s) x y) ↔ (pos 0 ≤ℤ v)) (away x y) (subst (λ v. (pos 0 ≤ℤ v) ↔ (pos 0 ≤ℤ (f.origin +ℤ pos 256 *ℤ steps_to s x y))) (together s.origin s.step_x s.step_y x y) (short_tells s.origin f.origin (steps_to s x y) least most));
-    }
-  where
-    together : (o right below : ℤ) (x y : ℕ) → o +ℤ (pos x *ℤ right +ℤ pos y *ℤ below) ≡ o +ℤ pos x *ℤ right +ℤ pos y *ℤ below
-    together o right below x y = omega (arith, ints)
-
-    away : (x y : ℕ) → f.origin +ℤ pos 256 *ℤ steps_to s x y ≡ edge_value e x y
-    away x y =
-        whole_steps f.origin f.step_x f.step_y s.step_x s.step_y x y (is.whole_x ∙ ap (λ n. pos 256 *ℤ n) (sym (across is.right is.whole_x))) (is.whole_y ∙ ap (λ n. pos 256 *ℤ n) (sym (down is.below is.whole_y)))
-        ∙ is.value x y
-
--- the linear function behind the lanes, from the first value cut off
-module _ (s : ShortFunction) (e : Edge) (is : IsShortOf s e) (x y : ℕ) (value c : ℤ) (value_is : value ≡ linear (wide_of s) x y) (small : unsigned_abs c ≤ 2 ^ 27)
+-- the linear function behind the lanes, from the first value, which is short and cut off
+module _ (p : PackedFunction) (e : Edge) (is : IsFunctionOf (unpacked p) e) (x y : ℕ) (value c : ℤ) (short : IsShort value (linear (unpacked p) x y)) (small : unsigned_abs c ≤ 2 ^ 27)
     (sign : (by : ℤ) → unsigned_abs by < 2 ^ 27 → (pos 0 ≤ℤ (c +ℤ by)) ↔ (pos 0 ≤ℤ (value +ℤ by))) where
   abbrev away : ℕ → ℕ → ℤ
-  away a b = pos a *ℤ s.step_x +ℤ pos b *ℤ s.step_y
+  away a b = pos a *ℤ p.step_x +ℤ pos b *ℤ p.step_y
 
-  value_there : (a b : ℕ) → value +ℤ away a b ≡ linear (wide_of s) (x + a) (y + b)
-  value_there a b = ap (λ v. v +ℤ away a b) value_is ∙ value_away s.origin s.step_x s.step_y x y a b
+  near : (a b : ℕ) → a < 32 → b < 32 → unsigned_abs (away a b) < 2 ^ 27
+  near = small_away p.step_x p.step_y (small_step p.step_x is.small.step_x) (small_step p.step_y is.small.step_y)
+
+  value_there : (a b : ℕ) → linear (unpacked p) x y +ℤ pos 256 *ℤ away a b ≡ edge_value e (x + a) (y + b)
+  value_there a b =
+      ap (λ v. linear (unpacked p) x y +ℤ v) (scaled_steps p.step_x p.step_y a b)
+      ∙ value_away p.origin (pos 256 *ℤ p.step_x) (pos 256 *ℤ p.step_y) x y a b ∙ is.value (x + a) (y + b)
 
   pub signs_from : SignFunction e x y
   signs_from = record {
-    origin = c -ℤ pos x *ℤ s.step_x -ℤ pos y *ℤ s.step_y;
-    right = s.step_x;
-    below = s.step_y;
-    fits = λ a b h k. subst (FitsSigned w32) (sym (sign_away c s.step_x s.step_y x y a b)) (sum_fits c (away a b) small (small_away s.step_x s.step_y a b is.short.step_x is.short.step_y h k));
+    origin = c -ℤ pos x *ℤ p.step_x -ℤ pos y *ℤ p.step_y;
+    right = p.step_x;
+    below = p.step_y;
+    fits = λ a b h k. subst (FitsSigned w32) (sym (sign_away c p.step_x p.step_y x y a b)) (sum_fits c (away a b) small (near a b h k));
     tells = λ a b h k.
-        let near = sign (away a b) (small_away s.step_x s.step_y a b is.short.step_x is.short.step_y h k) in
-        let there = is.tells (x + a) (y + b) in
-        subst (λ v. (pos 0 ≤ℤ v) ↔ (pos 0 ≤ℤ edge_value e (x + a) (y + b))) (sym (sign_away c s.step_x s.step_y x y a b))
-        (λ p. there.0 (subst (λ v. pos 0 ≤ℤ v) (value_there a b) (near.0 p)), λ p. near.1 (subst (λ v. pos 0 ≤ℤ v) (sym (value_there a b)) (there.1 p)));
+        let cut = sign (away a b) (near a b h k) in
+        let there = subst (λ v. (pos 0 ≤ℤ (value +ℤ away a b)) ↔ (pos 0 ≤ℤ v)) (value_there a b) (short_tells value (linear (unpacked p) x y) (away a b) short) in
+        subst (λ v. (pos 0 ≤ℤ v) ↔ (pos 0 ≤ℤ edge_value e (x + a) (y + b))) (sym (sign_away c p.step_x p.step_y x y a b)) (λ q. there.0 (cut.0 q), λ q. cut.1 (there.1 q));
   }
 
 -- ---- lanes
@@ -190,16 +179,16 @@ signs_across n lanes across below e left top x y fits h =
     }
 
 -- the lanes of a first value and a step
-pub first_signs : (n : ℕ) → n ≤ 8 → (s : ShortFunction) (e : Edge) (is : IsShortOf s e) (x y : ℕ) (value c across : ℤ) → value ≡ linear (wide_of s) x y → unsigned_abs c ≤ 2 ^ 27
-    → ((by : ℤ) → unsigned_abs by < 2 ^ 27 → (pos 0 ≤ℤ (c +ℤ by)) ↔ (pos 0 ≤ℤ (value +ℤ by))) → FitsSigned w32 c → FitsSigned w32 s.step_x → across ≡ pos n *ℤ s.step_x
-    → (lanes : List ℤ) → length lanes ≡ n → ((j : ℕ) → j < n → slice_index_or lanes j (pos 0) ≡ wrapped_lane c s.step_x j)
-    → AreLanes n lanes across s.step_y e x y x y
+pub first_signs : (n : ℕ) → n ≤ 8 → (p : PackedFunction) (e : Edge) (is : IsFunctionOf (unpacked p) e) (x y : ℕ) (value c across : ℤ) → IsShort value (linear (unpacked p) x y) → unsigned_abs c ≤ 2 ^ 27
+    → ((by : ℤ) → unsigned_abs by < 2 ^ 27 → (pos 0 ≤ℤ (c +ℤ by)) ↔ (pos 0 ≤ℤ (value +ℤ by))) → FitsSigned w32 c → FitsSigned w32 p.step_x → across ≡ pos n *ℤ p.step_x
+    → (lanes : List ℤ) → length lanes ≡ n → ((j : ℕ) → j < n → slice_index_or lanes j (pos 0) ≡ wrapped_lane c p.step_x j)
+    → AreLanes n lanes across p.step_y e x y x y
 unfolding signs_from
-first_signs n few s e is x y value c across value_is small sign fc fr across_is lanes long each =
+first_signs n few p e is x y value c across short small sign fc fr across_is lanes long each =
     record {
-      signs = signs_from s e is x y value c value_is small sign;
+      signs = signs_from p e is x y value c short small sign;
       long = long;
-      lane = λ j h. each j h ∙ wrapped_lane_is c s.step_x j fc fr (omega (arith, few, h)) ∙ ap (int_wrap w32) (first_sign c s.step_x s.step_y x y j);
+      lane = λ j h. each j h ∙ wrapped_lane_is c p.step_x j fc fr (omega (arith, few, h)) ∙ ap (int_wrap w32) (first_sign c p.step_x p.step_y x y j);
       right = across_is;
       down = refl;
     }

@@ -1,27 +1,15 @@
 -- The signs of an edge's values at pixels side by side, as numbers of 32 bits.
-use Rattle.std.specs.Prelude.{◌≡◌, ℕ, ◌+◌, ◌<◌, ◌≤◌, ◌^◌, ℤ, pos, ◌+ℤ◌, ◌*ℤ◌, ◌≤ℤ◌, ◌↔◌, unsigned_abs, FitsSigned, List, length, slice_index_or}
+use Rattle.std.specs.Prelude.{◌≡◌, ℕ, ◌+◌, ◌<◌, ℤ, pos, ◌+ℤ◌, ◌*ℤ◌, ◌≤ℤ◌, ◌<ℤ◌, ◌↔◌, FitsSigned, List, length, slice_index_or}
 use Rattle.std.specs.Int.{w32, int_wrap}
 use Rattle.gfxspec.specs.Raster.{Edge}
 use Rattle.edges.specs.Value.{edge_value}
-use Rattle.edges.specs.Function.{IsSmall, linear}
-use Rattle.edges.specs.declared.EdgeFunction.{EdgeFunction}
-use Rattle.edges.specs.declared.signs.ShortFunction.{ShortFunction}
 use Rattle.edges.specs.declared.signs.SignLanes.{SignLanes}
 use Rattle.edges.specs.declared.signs.QuadSigns.{QuadSigns}
 
-abbrev pub wide_of : ShortFunction → EdgeFunction
-wide_of s = record { origin = s.origin; step_x = s.step_x; step_y = s.step_y }
-
--- s is small enough for steps of 32 bits
-pub record IsShort (s : ShortFunction) : Type 0 where
-  pub small : IsSmall (wide_of s)
-  pub step_x : unsigned_abs s.step_x ≤ 2 ^ 21
-  pub step_y : unsigned_abs s.step_y ≤ 2 ^ 21
-
--- s has the sign of the edge's value at each pixel
-pub record IsShortOf (s : ShortFunction) (e : Edge) : Type 0 where
-  pub short : IsShort s
-  pub tells : (x y : ℕ) → (pos 0 ≤ℤ linear (wide_of s) x y) ↔ (pos 0 ≤ℤ edge_value e x y)
+-- n is v without its last eight bits
+pub record IsShort (n v : ℤ) : Type 0 where
+  pub least : (pos 256 *ℤ n) ≤ℤ v
+  pub most : v <ℤ (pos 256 *ℤ n +ℤ pos 256)
 
 -- a linear function of the pixel whose sign is that of the edge's value, within 32 rows and columns of (left, top)
 pub record SignFunction (e : Edge) (left top : ℕ) : Type 0 where

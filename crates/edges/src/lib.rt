@@ -10,7 +10,7 @@ mod reach;
 mod signs;
 mod walk;
 
-ghost use Rattle.std.specs.Prelude.{◌≡◌, ◌≢◌, ◌↔◌, ℕ, ◌≤◌, ◌<◌, ◌^◌, ◌+◌, ℤ, pos, neg_ℤ, ◌≤ℤ◌, ◌+ℤ◌, unsigned_abs, IsNone, IfSome, IsTrue};
+ghost use Rattle.std.specs.Prelude.{◌≡◌, ◌≢◌, ◌↔◌, ℕ, ◌≤◌, ◌<◌, ◌^◌, ◌+◌, ℤ, pos, neg_ℤ, ◌≤ℤ◌, ◌+ℤ◌, ◌*ℤ◌, unsigned_abs, IsNone, IfSome, IsTrue};
 ghost use Rattle.gfxspec.specs.Limits.{side_bound, walk_bound};
 ghost use Rattle.gfxspec.specs.Raster.{Edge, area, centre, covers, edge, edge_holds, side_of};
 ghost use Rattle.gfxspec.specs.Tiles.{IsIn};
@@ -37,7 +37,8 @@ struct EdgeFunction {
     step_y: i64,
 }
 
-/// The same with steps of 32 bits, as a set keeps it.
+/// The same as a set keeps it: the origin in 1/65,536 of a pixel, and the steps, which are multiples of 256, in 1/256
+/// of one.
 #[derive(Clone, Copy, Debug)]
 struct PackedFunction {
     origin: i64,
@@ -75,6 +76,15 @@ fn bias_of(step_x: i64, step_y: i64) -> i64
     if is_top_or_left { 0 } else { 1 }
 }
 
+/// A step in 1/256 of a pixel: an edge's steps are multiples of 256.
+fn short_step(step: i64) -> i32
+    requires { unsigned_abs step ≤ step_bound }
+    ensures small { unsigned_abs result ≤ 2 ^ 21 }
+    ensures whole { (n : ℤ) → step ≡ pos 256 *ℤ n → result ≡ n }
+{
+    (step >> 8) as i32
+}
+
 impl EdgeFunction {
     /// The function of an edge, from the side at it.
     fn of(side: Side) -> EdgeFunction
@@ -105,12 +115,12 @@ impl PackedFunction {
     #[inline(always)]
     fn of(function: EdgeFunction) -> PackedFunction
         requires { IsSmall function }
-        ensures { unpacked result ≡ function }
+        ensures { (e : Edge) → IsFunctionOf function e → unpacked result ≡ function }
     {
         PackedFunction {
             origin: function.origin,
-            step_x: function.step_x as i32,
-            step_y: function.step_y as i32,
+            step_x: short_step(function.step_x),
+            step_y: short_step(function.step_y),
         }
     }
 
@@ -121,8 +131,8 @@ impl PackedFunction {
     {
         EdgeFunction {
             origin: self.origin,
-            step_x: i64::from(self.step_x),
-            step_y: i64::from(self.step_y),
+            step_x: 256 * i64::from(self.step_x),
+            step_y: 256 * i64::from(self.step_y),
         }
     }
 }

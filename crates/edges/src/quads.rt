@@ -6,7 +6,7 @@ ghost use Rattle.gfxspec.specs.Raster.{centre, covers};
 ghost use Rattle.edges.specs.Walk.{IsNearBegin};
 
 use crate::EdgeSet;
-use crate::signs::{QuadSigns, ShortFunction};
+use crate::signs::QuadSigns;
 use snap::SnapTri;
 use std::marker::Model;
 use std::simd::prelude::*;
@@ -50,9 +50,9 @@ impl EdgeSet {
             top: y,
             x,
             y,
-            first: QuadSigns::of(ShortFunction::of(self.functions[0].function()), x, y),
-            second: QuadSigns::of(ShortFunction::of(self.functions[1].function()), x, y),
-            third: QuadSigns::of(ShortFunction::of(self.functions[2].function()), x, y),
+            first: QuadSigns::of(self.functions[0], x, y),
+            second: QuadSigns::of(self.functions[1], x, y),
+            third: QuadSigns::of(self.functions[2], x, y),
         }
     }
 }

@@ -1,14 +1,13 @@
 //! One edge at eight pixels side by side, in 32 bits a pixel. Only the sign counts: it lives without a value's last eight bits, and near
 //! the first pixel it lives through a cut.
 
-ghost use Rattle.std.specs.Prelude.{◌≡◌, ℕ, ℤ, ◌<◌, ◌≤◌, ◌+◌, ◌^◌, ◌↔◌, pos, ◌+ℤ◌, ◌*ℤ◌, ◌≤ℤ◌, ◌<ℤ◌, unsigned_abs};
+ghost use Rattle.std.specs.Prelude.{ℕ, ℤ, ◌<◌, ◌≤◌, ◌+◌, ◌^◌, ◌↔◌, pos, ◌+ℤ◌, ◌≤ℤ◌, unsigned_abs};
 ghost use Rattle.gfxspec.specs.Limits.{side_bound};
 ghost use Rattle.gfxspec.specs.Raster.{Edge};
-ghost use Rattle.snap.specs.Bounds.{step_bound};
-ghost use Rattle.edges.specs.Function.{IsFunctionOf, IsSmall};
-ghost use Rattle.edges.specs.Signs.{wide_of, IsShort, IsShortOf, AreSigns, AreQuadSigns};
+ghost use Rattle.edges.specs.Function.{IsFunctionOf, IsSmall, linear, unpacked};
+ghost use Rattle.edges.specs.Signs.{IsShort, AreSigns, AreQuadSigns};
 
-use crate::EdgeFunction;
+use crate::{EdgeFunction, PackedFunction};
 use std::simd::prelude::*;
 
 /// Numbers that have the signs of an edge's values at eight pixels side by side, in units of 1/256 of a pixel, and what eight pixels
@@ -23,11 +22,10 @@ pub(crate) struct SignLanes {
 /// A value without its last eight bits.
 fn short_value(value: i64) -> i64
     requires { unsigned_abs value ≤ 2 ^ 44 }
-    ensures least { (pos 256 *ℤ result) ≤ℤ value }
-    ensures most { value <ℤ (pos 256 *ℤ result +ℤ pos 256) }
+    ensures short { IsShort result value }
     ensures small { unsigned_abs result ≤ 2 ^ 37 }
 {
-    value.div_euclid(256)
+    value >> 8
 }
 
 /// A value, cut off where no 31 steps each way change its sign.
@@ -38,60 +36,33 @@ fn cut_off(value: i64) -> i32
     value.clamp(-134_217_728, 134_217_728) as i32
 }
 
-/// What a pixel adds to a value without its last eight bits: an edge's steps are multiples of 256.
-fn short_step(step: i64) -> i32
-    requires { unsigned_abs step ≤ step_bound }
-    ensures small { unsigned_abs result ≤ 2 ^ 21 }
-    ensures whole { (n : ℤ) → step ≡ pos 256 *ℤ n → result ≡ n }
-{
-    step.div_euclid(256) as i32
-}
-
-/// A linear function of the pixel that has the sign of an edge's value: that value without its last eight bits, which are the same at each
-/// pixel.
-#[derive(Clone, Copy, Debug)]
-pub(crate) struct ShortFunction {
-    pub(crate) origin: i64,
-    pub(crate) step_x: i32,
-    pub(crate) step_y: i32,
-}
-
-impl ShortFunction {
-    /// The short function of an edge.
+impl PackedFunction {
+    /// The value at the centre of pixel (x, y) without its last eight bits, which are the same at each pixel.
     #[inline(always)]
-    pub(crate) fn of(function: EdgeFunction) -> ShortFunction
-        requires { IsSmall function }
-        ensures { (e : Edge) → IsFunctionOf function e → IsShortOf result e }
+    fn short_at(self, x: u32, y: u32) -> i64
+        requires small { IsSmall (unpacked self) }
+        requires x { x < side_bound }
+        requires y { y < side_bound }
+        ensures { IsShort result (linear (unpacked self) x y) }
     {
-        ShortFunction {
-            origin: short_value(function.origin),
-            step_x: short_step(function.step_x),
-            step_y: short_step(function.step_y),
-        }
-    }
-
-    /// The same in wide numbers.
-    #[inline(always)]
-    fn wide(self) -> EdgeFunction
-        ensures { result ≡ wide_of self }
-    {
-        EdgeFunction {
-            origin: self.origin,
+        let short = EdgeFunction {
+            origin: short_value(self.origin),
             step_x: i64::from(self.step_x),
             step_y: i64::from(self.step_y),
-        }
+        };
+        short.at(x, y)
     }
 }
 
 impl SignLanes {
     /// The lanes of an edge at the eight pixels from (x, y) on.
-    pub(crate) fn of(function: ShortFunction, x: u32, y: u32) -> SignLanes
-        requires short { IsShort function }
+    pub(crate) fn of(function: PackedFunction, x: u32, y: u32) -> SignLanes
+        requires small { IsSmall (unpacked function) }
         requires x { x < side_bound }
         requires y { y < side_bound }
-        ensures { (e : Edge) → IsShortOf function e → AreSigns result e x y x y }
+        ensures { (e : Edge) → IsFunctionOf (unpacked function) e → AreSigns result e x y x y }
     {
-        let first = cut_off(function.wide().at(x, y));
+        let first = cut_off(function.short_at(x, y));
         let right = function.step_x;
         let places = i32x8::from_array([0, 1, 2, 3, 4, 5, 6, 7]);
         SignLanes {
@@ -137,13 +108,13 @@ pub(crate) struct QuadSigns {
 impl QuadSigns {
     /// The lanes of an edge at the four pixels from (x, y) on.
     #[inline(always)]
-    pub(crate) fn of(function: ShortFunction, x: u32, y: u32) -> QuadSigns
-        requires short { IsShort function }
+    pub(crate) fn of(function: PackedFunction, x: u32, y: u32) -> QuadSigns
+        requires small { IsSmall (unpacked function) }
         requires x { x < side_bound }
         requires y { y < side_bound }
-        ensures { (e : Edge) → IsShortOf function e → AreQuadSigns result e x y x y }
+        ensures { (e : Edge) → IsFunctionOf (unpacked function) e → AreQuadSigns result e x y x y }
     {
-        let first = cut_off(function.wide().at(x, y));
+        let first = cut_off(function.short_at(x, y));
         let right = function.step_x;
         let places = i32x4::from_array([0, 1, 2, 3]);
         QuadSigns {

@@ -7,7 +7,7 @@ ghost use Rattle.gfxspec.specs.Raster.{centre, covers};
 ghost use Rattle.edges.specs.Walk.{IsNearBegin};
 
 use crate::EdgeSet;
-use crate::signs::{ShortFunction, SignLanes};
+use crate::signs::SignLanes;
 use snap::SnapTri;
 use std::marker::Model;
 use std::simd::prelude::*;
@@ -50,9 +50,9 @@ impl EdgeSet {
             top: y,
             x,
             y,
-            first: SignLanes::of(ShortFunction::of(self.functions[0].function()), x, y),
-            second: SignLanes::of(ShortFunction::of(self.functions[1].function()), x, y),
-            third: SignLanes::of(ShortFunction::of(self.functions[2].function()), x, y),
+            first: SignLanes::of(self.functions[0], x, y),
+            second: SignLanes::of(self.functions[1], x, y),
+            third: SignLanes::of(self.functions[2], x, y),
         }
     }
 }

@@ -1,10 +1,14 @@
-use Rattle.std.proofs.Common.{rules, pos, ◌≢◌, subst, sym}
-use Rattle.gfxspec.specs.Raster.{edge}
+use Rattle.std.proofs.Common.{rules, pos, ◌≡◌, ◌≢◌, subst, sym}
+use Rattle.gfxspec.specs.Raster.{Edge, edge}
 use Rattle.snap.specs.Corners.{triangle_of}
+use Rattle.edges.specs.declared.EdgeFunction.{EdgeFunction}
 use Rattle.edges.specs.declared.PackedFunction.{PackedFunction}
 use Rattle.edges.specs.Function.{IsFunctionOf, unpacked}
 use Rattle.edges.proofs.FunctionLaws.{each_edge, whole_first, whole_second}
 use Rattle.edges.proofs.EdgeSet.of_sides.Goals as goal
+
+packed : (e : Edge) (f : EdgeFunction) (p : PackedFunction) → ((e : Edge) → IsFunctionOf f e → unpacked p ≡ f) → IsFunctionOf f e → IsFunctionOf (unpacked p) e
+packed e f p same is = subst (λ f. IsFunctionOf f e) (sym (same e is)) is
 
 pub invariant_of-result : goal.invariant_of-result
 invariant_of-result c =
@@ -12,9 +16,9 @@ invariant_of-result c =
     let t = triangle_of s.triangle in
     let real : s.area ≢ pos 0 = search rules in
     each_edge (λ (p : PackedFunction) e. IsFunctionOf (unpacked p) e) t c.of-2.result c.of-4.result c.of-6.result (record { origin = pos 0; step_x = pos 0; step_y = pos 0 })
-    (subst (λ f. IsFunctionOf f (edge t 0)) (sym c.of-2.ensures) (c.of.ensures.function (edge t 0) s.area real (whole_first t s.area s.area_is) s.first_is))
-    (subst (λ f. IsFunctionOf f (edge t 1)) (sym c.of-4.ensures) (c.of-3.ensures.function (edge t 1) s.area real (whole_second t s.area s.area_is) s.second_is))
-    (subst (λ f. IsFunctionOf f (edge t 2)) (sym c.of-6.ensures) (c.of-5.ensures.function (edge t 2) s.area real s.area_is s.third_is))
+    (packed (edge t 0) _ c.of-2.result c.of-2.ensures (c.of.ensures.function (edge t 0) s.area real (whole_first t s.area s.area_is) s.first_is))
+    (packed (edge t 1) _ c.of-4.result c.of-4.ensures (c.of-3.ensures.function (edge t 1) s.area real (whole_second t s.area s.area_is) s.second_is))
+    (packed (edge t 2) _ c.of-6.result c.of-6.ensures (c.of-5.ensures.function (edge t 2) s.area real s.area_is s.third_is))
 
 pub of-requires-2 : goal.of-requires-2
 of-requires-2 c = c.of.ensures.small
