@@ -48,19 +48,19 @@ module _ {A : Type 0} (old : Compiling A) (s : Settings) (bits : ℕ) (now : Cur
         append_assoc items (drawn_items s opened done) (Drawn p s opened ∷ [])
         ∙ ap (λ l. items ++ l) (sym (map-append (λ p. Drawn p s opened) done (p ∷ [])))
 
-    pub drew_setup : (new : Compiling A) (whole : List Primitive) (setup : TriSetup) → whole ≡ p ∷ left → Drew old mid s bits now all whole → AddsSetup setup now mid new → length new.lists.bins ≡ length mid.lists.bins → IsSetupOf setup p s → Drew old new s bits now all left
-    drew_setup new whole setup is h a b k = record {
+    pub drew_setup : (new : Compiling A) (whole : List Primitive) (setup : TriSetup) (number : ℕ) → whole ≡ p ∷ left → Drew old mid s bits now all whole → AddsSetup setup number now mid new → length new.lists.bins ≡ length mid.lists.bins → IsSetupOf setup p s → Drew old new s bits now all left
+    drew_setup new whole setup number is h a b k = record {
       done = h.done ++ p ∷ [];
       split = append_assoc h.done (p ∷ []) left ∙ ap (λ l. h.done ++ l) (sym is) ∙ h.split;
       size = a.lists.size ∙ h.size;
       bins = b ∙ h.bins;
-      sound = setup_sound mid new setup now a h.sound;
+      sound = setup_sound mid new setup number now a h.sound;
       is = same_entry mid.states.items new.states.items now a.states h.is;
       draws = h.draws;
       current = a.current ∙ h.current;
       means = λ items opened are c.
           subst (HasCompiled new) (pushed items opened h.done)
-          (setup_means mid new setup now p s bits opened (items ++ drawn_items s opened h.done) a h.sound.lists k are h.current h.is h.draws (h.means items opened are c));
+          (setup_means mid new setup number now p s bits opened (items ++ drawn_items s opened h.done) a h.sound.lists k are h.current h.is h.draws (h.means items opened are c));
     }
 
     pub drew_skip : (whole : List Primitive) → whole ≡ p ∷ left → Drew old mid s bits now all whole → ((x y : ℕ) → x < 4096 → y < 4096 → x < mid.lists.size.width → y < mid.lists.size.height → reaches p s x y ≡ false) → Drew old mid s bits now all left

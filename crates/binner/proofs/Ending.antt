@@ -87,9 +87,9 @@ module _ {A : Type 0} (c : Compiling A) (size : IsTrue (is_size c.lists.size)) (
       none : (n : ℕ) → None ≡ Some n → ⊥
       none n p = cc
 
-  pub fresh : c.current ≡ None → c.triangles.items ≡ [] → c.colors.items ≡ [] → c.depths.items ≡ [] → IsFresh c
-  fresh n t u v = record {
-    sound = record { current = λ now e. absurd (no_entry now (sym n ∙ e)); lists = first_lists; short = λ k. no_longer k _; triangles = rw t (omega arith); clears = rw (u, v) (omega arith) };
+  pub fresh : c.current ≡ None → c.triangles ≡ [] → c.drawn ≡ 0 → c.colors.items ≡ [] → c.depths.items ≡ [] → IsFresh c
+  fresh n t d u v = record {
+    sound = record { current = λ now e. absurd (no_entry now (sym n ∙ e)); lists = first_lists; short = λ k. no_longer k _; triangles = rw t (omega arith); drawn = rw d (omega arith); clears = rw (u, v) (omega arith) };
     compiled = λ k l. subst (ListMeans (tables c) (tile_rect c.lists.size k) [] c.current) (sym (at_first k)) (nothing_listed (tables c) (tile_rect c.lists.size k) c.current);
   }
     where
@@ -104,7 +104,7 @@ module _ {A : Type 0} (begun : ℕ) (c : Compiling A) (is : List Item) (h : HasC
     size = sound.lists.size;
     issues = few;
     tiles = sound.lists.bins;
-    short = λ k. most _ _ _ _ (sound.short k) sound.triangles sound.clears;
+    short = λ k. most _ _ _ _ (sound.short k) sound.drawn sound.clears;
     programs = λ k l. program_fits (tables c) (tile_rect c.lists.size k) is c.current (at c.lists k) (h k l);
     touched = sound.lists.once;
   }

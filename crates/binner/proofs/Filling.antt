@@ -44,7 +44,7 @@ module _ {A : Type 0} (old mid : Compiling A) (s : Settings) (bits : ℕ) (now :
   pub filled_all : (ts : List TriSetup) → ts ≡ [] → Filled old mid s bits now all ts → Drew old mid s bits now all []
   filled_all ts e h = all_dropped h.left h.drew (subst (AreSetups s old.lists.size h.left) e h.made)
 
-  pub filled_setup : (new : Compiling A) (t : TriSetup) (rest ts : List TriSetup) → ts ≡ t ∷ rest → Filled old mid s bits now all ts → AddsSetup t now mid new → length new.lists.bins ≡ length mid.lists.bins → Filled old new s bits now all rest
-  filled_setup new t rest ts e h a b =
+  pub filled_setup : (new : Compiling A) (t : TriSetup) (number : ℕ) (rest ts : List TriSetup) → ts ≡ t ∷ rest → Filled old mid s bits now all ts → AddsSetup t number now mid new → length new.lists.bins ≡ length mid.lists.bins → Filled old new s bits now all rest
+  filled_setup new t number rest ts e h a b =
       let n = next h.left t rest h.drew (subst (AreSetups s old.lists.size h.left) e h.made) in
-      record { left = n.left; made = n.made; drew = drew_setup old s bits now all mid n.p n.left new (n.p ∷ n.left) t refl n.drew a b n.is }
+      record { left = n.left; made = n.made; drew = drew_setup old s bits now all mid n.p n.left new (n.p ∷ n.left) t number refl n.drew a b n.is }

@@ -22,13 +22,13 @@ use Rattle.binner.specs.Compiling.{tables, ListMeans, HasCompiled, IsSound, IsEn
 use Rattle.binner.proofs.Changing.{Longer, added_longer, cleared_longer}
 use Rattle.binner.proofs.Steps.{triangle_listed, color_listed, depth_listed, list_kept, list_entered, get_more, new_place, small_tile}
 
-more_or_same : {A : Type 0} (xs ys zs : List A) → ys ≡ xs ++ zs → (n : ℕ) (x : A) → slice_get xs n ≡ Some x → slice_get ys n ≡ Some x
+pub more_or_same : {A : Type 0} (xs ys zs : List A) → ys ≡ xs ++ zs → (n : ℕ) (x : A) → slice_get xs n ≡ Some x → slice_get ys n ≡ Some x
 more_or_same xs ys zs e n x h = ap (λ l. slice_get l n) e ∙ get_more xs zs n x h
 
 pub same_get : {A : Type 0} (xs ys : List A) → ys ≡ xs → (n : ℕ) (x : A) → slice_get xs n ≡ Some x → slice_get ys n ≡ Some x
 same_get xs ys e n x h = ap (λ l. slice_get l n) e ∙ h
 
-at_end : {A : Type 0} (xs ys : List A) (x : A) → ys ≡ xs ++ x ∷ [] → slice_get ys (length xs) ≡ Some x
+pub at_end : {A : Type 0} (xs ys : List A) (x : A) → ys ≡ xs ++ x ∷ [] → slice_get ys (length xs) ≡ Some x
 at_end xs ys x e = ap (λ l. slice_get l (length xs)) e ∙ new_place xs x
 
 -- the same entry, in a table that didn't change
@@ -48,20 +48,22 @@ same_enters old s bits now e sound c read draws =
       states = inl (c, refl);
       lists = refl;
       triangles = refl;
+      drawn = refl;
       colors = refl;
       depths = refl;
     }
 
 module _ {A : Type 0} (old new : Compiling A) where
   -- an entry that is new
-  pub new_enters : (s : Settings) (bits : ℕ) (now : Current) → now.entry ≡ length old.states.items → now.first ≡ length old.triangles.items → now.counted ≡ not (bits == 0) → new.current ≡ Some now → new.states.items ≡ old.states.items ++ entry_of s bits ∷ [] → new.lists ≡ old.lists → new.triangles.items ≡ old.triangles.items → new.colors.items ≡ old.colors.items → new.depths.items ≡ old.depths.items → Enters s bits now old new
-  new_enters s bits now place first counted c states lists triangles colors depths = record {
+  pub new_enters : (s : Settings) (bits : ℕ) (now : Current) → now.entry ≡ length old.states.items → now.first ≡ length old.triangles → now.counted ≡ not (bits == 0) → new.current ≡ Some now → new.states.items ≡ old.states.items ++ entry_of s bits ∷ [] → new.lists ≡ old.lists → new.triangles ≡ old.triangles → new.drawn ≡ old.drawn → new.colors.items ≡ old.colors.items → new.depths.items ≡ old.depths.items → Enters s bits now old new
+  new_enters s bits now place first counted c states lists triangles drawn colors depths = record {
     is = record { entry = entry_of s bits; place = ap (slice_get new.states.items) place ∙ at_end old.states.items new.states.items (entry_of s bits) states; uncounted = λ h. none bits (sym counted ∙ h) };
     draws = record { scissor = λ x y. refl; depth_stencil = refl; reference = refl; blend = refl; issues = refl };
     current = c;
     states = inr (first, states);
     lists = lists;
     triangles = triangles;
+    drawn = drawn;
     colors = colors;
     depths = depths;
   }
@@ -78,7 +80,7 @@ module _ {A : Type 0} (old new : Compiling A) where
       was : (k : ℕ) (l : k < tile_count old.lists.size) (z : Current) (n : ℕ) → new.current ≡ Some z → drawn_behind None (program (at old.lists k).numbers) ≡ Some n → z.first ≤ n → old.current ≡ Some z
       was k l z n c q le = ⊎_elim
           (λ p. p.0 ∙ sym h.current ∙ c)
-          (λ p. absurd (above _ _ _ _ (ap (λ o. (unwrap_or o s).first) (sym h.current ∙ c)) p.0 le (let x = (all k l).below n q in slice_get_within old.triangles.items n x.0 x.1)))
+          (λ p. absurd (above _ _ _ _ (ap (λ o. (unwrap_or o s).first) (sym h.current ∙ c)) p.0 le (let x = (all k l).below n q in slice_get_within old.triangles n x.0 x.1)))
           h.states
         where
           above : (a b n t : ℕ) → a ≡ b → a ≡ t → b ≤ n → n < t → ⊥
@@ -92,18 +94,18 @@ module _ {A : Type 0} (old new : Compiling A) where
         depths = same_get _ _ h.depths;
       }
 
-  pub setup_means : (setup : TriSetup) (now : Current) (p : Primitive) (s : Settings) (bits : ℕ) (opened : List ℕ) (items : List Item) → AddsSetup setup now old new → IsLists old.lists → IsSetupOf setup p s → AreBits bits opened → old.current ≡ Some now → (i : IsEntry old.states.items now) → DrawsUnder i.entry s bits → HasCompiled old items → HasCompiled new (items ++ Drawn p s opened ∷ [])
-  setup_means setup now p s bits opened items h sound is are c i u all =
+  pub setup_means : (setup : TriSetup) (number : ℕ) (now : Current) (p : Primitive) (s : Settings) (bits : ℕ) (opened : List ℕ) (items : List Item) → AddsSetup setup number now old new → IsLists old.lists → IsSetupOf setup p s → AreBits bits opened → old.current ≡ Some now → (i : IsEntry old.states.items now) → DrawsUnder i.entry s bits → HasCompiled old items → HasCompiled new (items ++ Drawn p s opened ∷ [])
+  setup_means setup number now p s bits opened items h sound is are c i u all =
       subst (λ z. (k : ℕ) → k < tile_count z → ListMeans (tables new) (tile_rect z k) (items ++ Drawn p s opened ∷ []) new.current (at new.lists k)) (sym h.lists.size)
-      (λ k l. triangle_listed setup p s is (tables new) (tile_rect old.lists.size k) items new.current opened bits now (length old.triangles.items) (at old.lists k) (at new.lists k)
-      (small_tile old.lists.size k sound.size) are (h.current ∙ c) (same_entry old.states.items new.states.items now h.states i) u (at_end _ _ setup h.triangles) (h.lists.each k l)
+      (λ k l. triangle_listed setup p s is (tables new) (tile_rect old.lists.size k) items new.current opened bits now number (at old.lists k) (at new.lists k)
+      (small_tile old.lists.size k sound.size) are (h.current ∙ c) (same_entry old.states.items new.states.items now h.states i) u h.place (h.lists.each k l)
       (subst (λ z. ListMeans (tables new) (tile_rect old.lists.size k) items z (at old.lists k)) (sym h.current)
       (list_kept (tables old) (tables new) (tile_rect old.lists.size k) items old.current (at old.lists k) kept (all k l))))
     where
       kept : Keeps (tables old) (tables new)
       kept = record {
         states = same_get _ _ h.states;
-        triangles = more_or_same _ _ _ h.triangles;
+        triangles = h.kept;
         colors = same_get _ _ h.colors;
         depths = same_get _ _ h.depths;
       }
@@ -175,8 +177,9 @@ module _ {A : Type 0} (old new : Compiling A) where
   entered_sound t bits n h k = record {
     current = λ z e. subst (IsEntry new.states.items) (the_same n z (sym h.current ∙ e)) h.is;
     lists = subst IsLists (sym h.lists) k.lists;
-    short = λ j. same _ _ _ _ (ap (λ l. length (at l j).numbers) h.lists) (ap length h.triangles) (ap length h.colors) (ap length h.depths) (k.short j);
+    short = λ j. same _ _ _ _ (ap (λ l. length (at l j).numbers) h.lists) h.drawn (ap length h.colors) (ap length h.depths) (k.short j);
     triangles = rw h.triangles k.triangles;
+    drawn = rw h.drawn k.drawn;
     clears = rw (h.colors, h.depths) k.clears;
   }
     where
@@ -192,14 +195,15 @@ module _ {A : Type 0} (old new : Compiling A) where
   budget : (t c d u b a : ℕ) (l : Lists A) (m : ℕ) → IsShort (2 * t + (c + d) + m) l → 2 * t + (c + d) + m ≡ 2 * u + (b + a) → IsShort (2 * u + (b + a)) l
   budget t c d u b a l m h e = subst (λ n. IsShort n l) e h
 
-  pub setup_sound : (setup : TriSetup) (entry : Current) → AddsSetup setup entry old new → IsSound old → IsSound new
-  setup_sound setup entry h k = record {
+  pub setup_sound : (setup : TriSetup) (number : ℕ) (entry : Current) → AddsSetup setup number entry old new → IsSound old → IsSound new
+  setup_sound setup number entry h k = record {
     current = stays_current h.states h.current k;
     lists = h.sound;
     short = budget _ _ _ _ _ _ new.lists 2
-        (grown_short (λ j. TakesTriangle setup.plane.triangle setup.bounds (tile_rect old.lists.size j) entry (length old.triangles.items)) old.lists new.lists _ 2 (λ j o w p. taken_longer setup (tile_rect old.lists.size j) entry (length old.triangles.items) o w p) h.sound h.lists k.short)
-        (sums _ _ _ _ _ _ (ap length h.triangles ∙ length-append old.triangles.items (setup ∷ [])) (ap length h.colors) (ap length h.depths));
-    triangles = rw h.triangles (simp length-append (omega (arith, h.room)));
+        (grown_short (λ j. TakesTriangle setup.plane.triangle setup.bounds (tile_rect old.lists.size j) entry number) old.lists new.lists _ 2 (λ j o w p. taken_longer setup (tile_rect old.lists.size j) entry number o w p) h.sound h.lists k.short)
+        (sums _ _ _ _ _ _ h.drawn (ap length h.colors) (ap length h.depths));
+    triangles = h.few;
+    drawn = rw h.drawn (omega (arith, h.room));
     clears = rw (h.colors, h.depths) k.clears;
   }
     where
@@ -212,8 +216,9 @@ module _ {A : Type 0} (old new : Compiling A) where
     lists = h.sound;
     short = budget _ _ _ _ _ _ new.lists 1
         (grown_short (λ j. TakesClear (ClearC (length old.colors.items))) old.lists new.lists _ 1 (λ j o w p. cleared_longer (ClearC (length old.colors.items)) o w p) h.sound h.lists k.short)
-        (sums _ _ _ _ _ _ (ap length h.triangles) (ap length h.colors ∙ length-append old.colors.items (rgba ∷ [])) (ap length h.depths));
+        (sums _ _ _ _ _ _ h.drawn (ap length h.colors ∙ length-append old.colors.items (rgba ∷ [])) (ap length h.depths));
     triangles = rw h.triangles k.triangles;
+    drawn = rw h.drawn k.drawn;
     clears = rw (h.colors, h.depths) (simp length-append (omega (arith, h.room)));
   }
     where
@@ -226,8 +231,9 @@ module _ {A : Type 0} (old new : Compiling A) where
     lists = h.sound;
     short = budget _ _ _ _ _ _ new.lists 1
         (grown_short (λ j. TakesClear (ClearDs (length old.depths.items))) old.lists new.lists _ 1 (λ j o w p. cleared_longer (ClearDs (length old.depths.items)) o w p) h.sound h.lists k.short)
-        (sums _ _ _ _ _ _ (ap length h.triangles) (ap length h.colors) (ap length h.depths ∙ length-append old.depths.items (v ∷ [])));
+        (sums _ _ _ _ _ _ h.drawn (ap length h.colors) (ap length h.depths ∙ length-append old.depths.items (v ∷ [])));
     triangles = rw h.triangles k.triangles;
+    drawn = rw h.drawn k.drawn;
     clears = rw (h.colors, h.depths) (simp length-append (omega (arith, h.room)));
   }
     where

@@ -22,3 +22,4 @@ pub mod Whole
 pub mod Ending
 pub mod Cutting
 pub mod Dividing
+pub mod Remembering

@@ -30,7 +30,7 @@ abbrev pub primitive_at : ReadyTri → Primitive
 primitive_at t = primitive_of (record { v = t.v })
 
 module _ (s : Settings) (size : Size) where
-  setups_append : (ps qs : List Primitive) (ts us : List TriSetup) → AreSetups s size ps ts → AreSetups s size qs us → AreSetups s size (ps ++ qs) (ts ++ us)
+  pub setups_append : (ps qs : List Primitive) (ts us : List TriSetup) → AreSetups s size ps ts → AreSetups s size qs us → AreSetups s size (ps ++ qs) (ts ++ us)
   setups_append [] qs ts us h j = subst (λ l. AreSetups s size qs (l ++ us)) (sym h) j
   setups_append (p ∷ ps) qs ts us (inl h) j = inl (h.0, setups_append ps qs ts us h.1 j)
   setups_append (p ∷ ps) qs ts us (inr h) j = inr (h.0, h.1 ++ us, ap (λ l. l ++ us) h.2, h.3, setups_append ps qs h.1 us h.4 j)

@@ -22,7 +22,7 @@ use Rattle.binner.specs.Cuts.{AreUncounted}
 use Rattle.binner.specs.Lists.{TileList, at, IsLists, IsShort, EachChanges, TakesTriangle, TakesClear, drawn_behind}
 
 abbrev pub tables : {A : Type 0} → Compiling A → Tables
-tables c = record { states = c.states.items; triangles = c.triangles.items; colors = c.colors.items; depths = c.depths.items }
+tables c = record { states = c.states.items; triangles = c.triangles; colors = c.colors.items; depths = c.depths.items }
 
 -- on its rectangle a tile's list means these items, and its last triangle tells the entry in force
 pub record ListMeans (t : Tables) (r : PixelRect) (items : List Item) (current : Option Current) (l : TileList) : Type 0 where
@@ -43,12 +43,13 @@ pub record IsEntry (states : List StateEntry) (now : Current) : Type 0 where
   pub place : slice_get states now.entry ≡ Some entry
   pub uncounted : now.counted ≡ false → entry.issues ≡ 0
 
--- no list has more words than two for each triangle and one for each clear, and there are no more of them than 65,536
+-- no list has more words than two for each triangle that was added and one for each clear, and there are no more of them than 65,536
 pub record IsSound {A : Type 0} (c : Compiling A) : Type 0 where
   pub current : (now : Current) → c.current ≡ Some now → IsEntry c.states.items now
   pub lists : IsLists c.lists
-  pub short : IsShort (2 * length c.triangles.items + (length c.colors.items + length c.depths.items)) c.lists
-  pub triangles : length c.triangles.items ≤ 65536
+  pub short : IsShort (2 * c.drawn + (length c.colors.items + length c.depths.items)) c.lists
+  pub triangles : length c.triangles ≤ 65536
+  pub drawn : c.drawn ≤ 65536
   pub clears : length c.colors.items + length c.depths.items ≤ 65536
 
 -- ---- steps
@@ -58,17 +59,22 @@ pub record Enters {A : Type 0} (s : Settings) (bits : ℕ) (now : Current) (old 
   pub is : IsEntry new.states.items now
   pub draws : DrawsUnder is.entry s bits
   pub current : new.current ≡ Some now
-  pub states : ((old.current ≡ Some now) × (new.states.items ≡ old.states.items)) ⊎ ((now.first ≡ length old.triangles.items) × (new.states.items ≡ old.states.items ++ is.entry ∷ []))
+  pub states : ((old.current ≡ Some now) × (new.states.items ≡ old.states.items)) ⊎ ((now.first ≡ length old.triangles) × (new.states.items ≡ old.states.items ++ is.entry ∷ []))
   pub lists : new.lists ≡ old.lists
-  pub triangles : new.triangles.items ≡ old.triangles.items
+  pub triangles : new.triangles ≡ old.triangles
+  pub drawn : new.drawn ≡ old.drawn
   pub colors : new.colors.items ≡ old.colors.items
   pub depths : new.depths.items ≡ old.depths.items
 
-pub record AddsSetup {A : Type 0} (setup : TriSetup) (s : Current) (old new : Compiling A) : Type 0 where
-  pub room : length old.triangles.items < 65536
-  pub lists : EachChanges (λ k. TakesTriangle setup.plane.triangle setup.bounds (tile_rect old.lists.size k) s (length old.triangles.items)) old.lists new.lists
+-- the triangle of this number is added; it may be new in the table
+pub record AddsSetup {A : Type 0} (setup : TriSetup) (number : ℕ) (s : Current) (old new : Compiling A) : Type 0 where
+  pub place : slice_get new.triangles number ≡ Some setup
+  pub kept : (n : ℕ) (p : TriSetup) → slice_get old.triangles n ≡ Some p → slice_get new.triangles n ≡ Some p
+  pub few : length new.triangles ≤ 65536
+  pub room : old.drawn < 65536
+  pub drawn : new.drawn ≡ old.drawn + 1
+  pub lists : EachChanges (λ k. TakesTriangle setup.plane.triangle setup.bounds (tile_rect old.lists.size k) s number) old.lists new.lists
   pub sound : IsLists new.lists
-  pub triangles : new.triangles.items ≡ old.triangles.items ++ setup ∷ []
   pub states : new.states.items ≡ old.states.items
   pub colors : new.colors.items ≡ old.colors.items
   pub depths : new.depths.items ≡ old.depths.items
@@ -78,7 +84,8 @@ pub record AddsColor {A : Type 0} (rgba : List ℕ) (old new : Compiling A) : Ty
   pub room : length old.colors.items + length old.depths.items < 65536
   pub lists : EachChanges (λ k. TakesClear (ClearC (length old.colors.items))) old.lists new.lists
   pub sound : IsLists new.lists
-  pub triangles : new.triangles.items ≡ old.triangles.items
+  pub triangles : new.triangles ≡ old.triangles
+  pub drawn : new.drawn ≡ old.drawn
   pub states : new.states.items ≡ old.states.items
   pub colors : new.colors.items ≡ old.colors.items ++ rgba ∷ []
   pub depths : new.depths.items ≡ old.depths.items
@@ -88,7 +95,8 @@ pub record AddsDepth {A : Type 0} (value : DepthStencil) (old new : Compiling A)
   pub room : length old.colors.items + length old.depths.items < 65536
   pub lists : EachChanges (λ k. TakesClear (ClearDs (length old.depths.items))) old.lists new.lists
   pub sound : IsLists new.lists
-  pub triangles : new.triangles.items ≡ old.triangles.items
+  pub triangles : new.triangles ≡ old.triangles
+  pub drawn : new.drawn ≡ old.drawn
   pub states : new.states.items ≡ old.states.items
   pub colors : new.colors.items ≡ old.colors.items
   pub depths : new.depths.items ≡ old.depths.items ++ value ∷ []

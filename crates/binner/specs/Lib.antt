@@ -9,3 +9,4 @@ pub mod Opened
 pub mod Setups
 pub mod Batched
 pub mod Segments
+pub mod Remembered

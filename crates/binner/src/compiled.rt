@@ -20,6 +20,7 @@ use crate::compiling::{Compiling, add_commands};
 use crate::entry::StateEntry;
 use crate::lists::Lists;
 use crate::setup::TriSetup;
+use crate::table::TriangleTable;
 use binmem::{Bins, SealedBins, Words};
 use cmdlist::Command;
 use gfxspec::{DepthStencil, GfxError, Size, TILE_SIDE, tile_count};
@@ -84,10 +85,11 @@ pub(crate) fn nothing<A: Allocator + Copy>(
             touched: Vec::new(alloc),
         },
         states: Vec::new(alloc),
-        triangles: Vec::new(alloc),
+        triangles: TriangleTable::new(alloc),
         colors: Vec::new(alloc),
         depths: Vec::new(alloc),
         current: None,
+        drawn: 0,
     })
 }
 
@@ -103,6 +105,7 @@ pub(crate) fn finished<A: Allocator + Copy>(compiling: Compiling<A>, issues: u32
         colors,
         depths,
         current: _,
+        drawn: _,
     } = compiling;
     Compiled {
         size: lists.size,
@@ -110,7 +113,7 @@ pub(crate) fn finished<A: Allocator + Copy>(compiling: Compiling<A>, issues: u32
         bins: lists.bins.seal(),
         touched: lists.touched,
         states,
-        triangles,
+        triangles: triangles.into_setups(),
         colors,
         depths,
     }

@@ -1,6 +1,7 @@
 //! A list that is being compiled: each command adds to the words of the tiles.
 
-ghost use Rattle.std.specs.Prelude.{◌≡◌, ◌<◌, ◌+◌, [], ℕ, List, map, length, IsTrue, IfOk, IfSome, OnOk, Some, All};
+ghost use Rattle.std.specs.Prelude.{◌≡◌, ◌≤◌, ◌<◌, ◌+◌, ◌-◌, ◌++◌, ◌∷◌, [], ℕ, List, drop, map, length, slice_get, IsTrue, IfOk, IfSome, OnOk, Some, All};
+ghost use Rattle.gfxspec.specs.Assembly.{part};
 ghost use Rattle.std.specs.List.{list_all};
 ghost use Rattle.gfxspec.specs.Refusals.{is_in_range};
 ghost use Rattle.gfxspec.specs.Recorded.{drawn_items};
@@ -17,10 +18,12 @@ use crate::lists::{Lists, add_to_all, add_to_tiles};
 use crate::opened::{note, nothing_begun};
 use crate::prepare::prepared;
 use crate::setup::TriSetup;
+use crate::table::TriangleTable;
 use assemble::{Draw, triangles};
 use cmdlist::{Command, State, draw_of, is_withheld};
 use gfxspec::DepthStencil;
 use std::alloc::{AllocError, Allocator};
+use std::ops::Range;
 use tileword::Word;
 
 /// The lists of words, and what the numbers in them name.
@@ -28,11 +31,13 @@ use tileword::Word;
 pub struct Compiling<A: Allocator> {
     pub lists: Lists<A>,
     pub states: Vec<StateEntry, A>,
-    pub triangles: Vec<TriSetup, A>,
+    pub(crate) triangles: TriangleTable<A>,
     pub colors: Vec<[u8; 4], A>,
     pub depths: Vec<DepthStencil, A>,
     /// The entry that the last triangles were drawn under, if there is one.
     pub current: Option<Current>,
+    /// How many triangles were added: those that were drawn again are counted again.
+    pub drawn: usize,
 }
 
 /// How many states, triangles or clears a compiled list has at most.
@@ -68,6 +73,28 @@ fn current_entry<A: Allocator + Copy>(
     Ok(current)
 }
 
+/// Adds a triangle of the table under an entry. Refused too where no more triangles have room.
+#[inline(always)]
+fn add_numbered<A: Allocator + Copy>(
+    compiling: &mut Compiling<A>,
+    number: usize,
+    current: Current,
+) -> Result<(), AllocError>
+    requires sound { IsSound compiling.old }
+    requires number { number < length compiling.old.triangles }
+    ensures bins { length compiling.new.lists.bins ≡ length compiling.old.lists.bins }
+    ensures table { compiling.new.triangles ≡ compiling.old.triangles }
+    ensures added { (setup : TriSetup) → slice_get compiling.old.triangles number ≡ Some setup → OnOk result (AddsSetup setup number current compiling.old compiling.new) }
+{
+    if compiling.drawn >= MOST {
+        return Err(AllocError);
+    }
+    let setup = compiling.triangles.get(number);
+    add_to_tiles(&mut compiling.lists, setup, current, number as u16)?;
+    compiling.drawn += 1;
+    Ok(())
+}
+
 /// Adds a triangle under an entry. Refused too where no more triangles have room.
 #[inline(always)]
 fn add_setup<A: Allocator + Copy>(
@@ -77,15 +104,15 @@ fn add_setup<A: Allocator + Copy>(
 ) -> Result<(), AllocError>
     requires sound { IsSound compiling.old }
     ensures bins { length compiling.new.lists.bins ≡ length compiling.old.lists.bins }
-    ensures added { OnOk result (AddsSetup setup current compiling.old compiling.new) }
+    ensures table { OnOk result (compiling.new.triangles ≡ compiling.old.triangles ++ setup ∷ []) }
+    ensures added { OnOk result (AddsSetup setup (length compiling.old.triangles) current compiling.old compiling.new) }
 {
     let number = compiling.triangles.len();
     if number >= MOST {
         return Err(AllocError);
     }
-    add_to_tiles(&mut compiling.lists, &setup, current, number as u16)?;
     compiling.triangles.push(setup)?;
-    Ok(())
+    add_numbered(compiling, number, current)
 }
 
 /// Whether one more clear has room.
@@ -141,6 +168,8 @@ fn add_draw<A: Allocator + Copy>(
     requires range { IsInRange draw.now }
     requires vertices { IsTrue (list_all is_in_range draw.now.vertices.now) }
     ensures bins { length compiling.new.lists.bins ≡ length compiling.old.lists.bins }
+    ensures table { OnOk result (length compiling.old.triangles ≤ length compiling.new.triangles) }
+    ensures made { OnOk result (AreSetups (state_value state.now) compiling.old.lists.size (triangles_of draw.now) (drop (length compiling.old.triangles) compiling.new.triangles)) }
     ensures drawn { OnOk result (Adds issues (λ opened. drawn_items (state_value state.now) opened (triangles_of draw.now)) compiling.old compiling.new) }
 {
     let current = current_entry(compiling, state, issues)?;
@@ -174,7 +203,50 @@ fn add_parts<A: Allocator + Copy>(
     Ok(())
 }
 
-/// Adds the triangles of a draw: those parts, if they are set up already, or else one after the other.
+/// Adds the triangles of a draw that stand in the table already.
+fn add_again<A: Allocator + Copy>(
+    compiling: &mut Compiling<A>,
+    draw: &Draw<'_>,
+    state: &State<'_>,
+    issues: u64,
+    numbers: Range<usize>,
+) -> Result<(), AllocError>
+    requires sound { IsSound compiling.old }
+    requires past { numbers.end ≤ length compiling.old.triangles }
+    requires made { AreSetups (state_value state.now) compiling.old.lists.size (triangles_of draw.now) (part (numbers.end - numbers.start) numbers.start compiling.old.triangles) }
+    ensures bins { length compiling.new.lists.bins ≡ length compiling.old.lists.bins }
+    ensures drawn { OnOk result (Adds issues (λ opened. drawn_items (state_value state.now) opened (triangles_of draw.now)) compiling.old compiling.new) }
+{
+    let current = current_entry(compiling, state, issues)?;
+    for number in numbers.start..numbers.end {
+        add_numbered(compiling, number, current)?;
+    }
+    Ok(())
+}
+
+/// Adds the triangles of a draw: those that the same draw left before, or else one after the other.
+fn add_known<A: Allocator + Copy>(
+    compiling: &mut Compiling<A>,
+    draw: &Draw<'_>,
+    state: &State<'_>,
+    issues: u64,
+) -> Result<(), AllocError>
+    requires sound { IsSound compiling.old }
+    requires range { IsInRange draw.now }
+    requires vertices { IsTrue (list_all is_in_range draw.now.vertices.now) }
+    ensures bins { length compiling.new.lists.bins ≡ length compiling.old.lists.bins }
+    ensures drawn { OnOk result (Adds issues (λ opened. drawn_items (state_value state.now) opened (triangles_of draw.now)) compiling.old compiling.new) }
+{
+    let size = compiling.lists.size;
+    if let Some(numbers) = compiling.triangles.find(draw, state, size) {
+        return add_again(compiling, draw, state, issues, numbers);
+    }
+    let first = compiling.triangles.len();
+    add_draw(compiling, draw, state, issues)?;
+    compiling.triangles.remember(draw, state, size, first)
+}
+
+/// Adds the triangles of a draw: those parts, if they are set up already, or else as they come.
 fn add_drawn<A: Allocator + Copy>(
     compiling: &mut Compiling<A>,
     draw: &Draw<'_>,
@@ -191,7 +263,7 @@ fn add_drawn<A: Allocator + Copy>(
 {
     match parts {
         Some(parts) => add_parts(compiling, draw, state, issues, parts),
-        None => add_draw(compiling, draw, state, issues),
+        None => add_known(compiling, draw, state, issues),
     }
 }
 

@@ -13,6 +13,7 @@ mod ahead;
 mod batch;
 mod compiled;
 mod compiling;
+mod earlier;
 mod entry;
 mod lists;
 mod opened;
@@ -21,6 +22,7 @@ mod same;
 mod segment;
 mod setup;
 mod short_rect;
+mod table;
 
 pub use batch::Batch;
 pub use compiled::{Compiled, compile, compile_parallel, programs_count_the_target};

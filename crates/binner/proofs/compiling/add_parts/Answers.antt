@@ -1,4 +1,4 @@
-use Rattle.std.proofs.Common.{rules, refl, ap, ◌∙◌, sym, subst, [], ◌∷◌, ◌++◌, ◌≡◌}
+use Rattle.std.proofs.Common.{rules, refl, length, ap, ◌∙◌, sym, subst, [], ◌∷◌, ◌++◌, ◌≡◌}
 use Rattle.std.proofs.lemmas.List.{nil_from_length}
 use Rattle.assemble.specs.Drawing.{triangles_of}
 use Rattle.command.specs.Seen.{state_value}
@@ -21,7 +21,7 @@ pub setups-preserved : goal.setups-preserved
 setups-preserved g c =
     let others = all_setups c.next.new.self.rest.items in
     let is : c.setups.setup-iterator.rest.items ≡ c.in-Some-setup.setup ∷ c.next-in-setups.new.self.rest.items = search rules in
-    filled_setup c.args.compiling.now c.setups.compiling (state_value c.args.state.now) c.args.issues c.in_ok-current.current (triangles_of c.args.draw.now) c.add_setup.new.compiling c.in-Some-setup.setup (c.next-in-setups.new.self.rest.items ++ others) (c.setups.setup-iterator.rest.items ++ others) (ap (λ l. l ++ others) is) c.setups.invariant c.in_ok-add_setup.ensures.added c.in_ok-add_setup.ensures.bins
+    filled_setup c.args.compiling.now c.setups.compiling (state_value c.args.state.now) c.args.issues c.in_ok-current.current (triangles_of c.args.draw.now) c.add_setup.new.compiling c.in-Some-setup.setup (length c.setups.compiling.triangles) (c.next-in-setups.new.self.rest.items ++ others) (c.setups.setup-iterator.rest.items ++ others) (ap (λ l. l ++ others) is) c.setups.invariant c.in_ok-add_setup.ensures.added c.in_ok-add_setup.ensures.bins
 
 pub parts-preserved : goal.parts-preserved
 parts-preserved g c =

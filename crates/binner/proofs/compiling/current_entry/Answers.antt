@@ -16,4 +16,4 @@ returns-then-draws_as-clause-enters g c =
 
 pub returns-clause-enters : goal.returns-clause-enters
 returns-clause-enters g c =
-    new_enters c.args.compiling.now _ (state_value c.args.state.now) c.args.issues _ (search rules) (search rules) refl refl (search rules) refl refl refl refl
+    new_enters c.args.compiling.now _ (state_value c.args.state.now) c.args.issues _ (search rules) (search rules) refl refl (search rules) refl refl refl refl refl
