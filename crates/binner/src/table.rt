@@ -1,7 +1,7 @@
 //! The triangles of a list that is compiled, by their numbers.
 //!
-//! A draw that comes again names the triangles that it left before, since a list is often executed several times in a run.
-//! Draws are compared vertex by vertex, so a triangle is found again only where it is the same.
+//! A draw that comes again names the triangles that it left before, since a list is often executed several times in a
+//! run. Draws are compared vertex by vertex, so a triangle is found again only where it is the same.
 
 ghost use Rattle.std.specs.Prelude.{◌≡◌, ◌≤◌, ◌<◌, ◌-◌, ◌++◌, ◌∷◌, [], drop, length, slice_get, IfSome, OnOk, Some};
 ghost use Rattle.gfxspec.specs.Assembly.{part};
@@ -47,8 +47,8 @@ fn put_number<A: Allocator + Copy>(
     Ok(())
 }
 
-/// Triangles in the order in which they were set up, and the draws that are remembered of them. At a place stands the number
-/// of the last draw that has it. Contracts see the table as its triangles.
+/// Triangles in the order in which they were set up, and the draws that are remembered of them. At a place stands the
+/// number of the last draw that has it. Contracts see the table as its triangles.
 #[derive(Drop)]
 pub(crate) struct TriangleTable<A: Allocator> {
     setups: Vec<TriSetup, A>,
@@ -114,7 +114,8 @@ impl<A: Allocator + Copy> TriangleTable<A> {
         self.setups
     }
 
-    /// The numbers of the triangles that the same draw left before, under the same rasterizer state and scissor rectangle.
+    /// The numbers of the triangles that the same draw left before, under the same rasterizer state and scissor
+    /// rectangle.
     pub(crate) fn find(
         &self,
         draw: &Draw<'_>,
