@@ -2,14 +2,16 @@
 
 Targets are up to 70 by 70, and now and then as long as a target may be, up to 4,096 by 3. Corners lie on centres, on
 edges of pixels, at ties of 1/512 pixel, anywhere near the target, and as far outside as corners may lie. There are
-four kinds of scenes:
+five kinds of scenes:
 
 - triangles: a hundred triangles under one state;
 - states: lists, strips, indices, cull modes, scissors, depth biases, both faces of the stencil, logic operations
   under masks, queries, predicates and restore flags, and some of the lines are refused;
 - large: triangles that cover all or most of the target, under all functions of depth and stencil;
 - logic: such triangles and small ones under all logic operations and write masks, mostly without tests, with clears
-  between them.
+  between them;
+- meshes: lists that draw the same sixteen triangles and more again and again, under states that change, executed in
+  rows with clears between them.
 """
 
 from __future__ import annotations
@@ -261,6 +263,31 @@ def add_logic(chance: Random, scene: Scene) -> None:
         scene.add("i", "draw", 3, 0)
 
 
+def add_meshes(chance: Random, scene: Scene) -> None:
+    """Lists that draw the same vertices again under states that change, now and then with one vertex that is another,
+    executed in rows with clears between them."""
+    lists = []
+    for actor in (0, 1):
+        context, count = f"d{actor}", chance.randrange(48, 75)
+        numbers = vertices(chance, scene, count)
+        scene.add(context, "topology", chance.choice([4, 4, 5]))
+        for number in range(3):
+            if number == 0 or chance.randrange(3) == 0:
+                at = 7 * chance.randrange(count)
+                numbers[at : at + 7] = vertices(chance, scene, 1)
+                scene.add(context, "vb", *numbers)
+            for _ in range(chance.randrange(2)):
+                add_setting(chance, scene, context)
+            scene.add(context, "draw", count, 0)
+            scene.add(context, "finish", 1)
+            lists.append((actor, number))
+    for _ in range(4):
+        if chance.randrange(2):
+            scene.add("i", "cleards", chance.randrange(DEEPEST + 1), chance.randrange(256))
+        for _ in range(chance.choice([1, 3, 5])):
+            scene.add("i", "exec", *chance.choice(lists), chance.randrange(2))
+
+
 def target(chance: Random) -> list[int]:
     """A width and a height: mostly small, now and then one long side."""
     sides = [chance.randrange(1, 71), chance.randrange(1, 71)]
@@ -270,7 +297,7 @@ def target(chance: Random) -> list[int]:
     return sides
 
 
-KINDS = ("triangles", "states", "large", "logic")
+KINDS = ("triangles", "states", "large", "logic", "meshes")
 
 
 def random_scene(chance: Random, number: int, asked: int = 20, kinds: Sequence[str] = KINDS[:2]) -> Scene:
@@ -283,6 +310,8 @@ def random_scene(chance: Random, number: int, asked: int = 20, kinds: Sequence[s
         add_large(chance, scene)
     elif kind == "logic":
         add_logic(chance, scene)
+    elif kind == "meshes":
+        add_meshes(chance, scene)
     else:
         add_triangles(chance, scene)
     for _ in range(asked):

@@ -191,6 +191,34 @@ fn states_that_draw_alike_are_one_entry(rt: HostRuntime) -> Result<(), Fail> {
     assert_words(&rt, rt.alloc(), &mut context, &[DRAW], &words)
 }
 
+// A draw of sixteen triangles that comes again names those that it left before. One with another last corner doesn't.
+#[test]
+fn a_draw_that_comes_again_names_its_triangles(rt: HostRuntime) -> Result<(), Fail> {
+    let mut corners = Vec::new(rt.alloc());
+    for _ in 0..16u32 {
+        corners.push(at(0, 0, 1))?;
+        corners.push(at(4, 0, 1))?;
+        corners.push(at(0, 4, 1))?;
+    }
+    let mut others = corners.clone()?;
+    if let Some(last) = others.last_mut() {
+        *last = at(0, 3, 1);
+    }
+    let mut words = Vec::new(rt.alloc());
+    words.push(0)?;
+    for first in [0x4001_0000, 0x4001_0000, 0x4001_0010] {
+        for number in 0..16u32 {
+            words.push(first | number)?;
+        }
+    }
+    let draw = Call::Draw(48, 0);
+    let first = Call::SetVertices(corners.as_slice());
+    let second = Call::SetVertices(others.as_slice());
+    let calls = [first, draw, draw, second, draw];
+    let mut context = half(rt.alloc())?;
+    assert_words(&rt, rt.alloc(), &mut context, &calls, words.as_slice())
+}
+
 const SIZE: Size = Size {
     width: 33,
     height: 33,
