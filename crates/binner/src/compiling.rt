@@ -111,8 +111,13 @@ fn add_setup<A: Allocator + Copy>(
     if number >= MOST {
         return Err(AllocError);
     }
+    if compiling.drawn >= MOST {
+        return Err(AllocError);
+    }
+    add_to_tiles(&mut compiling.lists, &setup, current, number as u16)?;
     compiling.triangles.push(setup)?;
-    add_numbered(compiling, number, current)
+    compiling.drawn += 1;
+    Ok(())
 }
 
 /// Whether one more clear has room.
