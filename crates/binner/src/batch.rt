@@ -38,15 +38,16 @@ impl<A: Allocator + Copy> Batch<A> {
     ghost use Rattle.binner.specs.Compiling.{HasCompiled};
     ghost use Rattle.binner.specs.Batched.{MeansItems};
 
-    /// No list, for a target of this size, with empty bins of as many tiles as it has. Without memory the bins come back.
-    pub fn new(alloc: A, size: Size, bins: Bins<A>) -> Result<Self, Bins<A>>
+    /// No list, for a target of this size, with empty bins of as many tiles as it has, and room for so many triangles. Without
+    /// memory the bins come back.
+    pub fn new(alloc: A, size: Size, bins: Bins<A>, room: usize) -> Result<Self, Bins<A>>
         requires size { IsTrue (is_size size) }
         requires empty { bins ≡ no_words (tile_count size) }
         ensures size { IfOk result (λ b. b.lists.size ≡ size) }
         ensures nothing { IfOk result (λ b. HasCompiled b []) }
         ensures refused { IfErr result (λ back. back ≡ no_words (tile_count size)) }
     {
-        let compiling = nothing(alloc, size, bins)?;
+        let compiling = nothing(alloc, size, bins, room)?;
         Ok(Batch { compiling })
     }
 

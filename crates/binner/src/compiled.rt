@@ -37,6 +37,8 @@ pub struct Compiled<A: Allocator> {
     touched: Vec<u32, A>,
     states: Vec<StateEntry, A>,
     triangles: Vec<TriSetup, A>,
+    /// How many triangles are drawn: one that is drawn again counts again.
+    drawn: usize,
     colors: Vec<[u8; 4], A>,
     depths: Vec<DepthStencil, A>,
 }
@@ -62,11 +64,12 @@ fn pixels_round(triangle: &TriSetup, size: Size) -> usize {
     (width as usize).saturating_mul(height as usize)
 }
 
-/// Nothing compiled yet. Without memory the bins come back.
+/// Nothing compiled yet, with room for so many triangles. Without memory the bins come back.
 pub(crate) fn nothing<A: Allocator + Copy>(
     alloc: A,
     size: Size,
     bins: Bins<A>,
+    room: usize,
 ) -> Result<Compiling<A>, Bins<A>>
     requires size { IsTrue (is_size size) }
     requires empty { bins ≡ no_words (tile_count size) }
@@ -77,6 +80,9 @@ pub(crate) fn nothing<A: Allocator + Copy>(
     let Ok(counted) = Vec::from_elem(alloc, false, tile_count(size) as usize) else {
         return Err(bins);
     };
+    let Ok(triangles) = TriangleTable::with_room(alloc, room) else {
+        return Err(bins);
+    };
     Ok(Compiling {
         lists: Lists {
             size,
@@ -85,7 +91,7 @@ pub(crate) fn nothing<A: Allocator + Copy>(
             touched: Vec::new(alloc),
         },
         states: Vec::new(alloc),
-        triangles: TriangleTable::new(alloc),
+        triangles,
         colors: Vec::new(alloc),
         depths: Vec::new(alloc),
         current: None,
@@ -105,7 +111,7 @@ pub(crate) fn finished<A: Allocator + Copy>(compiling: Compiling<A>, issues: u32
         colors,
         depths,
         current: _,
-        drawn: _,
+        drawn,
     } = compiling;
     Compiled {
         size: lists.size,
@@ -114,6 +120,7 @@ pub(crate) fn finished<A: Allocator + Copy>(compiling: Compiling<A>, issues: u32
         touched: lists.touched,
         states,
         triangles: triangles.into_setups(),
+        drawn,
         colors,
         depths,
     }
@@ -137,7 +144,7 @@ fn compile_with<A: Allocator + Copy>(
     ensures means { IfOk result (λ c. MeansList (performed (told results.now) (map command_value commands.now)) c) }
     ensures refused { IfErr result (λ e. e ≡ (OutOfMemory, no_words (tile_count size))) }
 {
-    let mut compiling = match nothing(alloc, size, bins) {
+    let mut compiling = match nothing(alloc, size, bins, 0) {
         Ok(compiling) => compiling,
         Err(back) => return Err((GfxError::OutOfMemory, back)),
     };
@@ -223,20 +230,23 @@ impl<A: Allocator + Copy> Compiled<A> {
     }
 
     /// How many pixels the words of all tiles reach, by the rectangles round triangles and the tiles that clears have; so many at
-    /// most are counted.
+    /// most are counted. Triangles that are drawn again are as large as those of the table are on the average.
     pub fn pixels_reached(&self, most: usize) -> usize
         ensures { result ≤ most }
     {
         let clears = self.colors.len().saturating_add(self.depths.len());
         let cleared = self.touched.len().saturating_mul(TILE_PIXELS);
-        let mut pixels = clears.saturating_mul(cleared);
+        let mut round = 0usize;
         for triangle in &self.triangles {
-            if pixels >= most {
+            if round >= most {
                 return most;
             }
-            pixels = pixels.saturating_add(pixels_round(triangle, self.size));
+            round = round.saturating_add(pixels_round(triangle, self.size));
         }
-        pixels.min(most)
+        let drawn = round.saturating_mul(self.drawn) / self.triangles.len().max(1);
+        drawn
+            .saturating_add(clears.saturating_mul(cleared))
+            .min(most)
     }
 
     /// The words of a tile, as numbers.

@@ -108,10 +108,7 @@ fn add_setup<A: Allocator + Copy>(
     ensures added { OnOk result (AddsSetup setup (length compiling.old.triangles) current compiling.old compiling.new) }
 {
     let number = compiling.triangles.len();
-    if number >= MOST {
-        return Err(AllocError);
-    }
-    if compiling.drawn >= MOST {
+    if number >= MOST || compiling.drawn >= MOST {
         return Err(AllocError);
     }
     add_to_tiles(&mut compiling.lists, &setup, current, number as u16)?;

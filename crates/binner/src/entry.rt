@@ -78,7 +78,8 @@ impl StateEntry {
 #[derive(Clone, Copy)]
 pub(crate) struct Current {
     pub entry: u16,
-    /// The number of the first triangle that is drawn under it.
+    /// The number that the next triangle of the table had when it came into force: what has this one or a later one is drawn
+    /// under it.
     pub first: u32,
     /// Whether an issue is open in it.
     pub counted: bool,

@@ -1,7 +1,8 @@
 //! The lists of words of all tiles, while they are written.
 //!
-//! No table says which entry is in force in a tile: triangles are numbered in the order of drawing, so the last one of a
-//! tile was drawn under the current entry exactly where its number isn't below that entry's first.
+//! No table says which entry is in force in a tile: triangles have their numbers in the order in which they are first drawn,
+//! so the last one of a tile was drawn under the current entry where its number isn't below that entry's first. Behind one
+//! that is drawn again, whose number may be lower, the entry is put in force once more.
 
 ghost use Rattle.std.specs.Prelude.{◌≡◌, ◌<◌, ◌≤◌, ◌+◌, ◌*◌, ℕ, List, length, IsTrue, OnOk, IfSome, Some, if◌then◌else◌, ◌++◌, ◌∷◌, [], slice_set, true};
 ghost use Rattle.gfxspec.specs.Limits.{is_size};

@@ -17,6 +17,7 @@ use std::marker::Model;
 #[derive(Drop)]
 pub struct Segment<A: Allocator> {
     pub(crate) commands: Vec<Command<A>, A>,
+    drawn: u32,
 }
 
 impl<A: Allocator> Model for Segment<A> {
@@ -30,6 +31,13 @@ impl<A: Allocator> Model for Segment<A> {
     ghost view = { λ s. map command_value s.commands.items };
 
     ghost invariant = { λ s. IsSegment (map command_value s.commands.items) };
+}
+
+impl<A: Allocator> Segment<A> {
+    /// No fewer triangles than the segment draws.
+    pub fn most_triangles(&self) -> usize {
+        self.drawn as usize
+    }
 }
 
 /// A segment to which commands are added: those so far, the settings behind them, and no fewer triangles than they draw.
@@ -138,10 +146,10 @@ impl<A: Allocator + Copy> OpenSegment<A> {
         let OpenSegment {
             commands,
             settings,
-            drawn: _,
+            drawn,
         } = self;
         let kept = Command::Kept(Box::new(alloc, settings.share()?)?);
-        segments.push(Segment { commands })?;
+        segments.push(Segment { commands, drawn })?;
         let mut commands = Vec::new(alloc);
         commands.push(kept)?;
         Ok(OpenSegment {
@@ -174,6 +182,7 @@ impl<A: Allocator + Copy> OpenSegment<A> {
     {
         segments.push(Segment {
             commands: self.commands,
+            drawn: self.drawn,
         })?;
         Ok(())
     }

@@ -3,7 +3,7 @@
 //! A draw that comes again names the triangles that it left before, since a list is often executed several times in a
 //! run. Draws are compared vertex by vertex, so a triangle is found again only where it is the same.
 
-ghost use Rattle.std.specs.Prelude.{◌≡◌, ◌≤◌, ◌<◌, ◌-◌, ◌++◌, ◌∷◌, [], drop, length, slice_get, IfSome, OnOk, Some};
+ghost use Rattle.std.specs.Prelude.{◌≡◌, ◌≤◌, ◌<◌, ◌-◌, ◌++◌, ◌∷◌, [], drop, length, slice_get, IfOk, IfSome, OnOk, Some};
 ghost use Rattle.gfxspec.specs.Assembly.{part};
 ghost use Rattle.assemble.specs.Drawing.{IsInRange, triangles_of};
 ghost use Rattle.command.specs.Seen.{state_value};
@@ -70,15 +70,15 @@ impl<A: Allocator> Model for TriangleTable<A> {
 }
 
 impl<A: Allocator + Copy> TriangleTable<A> {
-    /// No triangle.
-    pub(crate) fn new(alloc: A) -> Self
-        ensures { result ≡ [] }
+    /// No triangle, and room for so many.
+    pub(crate) fn with_room(alloc: A, triangles: usize) -> Result<Self, AllocError>
+        ensures { IfOk result (λ table. table ≡ []) }
     {
-        TriangleTable {
-            setups: Vec::new(alloc),
+        Ok(TriangleTable {
+            setups: Vec::with_capacity(alloc, triangles)?,
             draws: Vec::new(alloc),
             places: Vec::new(alloc),
-        }
+        })
     }
 
     /// How many triangles there are.

@@ -11,8 +11,17 @@ ghost use Rattle.segmentrun.specs.Windows.{IsCompiled};
 
 use binmem::Bins;
 use binner::{Batch, Compiled, Segment};
-use gfxspec::{GfxError, Size, tile_count};
+use gfxspec::{GfxError, LIST_LIMIT, Size, tile_count};
 use std::alloc::Allocator;
+
+/// How many triangles have room from the first on, where segments draw no more: those that are drawn again take none.
+fn room_for<A: Allocator>(segments: &[Segment<A>]) -> usize {
+    let mut room = 0usize;
+    for segment in segments {
+        room = room.saturating_add(segment.most_triangles());
+    }
+    room.min(LIST_LIMIT as usize)
+}
 
 /// Segments as one list, with empty bins of as many tiles as the target has.
 fn compile_all<A: Allocator + Copy>(
@@ -27,7 +36,7 @@ fn compile_all<A: Allocator + Copy>(
     ensures compiled { IfOk result (IsCompiled size (cut_items (told results.now) segments.now)) }
     ensures refused { IfErr result (λ back. back ≡ no_words (tile_count size)) }
 {
-    let mut batch = Batch::new(alloc, size, bins)?;
+    let mut batch = Batch::new(alloc, size, bins, room_for(segments))?;
     for segment in segments {
         batch = batch.add(segment, results)?;
     }

@@ -207,6 +207,32 @@ fn draw_half<A: Allocator + Copy + Send>(
     flush(context)
 }
 
+/// A list that draws so many of the corners of a strip in a tile.
+fn strip_of<A: Allocator + Copy>(
+    alloc: A,
+    strip: &[Vertex],
+    corners: u32,
+) -> Result<CommandList<A>, GfxError> {
+    let calls = [
+        Call::SetVertices(strip),
+        Call::SetTopology(Topology::TriangleStrip),
+        Call::Draw(corners, 0),
+    ];
+    list_of(alloc, &calls)
+}
+
+/// The grey that a list which draws a strip of so many corners, 42 at most, leaves on its first triangle.
+fn executed_strip<A: Allocator + Copy + Send>(alloc: A, corners: u32) -> Result<u8, GfxError> {
+    let mut strip = Vec::with_capacity(alloc, 42)?;
+    for i in 0..42i32 {
+        strip.push(corner(i / 2, 8 - 8 * (i % 2), 1))?;
+    }
+    let list = strip_of(alloc, strip.as_slice(), corners)?;
+    let mut context = ImmediateContext::new(alloc, 32, 32)?;
+    context.enqueue_execution_alone(&list, true)?;
+    Ok(context.pixel_alone(0, 7)?.rgba[0])
+}
+
 /// What a context is asked to do.
 #[derive(Clone, Copy)]
 enum Work {
@@ -243,5 +269,16 @@ fn pixels_take_no_memory(rt: HostRuntime) -> Result<(), Fail> {
     let many = Refusing::new(rt.alloc(), 0);
     work_with(&many, Work::Half(64))?;
     assert!(rt; few.count() == many.count());
+    Ok(())
+}
+
+// Forty triangles that are executed take as many growths as one.
+#[test]
+fn triangles_have_room_at_once(rt: HostRuntime) -> Result<(), Fail> {
+    let one = Refusing::new(rt.alloc(), 0);
+    assert!(rt; executed_strip(&one, 3)? == 1);
+    let forty = Refusing::new(rt.alloc(), 0);
+    assert!(rt; executed_strip(&forty, 42)? == 1);
+    assert!(rt; one.count() == forty.count());
     Ok(())
 }
