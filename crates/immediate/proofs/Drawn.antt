@@ -1,9 +1,8 @@
 -- Segments on the target, over what stands in the code, and an execution behind the pending commands.
-use Rattle.std.proofs.Common.{◌≡◌, ◌∙◌, sym, ap, subst, refl, ℕ, Bool, false, cond, List, [], ◌∷◌, ◌++◌, map, None, Some, Option}
-use Rattle.std.specs.Prelude.{is_ok, true, is_some, Result, Ok, Err, IfOk, IfSome, OnOk, not, ◌&&◌}
+use Rattle.std.proofs.Common.{◌≡◌, ◌∙◌, sym, ap, subst, refl, ℕ, Bool, cond, List, [], ◌∷◌, ◌++◌, None, Some, Option}
+use Rattle.std.specs.Prelude.{is_ok, true, Result, Ok, Err, IfOk, IfSome, OnOk, not, ◌&&◌}
 use Rattle.gfxspec.specs.declared.error.GfxError.{GfxError}
-use Rattle.std.specs.List.{list_any, cons_option}
-use Rattle.gfxspec.specs.Recorded.{items, issues, queries_open, query_begun, after_finish, settings_after, is_drawing}
+use Rattle.gfxspec.specs.Recorded.{items, issues, queries_open, after_finish, settings_after, is_drawing}
 use Rattle.gfxspec.specs.Predication.{performed, performed_behind, result_of, withholds}
 use Rattle.gfxspec.specs.Refusals.{is_among}
 use Rattle.gfxspec.specs.Accepted.{AreAccepted}
@@ -11,9 +10,6 @@ use Rattle.meaning.specs.Contexts.{Context, HasRun, shown, answered, performed_n
 use Rattle.meaning.proofs.Folding.{after_items-append}
 use Rattle.meaning.proofs.Performed.{performed_alike}
 use Rattle.meaning.proofs.Predicates.{performed_same, no_last_begun, withholds_same}
-use Rattle.command.specs.declared.command.Command.{Command as Code}
-use Rattle.command.specs.Seen.{command_value}
-use Rattle.immediate.proofs.Settled.{first_false, second_false}
 use Rattle.gfxspec.specs.declared.geometry.Size.{Size}
 use Rattle.gfxspec.specs.Items.{Item, after_items}
 use Rattle.gfxspec.specs.Commands.{Command, Begin}

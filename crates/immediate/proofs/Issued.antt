@@ -5,7 +5,7 @@ use Rattle.std.specs.List.{list_any}
 use Rattle.gfxspec.specs.declared.geometry.Size.{Size}
 use Rattle.gfxspec.specs.declared.pixel.Pixel.{Pixel}
 use Rattle.gfxspec.specs.Items.{Item}
-use Rattle.gfxspec.specs.Commands.{Command, SetVertices, SetIndices, SetTopology, SetRaster, SetScissor, SetDepthStencil, SetBlend, SetPredication, Draw, DrawIndexed, ClearColor, ClearDepthStencil, Begin, End, Kept}
+use Rattle.gfxspec.specs.Commands.{Command, Begin}
 use Rattle.gfxspec.specs.Recorded.{items}
 use Rattle.gfxspec.specs.Session.{last_of, begun_from}
 use Rattle.gfxspec.specs.Predication.{performed}
@@ -22,20 +22,7 @@ begin_none q k p cs false rest = rest
 begun_none : (q k : ℕ) (cs : List Command) → is_none (last_of (begun_from q k cs)) ≡ not (list_any (begins q) cs)
 begun_none q k [] = refl
 begun_none q k (Begin p ∷ cs) = begin_none q k p cs (p == q) (begun_none q (k + 1) cs)
-begun_none q k (SetVertices v ∷ cs) = begun_none q k cs
-begun_none q k (SetIndices v ∷ cs) = begun_none q k cs
-begun_none q k (SetTopology v ∷ cs) = begun_none q k cs
-begun_none q k (SetRaster v ∷ cs) = begun_none q k cs
-begun_none q k (SetScissor v ∷ cs) = begun_none q k cs
-begun_none q k (SetDepthStencil v r ∷ cs) = begun_none q k cs
-begun_none q k (SetBlend v ∷ cs) = begun_none q k cs
-begun_none q k (SetPredication v ∷ cs) = begun_none q k cs
-begun_none q k (Draw count start ∷ cs) = begun_none q k cs
-begun_none q k (DrawIndexed count start base ∷ cs) = begun_none q k cs
-begun_none q k (ClearColor rgba ∷ cs) = begun_none q k cs
-begun_none q k (ClearDepthStencil depth stencil ∷ cs) = begun_none q k cs
-begun_none q k (End p ∷ cs) = begun_none q k cs
-begun_none q k (Kept s ∷ cs) = begun_none q k cs
+begun_none q k (c ∷ cs) = begun_none q k cs
 
 -- an issue that ran, or one that the list begins
 pub issued : (size : Size) (told : ℕ → Bool) (list : List Command) (pixels : ℕ → ℕ → Pixel) (q : ℕ) (before : Option ℕ) → (is_some before || list_any (begins q) list) ≡ not (is_none (result_after size (performed told list) pixels q before))

@@ -3,7 +3,6 @@ pub mod Settled
 mod Issued
 mod Storing
 mod Ran
-mod Idle
 mod Runs
 mod Tracing
 mod Drawn

@@ -23,7 +23,7 @@ use Rattle.cmdlist.specs.Drawable.{told}
 use Rattle.tileprog.specs.Programs.{ProgramsRan}
 use Rattle.tileprog.proofs.Ordering.{list_ran}
 use Rattle.immediate.specs.Outputs as outputs
-use Rattle.immediate.specs.Outputs.{Outputs, IsOutput, performed_over, IsCompiled, IsRunBy}
+use Rattle.immediate.specs.Outputs.{Outputs, IsOutput, performed_over, IsCompiled}
 use Rattle.immediate.specs.Held.{Held, Ran, Runs, shown, answered, context_of, held_of, held_behind, outputs_of}
 use Rattle.immediate.proofs.Settled.{stored_settled}
 use Rattle.immediate.specs.Next.{Lists, IsTaken, ExecutesNext}
@@ -111,13 +111,15 @@ module _ (list : List Command) (o : Outputs) (c : Compilation) (old new : Surfac
       subst (λ (p : Outputs). outputs.HasRun list p record { surface = new; results = after }) is
       (list_has_run list c old new results after counts sound size_is (subst (λ (p : Outputs). MeansList (performed_over p list) c) (sym is) compiled.means) compiled.issues long ran stored)
 
--- a list that was compiled for this size and under these results runs by its compilation
-pub compiled_by : {E : Type 0} (list : List Command) (o : Outputs) (size : Size) (flags : List Bool) → size ≡ o.surface.size → performed (told flags) list ≡ performed_over o list → (answer : Result (Option Compilation) GfxError) (made : Result Compilation E)
-    → IfOk answer (λ k. MatchResult made (λ c. k ≡ Some c) (λ _. ⊥)) → IfOk made (λ c. c.size ≡ size) → IfOk made (λ c. c.issues ≡ length (issues list)) → IfOk made (λ c. MeansList (performed (told flags) list) c) → IfOk answer (IsRunBy list o)
-compiled_by list o size flags sized left (Err e) made is sizes many means = tt
-compiled_by list o size flags sized left (Ok k) (Err e) is sizes many means = absurd is
-compiled_by list o size flags sized left (Ok k) (Ok c) is sizes many means =
-    subst (IsRunBy list o) (sym is) record { size = sizes ∙ sized; issues = many; means = subst (λ (cs : List Command). MeansList cs c) left means }
+-- no command leaves everything as it is
+pub none_run : (list : List Command) (o : Outputs) → list ≡ [] → outputs.HasRun list o o
+none_run list o none = subst (λ (cs : List Command). outputs.HasRun cs o o) (sym none) record { size = refl; pixels = λ x y w l. refl; results = λ q l. refl }
+
+-- a list that was compiled for this size and under these results is a compilation of it for the target
+pub compiled_by : (list : List Command) (o : Outputs) (size : Size) (flags : List Bool) (c : Compilation) → size ≡ o.surface.size → performed (told flags) list ≡ performed_over o list
+    → c.size ≡ size → c.issues ≡ length (issues list) → MeansList (performed (told flags) list) c → IsCompiled list o c
+compiled_by list o size flags c sized left is many means =
+    record { size = is ∙ sized; issues = many; means = subst (λ (cs : List Command). MeansList cs c) left means }
 
 -- a compiled list comes back as it was, and with it the size of its bins
 pub bins_behind : {b c : Compilation} → b ≡ c → Some (no_words (tile_count b.size)) ≡ Some (no_words (tile_count c.size))

@@ -8,28 +8,18 @@ use Rattle.gfxspec.specs.State.{Settings}
 use Rattle.tileblock.specs.Surface.{Surface, pixel_of}
 use Rattle.immediate.specs.Held.{Held, outputs_of, stored, shown}
 use Rattle.immediate.specs.Outputs.{cut_over}
-use Rattle.gfxspec.specs.Commands.{Command, SetVertices, SetIndices, SetTopology, SetRaster, SetScissor, SetDepthStencil, SetBlend, SetPredication, Draw, DrawIndexed, ClearColor, ClearDepthStencil, Begin, End, Kept}
+use Rattle.gfxspec.specs.Commands.{Command, Draw, DrawIndexed, ClearColor, ClearDepthStencil}
 use Rattle.gfxspec.specs.Predication.{withholds, performed_behind, performed, result_of}
 use Rattle.meaning.specs.Contexts.{result_at}
 use Rattle.gfxspec.specs.Recorded.{is_drawing, items, items_at, items_behind, settings_after, open_after}
 
 -- a command that draws and clears nothing has no item
 no_item : (s : Settings) (opened : List ℕ) (c : Command) → is_drawing c ≡ false → items_at s opened c ≡ []
-no_item s opened (SetVertices v) h = refl
-no_item s opened (SetIndices v) h = refl
-no_item s opened (SetTopology v) h = refl
-no_item s opened (SetRaster v) h = refl
-no_item s opened (SetScissor v) h = refl
-no_item s opened (SetDepthStencil v r) h = refl
-no_item s opened (SetBlend v) h = refl
-no_item s opened (SetPredication v) h = refl
 no_item s opened (Draw count start) h = absurd cc
 no_item s opened (DrawIndexed count start base) h = absurd cc
 no_item s opened (ClearColor rgba) h = absurd cc
 no_item s opened (ClearDepthStencil depth stencil) h = absurd cc
-no_item s opened (Begin q) h = refl
-no_item s opened (End q) h = refl
-no_item s opened (Kept k) h = refl
+no_item s opened c h = refl
 
 pub first_false : (a b : Bool) → (a || b) ≡ false → a ≡ false
 first_false false b h = refl

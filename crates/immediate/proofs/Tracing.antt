@@ -1,16 +1,14 @@
 -- A trace beside the runs of a context: runs behind one another, and what is pending over what is stored.
-use Rattle.std.proofs.Common.{◌≡◌, ◌∙◌, ◌⊎◌, inl, inr, sym, ap, subst, refl, ℕ, ◌+◌, ◌<◌, Bool, true, false, List, [], ◌∷◌, ◌++◌, map, Option, Some, None}
-use Rattle.std.specs.Prelude.{All, if◌then◌else◌, Result, Ok, Err, OnOk, IfErr, IfOk}
+use Rattle.std.proofs.Common.{◌≡◌, ◌∙◌, inl, inr, sym, ap, subst, refl, ℕ, ◌+◌, ◌<◌, Bool, true, false, List, [], ◌∷◌, ◌++◌, map, Option, None}
+use Rattle.std.specs.Prelude.{All, if◌then◌else◌, Result, Ok, Err, OnOk, IfOk}
 use Rattle.gfxspec.specs.declared.geometry.Size.{Size}
 use Rattle.gfxspec.specs.declared.error.GfxError.{GfxError}
 use Rattle.gfxspec.specs.declared.error.GfxError.TheVariants.{OutOfMemory}
-use Rattle.gfxspec.specs.declared.pixel.Pixel.{Pixel}
-use Rattle.gfxspec.specs.State.{Settings}
 use Rattle.gfxspec.specs.Items.{after_items}
-use Rattle.gfxspec.specs.Commands.{Command, Kept}
+use Rattle.gfxspec.specs.Commands.{Command}
 use Rattle.gfxspec.specs.Recorded.{items, issues, queries_open, settings_after, after_finish}
 use Rattle.gfxspec.specs.Session.{Step, Executes, Flushes}
-use Rattle.gfxspec.specs.Refusals.{Row, first_row, flush_rows, AnswersBy}
+use Rattle.gfxspec.specs.Refusals.{first_row, flush_rows, AnswersBy}
 use Rattle.gfxspec.specs.Accepted.{AreAccepted}
 use Rattle.gfxspec.specs.Predication.{performed, result_of}
 use Rattle.tileblock.specs.Surface.{pixel_of}
@@ -33,7 +31,7 @@ use Rattle.pixelhistory.specs.Standing.{Traces}
 use Rattle.pixelhistory.proofs.Standing.{traced_list}
 use Rattle.pixelhistory.proofs.Naming.{events_named, names_are, placed}
 use Rattle.pixelevents.specs.History.{history_from}
-use Rattle.immediate.specs.Held.{Held, Executed, Ran, Runs, Enqueues, Stays, MayHaveRun, IsRefused, stored, result_told, context_of, outputs_of}
+use Rattle.immediate.specs.Held.{Held, Executed, Ran, Enqueues, Stays, MayHaveRun, IsRefused, stored, result_told, context_of}
 use Rattle.immediate.specs.Histories.{IsHistory, IsPassed, IsPlaced, placed_event}
 use Rattle.immediate.proofs.Drawn.{answers_stay}
 use Rattle.immediate.proofs.Settled.{stored_settled}

@@ -1,5 +1,5 @@
 -- The target and the query results, and what a run makes of them (Direct3D 11.3 Functional Specification, "Output Merger Stage", "Asynchronous Notification").
-use Rattle.std.specs.Prelude.{ℕ, ◌≡◌, ◌<◌, List, length, Option, Some, None}
+use Rattle.std.specs.Prelude.{ℕ, ◌≡◌, ◌<◌, List, length, Option, Some}
 use Rattle.gfxspec.specs.declared.TheConstants.{QUERY_LIMIT}
 use Rattle.gfxspec.specs.Commands.{Command}
 use Rattle.gfxspec.specs.Items.{Item}
@@ -42,8 +42,3 @@ pub record IsCompiled (list : List Command) (o : Outputs) (c : Compilation) : Ty
   pub size : c.size ≡ o.surface.size
   pub issues : c.issues ≡ length (issues list)
   pub means : MeansList (performed_over o list) c
-
--- the list runs by its compilation, or without one, if it leaves everything as it is
-abbrev pub IsRunBy : List Command → Outputs → Option Compilation → Type 0
-IsRunBy list o None = HasRun list o o
-IsRunBy list o (Some c) = IsCompiled list o c

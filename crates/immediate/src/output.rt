@@ -1,7 +1,6 @@
 //! The target and the query results, as the last run left them, and what a run makes of them.
 
 ghost use Rattle.std.specs.Prelude.{true, false, ◌≡◌, ℕ, ◌<◌, ◌≤◌, [], ◌∷◌, Some, None, Ok, Err, map, replicate, slice_index, All, OnOk, IfOk, IfErr, OnErr, IfSome, MatchOption, MatchResult};
-ghost use Rattle.std.specs.List.{list_any};
 ghost use Rattle.gfxspec.specs.declared.error.GfxError.TheVariants.{OutOfMemory};
 ghost use Rattle.gfxspec.specs.Items.{opening};
 ghost use Rattle.gfxspec.specs.Recorded.{issues};
@@ -14,11 +13,10 @@ ghost use Rattle.tileblock.specs.Surface.{IsWhole, pixel_of, size_rows};
 ghost use Rattle.binmem.specs.Lists.{no_words};
 ghost use Rattle.meaning.specs.Contexts.{result_at, with_counts};
 ghost use Rattle.command.specs.Seen.{command_value};
-ghost use Rattle.immediate.specs.Issues.{acts};
 ghost use Rattle.binner.specs.Segments.{AreCompiled};
 ghost use Rattle.tileprog.specs.Programs.{lists_of};
 ghost use Rattle.tileprog.specs.Several.{CanRunBehind};
-ghost use Rattle.immediate.specs.Outputs.{HasRun, IsRunBy, cut_over};
+ghost use Rattle.immediate.specs.Outputs.{HasRun, IsCompiled, cut_over};
 ghost use Rattle.immediate.specs.Batched.{HasDrawn, part};
 ghost use Rattle.immediate.specs.Engines.{IsEngine};
 
@@ -63,27 +61,6 @@ fn told_by(results: &[Option<u64>; 64]) -> [bool; 64]
         told[query] = is_counted(results[query]);
     }
     told
-}
-
-/// Whether a command draws, clears or begins a query.
-fn acts<A: Allocator>(command: &Command<A>) -> bool
-    ensures { result ≡ acts (command_value command.now) }
-{
-    matches!(
-        command,
-        Command::Draw(_, _)
-            | Command::DrawIndexed(_, _, _)
-            | Command::ClearColor(_)
-            | Command::ClearDepthStencil(_, _)
-            | Command::Begin(_)
-    )
-}
-
-/// Whether some of the commands draws, clears or begins a query.
-fn some_act<A: Allocator>(commands: &[Command<A>]) -> bool
-    ensures { result ≡ list_any (λ command. acts (command_value command)) commands.now }
-{
-    commands.iter().any(acts)
 }
 
 /// Keeps what a drawing of commands leaves: their issues' counts, each under its query, and the bins, empty again.
@@ -195,30 +172,24 @@ impl<A: Allocator + Copy + Send> Output<A> {
         }
     }
 
-    /// Empty bins for a list that is to be compiled. Where no command draws, clears or begins a query, nothing is to be compiled.
-    fn bins_for(&mut self, commands: &[Command<A>]) -> Result<Option<Bins<A>>, GfxError>
-        ensures same { self.new ≡ self.old }
-        ensures bins { IfOk result (λ bins. MatchOption bins (HasRun (map command_value commands.now) self.old self.old) (λ bins. bins ≡ no_words (tile_count self.old.surface.size))) }
-        ensures memory { IfErr result (λ e. e ≡ OutOfMemory) }
-    {
-        if !some_act(commands) {
-            return Ok(None);
-        }
-        Ok(Some(self.take_bins()?))
-    }
-
-    /// The list that was compiled; where memory was refused, the bins wait again.
-    fn end_compiling(
+    /// Compiles commands for the target, under the results of the queries, by an engine. Refused with OutOfMemory alone: then the bins
+    /// wait again.
+    fn compiled<E: EngineOf<A>>(
         &mut self,
-        compiled: Result<Compiled<A>, (GfxError, Bins<A>)>,
-    ) -> Result<Option<Compiled<A>>, GfxError>
-        requires refused { IfErr compiled (λ e. e ≡ (OutOfMemory, no_words (tile_count self.old.surface.size))) }
+        commands: &[Command<A>],
+        engine: &E,
+    ) -> Result<Compiled<A>, GfxError>
+        requires engine { IsEngine (E.may_list engine.now) (E.lists engine.now) (E.may_compile engine.now) (E.compiles engine.now) (E.may_draw engine.now) (E.draws engine.now) }
+        requires accepted { AreAccepted (map command_value commands.now) }
         ensures same { self.new ≡ self.old }
-        ensures compiled { IfOk result (λ list. MatchResult compiled (λ c. list ≡ Some c) (λ _. ⊥)) }
+        ensures compiled { IfOk result (IsCompiled (map command_value commands.now) self.old) }
         ensures memory { IfErr result (λ e. e ≡ OutOfMemory) }
     {
-        match compiled {
-            Ok(compiled) => Ok(Some(compiled)),
+        let bins = self.take_bins()?;
+        let size = self.target.size();
+        let told = told_by(&self.results);
+        match engine.list(commands, size, &told, bins) {
+            Ok(compiled) => Ok(compiled),
             Err((refusal, bins)) => {
                 self.bins = Some(bins);
                 Err(refusal)
@@ -226,30 +197,8 @@ impl<A: Allocator + Copy + Send> Output<A> {
         }
     }
 
-    /// Compiles commands for the target, under the results of the queries, by an engine. Where none draws, clears or begins a
-    /// query, nothing is compiled. Refused with OutOfMemory alone.
-    fn compiled<E: EngineOf<A>>(
-        &mut self,
-        commands: &[Command<A>],
-        engine: &E,
-    ) -> Result<Option<Compiled<A>>, GfxError>
-        requires engine { IsEngine (E.may_list engine.now) (E.lists engine.now) (E.may_compile engine.now) (E.compiles engine.now) (E.may_draw engine.now) (E.draws engine.now) }
-        requires accepted { AreAccepted (map command_value commands.now) }
-        ensures same { self.new ≡ self.old }
-        ensures compiled { IfOk result (λ compiled. IsRunBy (map command_value commands.now) self.old compiled) }
-        ensures memory { IfErr result (λ e. e ≡ OutOfMemory) }
-    {
-        let Some(bins) = self.bins_for(commands)? else {
-            return Ok(None);
-        };
-        let size = self.target.size();
-        let told = told_by(&self.results);
-        let listed = engine.list(commands, size, &told, bins);
-        self.end_compiling(listed)
-    }
-
-    /// Runs commands by an engine, with issues of their own, from the default state on. Refused with OutOfMemory alone, before any tile
-    /// is taken.
+    /// Runs commands by an engine, with issues of their own, from the default state on: where there is none, nothing is done. Refused
+    /// with OutOfMemory alone, before any tile is taken.
     pub(crate) fn run<E: EngineOf<A>>(
         &mut self,
         commands: &Commands<'_, A>,
@@ -262,6 +211,9 @@ impl<A: Allocator + Copy + Send> Output<A> {
         ensures err { OnErr result (self.new ≡ self.old) }
     {
         let listed = commands.as_slice();
+        if listed.is_empty() {
+            return Ok(());
+        }
         if self.run_cut(commands, engine) {
             return Ok(());
         }
@@ -299,9 +251,7 @@ impl<A: Allocator + Copy + Send> Output<A> {
         ensures memory { IfErr result (λ e. e ≡ OutOfMemory) }
         ensures err { OnErr result (self.new ≡ self.old) }
     {
-        let Some(compiled) = self.compiled(commands, engine)? else {
-            return Ok(());
-        };
+        let compiled = self.compiled(commands, engine)?;
         let drawn = draw(engine, TileProgram::new(compiled), &mut self.target);
         keep(drawn, commands, &mut self.results, &mut self.bins)
     }

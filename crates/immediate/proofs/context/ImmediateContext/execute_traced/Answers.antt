@@ -1,5 +1,4 @@
-use Rattle.std.proofs.Common.{rules, ◌≡◌, refl, true, [], ◌∷◌, ◌++◌}
-use Rattle.immediate.proofs.Tracing.{anyway, enqueues_both, refused_passed, traced_behind}
+use Rattle.immediate.proofs.Tracing.{anyway, enqueues_both, traced_behind}
 use Rattle.immediate.proofs.context.ImmediateContext.execute_traced.Goals as goal
 
 pub returns : goal.returns

@@ -1,4 +1,3 @@
-use Rattle.std.proofs.Common.{rules}
 use Rattle.immediate.proofs.Tracing.{stays_history}
 use Rattle.immediate.proofs.context.ImmediateContext.history_alone.Goals as goal
 
