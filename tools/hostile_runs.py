@@ -45,7 +45,6 @@ DRAWN, REFUSED, WRONG_WORDS, FAILED = range(4)
 READ = "tiledraw: cannot read script\n"
 IMAGE = "tiledraw: cannot write image\n"
 ANSWERS = "tiledraw: cannot write answers\n"
-UNHELD = "tiledraw: cannot hold standard input, output and error\n"
 
 # The first line that standard error has where the words are not taken.
 WORDS = {
@@ -204,11 +203,11 @@ def try_closed_descriptors(runs: Runs) -> None:
 
 def try_few_descriptors(runs: Runs) -> None:
     """Few descriptors may be open: none is left for the image, and none to hold standard output with (the loader of
-    the program wants one)."""
+    the program wants one), so that the script isn't read."""
     script, _, _ = stored("four-tiles")
     words: list[str | pathlib.Path] = [script, "image.tga"]
     runs.expect("one descriptor more", Ended(FAILED, "", IMAGE, None), words, limit=(resource.RLIMIT_NOFILE, 4))
-    unheld = Ended(FAILED, "", UNHELD, None)
+    unheld = Ended(FAILED, "", READ, None)
     runs.expect("no descriptor more, closed: input", unheld, words, closed=(0,), limit=(resource.RLIMIT_NOFILE, 3))
 
 

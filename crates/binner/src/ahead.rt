@@ -17,7 +17,7 @@ ghost use Rattle.binner.specs.Setups.{AreSetups, all_setups, MatchesDraw, Notes}
 use crate::prepare::prepared;
 use crate::setup::TriSetup;
 use assemble::{Draw, triangle_count, triangles};
-use cmdlist::{Command, State, draw_of, is_withheld};
+use cmdlist::{Command, Drawing, State, drawing_of};
 use gfxspec::{Size, Vertex};
 use rayon::prelude::*;
 use std::alloc::{AllocError, Allocator};
@@ -115,10 +115,7 @@ fn parts_of_command<A: Allocator + Copy + Send + Sync, R: Threads + Sync>(
     requires { IsDrawable (state_value state.now) (command_value command.now) }
     ensures { IfOk result (λ parts. IfSome parts (λ p. AreSetups (state_value state.now) size (drawn_by (state_value state.now) (command_value command.now)) (all_setups p.items))) }
 {
-    if is_withheld(results, state.predicate) {
-        return Ok(None);
-    }
-    let Some(draw) = draw_of(command, state) else {
+    let Drawing::Triangles(draw) = drawing_of(command, state, results) else {
         return Ok(None);
     };
     if triangle_count(&draw) < LEAST_AHEAD {

@@ -20,7 +20,7 @@ use crate::prepare::prepared;
 use crate::setup::TriSetup;
 use crate::table::TriangleTable;
 use assemble::{Draw, triangles};
-use cmdlist::{Command, State, draw_of, is_withheld};
+use cmdlist::{Command, Drawing, State, drawing_of};
 use gfxspec::DepthStencil;
 use std::alloc::{AllocError, Allocator};
 use std::ops::Range;
@@ -285,22 +285,11 @@ fn add_performed<A: Allocator + Copy>(
     ensures bins { length compiling.new.lists.bins ≡ length compiling.old.lists.bins }
     ensures drawn { OnOk result (Adds issues (λ opened. performed_items (told results.now) (state_value state.now) opened (command_value command.now)) compiling.old compiling.new) }
 {
-    if is_withheld(results, state.predicate) {
-        return Ok(());
-    }
-    match command {
-        Command::ClearColor(rgba) => add_color(compiling, *rgba),
-        Command::ClearDepthStencil(depth, stencil) => {
-            let value = DepthStencil {
-                depth: *depth,
-                stencil: *stencil,
-            };
-            add_depth(compiling, value)
-        }
-        _ => match draw_of(command, state) {
-            Some(draw) => add_drawn(compiling, &draw, state, issues, parts),
-            None => Ok(()),
-        },
+    match drawing_of(command, state, results) {
+        Drawing::Nothing => Ok(()),
+        Drawing::Triangles(draw) => add_drawn(compiling, &draw, state, issues, parts),
+        Drawing::ClearColor(rgba) => add_color(compiling, rgba),
+        Drawing::ClearDepthStencil(value) => add_depth(compiling, value),
     }
 }
 

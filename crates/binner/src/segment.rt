@@ -17,6 +17,7 @@ use std::marker::Model;
 #[derive(Drop)]
 pub struct Segment<A: Allocator> {
     pub(crate) commands: Vec<Command<A>, A>,
+    /// No fewer triangles than it draws.
     drawn: u32,
 }
 

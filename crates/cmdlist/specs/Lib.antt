@@ -2,3 +2,4 @@ pub mod Calls
 pub mod Recorder
 pub mod DrawRows
 pub mod Drawable
+pub mod Drawn

@@ -108,12 +108,19 @@ impl<A: Allocator + Copy> DeferredContext<A> {
         !self.queries.opened.is_empty()
     }
 
+    /// Whether the list has begun a query.
+    pub fn has_begun(&self, query: u32) -> bool
+        ensures { result ≡ is_among query (issues self.now) }
+    {
+        is_marked(&self.queries.begun, query)
+    }
+
     /// Whether the list has begun the query of a predicate.
     fn is_predicate_begun(&self, predicate: Option<(u32, bool)>) -> bool
         ensures { result ≡ is_begun_predicate self.now predicate }
     {
         match predicate {
-            Some((query, _)) => is_marked(&self.queries.begun, query),
+            Some((query, _)) => self.has_begun(query),
             None => false,
         }
     }

@@ -20,5 +20,5 @@ mod queries;
 pub use command::{Buffer, Command, Settings, State};
 pub use context::DeferredContext;
 pub use device_context::DeviceContext;
-pub use draws::{draw_of, is_withheld};
+pub use draws::{Drawing, drawing_of};
 pub use list::{CommandList, Commands};

@@ -1,6 +1,5 @@
 pub mod Held
 pub mod Next
-pub mod Issues
 pub mod Outputs
 pub mod Batched
 pub mod Engines

@@ -9,7 +9,6 @@ ghost use Rattle.gfxspec.specs.Refusals.{AnswersBy, flush_rows, pixel_rows, quer
 ghost use Rattle.tileblock.specs.Surface.{IsWhole, pixel_of, size_rows};
 ghost use Rattle.meaning.specs.Standing.{IsNew};
 ghost use Rattle.meaning.specs.Contexts.{result_at};
-ghost use Rattle.immediate.specs.Issues.{begins};
 ghost use Rattle.immediate.specs.Next.{ExecutesNext};
 ghost use Rattle.immediate.specs.Outputs.{Outputs};
 ghost use Rattle.immediate.specs.declared.task.Task.TheVariants.{Settle};
@@ -18,7 +17,6 @@ ghost use Rattle.immediate.specs.Tasks.{Performs};
 ghost use Rattle.immediate.specs.Held.{context_of, shown, answered, Stays, Ran, Executed, MayHaveRun, Runs, Enqueues, IsExamined};
 ghost use Rattle.command.specs.Seen.{command_value};
 
-use crate::counts::some_begins;
 use crate::crew::RunCrew;
 use crate::drawing::{Drawn, draw_alone, draw_by_crew, draw_in_threads};
 use crate::engine::{Engine, EngineBy, EngineOf};
@@ -159,7 +157,7 @@ impl<A: Allocator + Copy> ImmediateContext<A> {
     fn is_issued(&self, query: u32) -> bool
         ensures { result ≡ not (is_none (answered self.now query)) }
     {
-        self.output.result(query).is_some() || some_begins(self.pending.commands(), query)
+        self.output.result(query).is_some() || self.pending.has_begun(query)
     }
 }
 

@@ -1,11 +1,9 @@
 //! The counts of a list's issues, stored under their queries.
 
 ghost use Rattle.std.specs.Prelude.{◌≡◌, ℕ, Some, map, slice_index, slice_set};
-ghost use Rattle.std.specs.List.{list_any};
 ghost use Rattle.gfxspec.specs.Recorded.{issues};
 ghost use Rattle.meaning.specs.Contexts.{with_counts};
 ghost use Rattle.command.specs.Seen.{command_value};
-ghost use Rattle.immediate.specs.Issues.{begins};
 
 use cmdlist::Command;
 use gfxspec::QUERY_LIMIT;
@@ -45,21 +43,4 @@ pub(crate) fn store_counts<A: Allocator>(
             issue += 1;
         }
     }
-}
-
-/// Whether a command begins this query.
-fn begins<A: Allocator>(command: &Command<A>, query: u32) -> bool
-    ensures { result ≡ begins query (command_value command.now) }
-{
-    match command {
-        Command::Begin(begun) => *begun == query,
-        _ => false,
-    }
-}
-
-/// Whether commands begin a query.
-pub(crate) fn some_begins<A: Allocator>(commands: &[Command<A>], query: u32) -> bool
-    ensures { result ≡ list_any (λ command. begins query (command_value command)) commands.now }
-{
-    commands.iter().any(|command| begins(command, query))
 }

@@ -66,18 +66,21 @@ fn told_by(results: &[Option<u64>; 64]) -> [bool; 64]
 /// Keeps what a drawing of commands leaves: their issues' counts, each under its query, and the bins, empty again.
 fn keep<A: Allocator + Copy>(
     drawn: Drawn<A>,
-    commands: &[Command<A>],
+    commands: &Commands<'_, A>,
     results: &mut [Option<u64>; 64],
     bins: &mut Option<Bins<A>>,
 ) -> Result<(), GfxError>
     ensures kept { MatchResult drawn.0
-        (λ counts. (result ≡ Ok tt) × (results.new ≡ with_counts 0 (λ issue. slice_index counts.items issue) (issues (map command_value commands.now)) results.old))
+        (λ counts. (result ≡ Ok tt) × (results.new ≡ with_counts 0 (λ issue. slice_index counts.items issue) (issues commands.now) results.old))
         (λ refusal. (result ≡ Err refusal) × (results.new ≡ results.old)) }
     ensures bins { bins.new ≡ Some (no_words (tile_count drawn.1.size)) }
 {
     let (counts, compiled) = drawn;
     *bins = Some(compiled.into_bins());
-    store_counts(results, commands, counts?.as_slice());
+    let counts = counts?;
+    if commands.begin_queries() {
+        store_counts(results, commands.as_slice(), counts.as_slice());
+    }
     Ok(())
 }
 
@@ -210,14 +213,10 @@ impl<A: Allocator + Copy + Send> Output<A> {
         ensures memory { IfErr result (λ e. e ≡ OutOfMemory) }
         ensures err { OnErr result (self.new ≡ self.old) }
     {
-        let listed = commands.as_slice();
-        if listed.is_empty() {
+        if commands.as_slice().is_empty() || self.run_cut(commands, engine) {
             return Ok(());
         }
-        if self.run_cut(commands, engine) {
-            return Ok(());
-        }
-        self.run_listed(listed, engine)
+        self.run_listed(commands, engine)
     }
 
     /// Runs commands that draw much and begin no query, cut into segments for those who work beside the caller. It says whether they
@@ -242,16 +241,15 @@ impl<A: Allocator + Copy + Send> Output<A> {
     /// Runs commands that are compiled as one list.
     fn run_listed<E: EngineOf<A>>(
         &mut self,
-        commands: &[Command<A>],
+        commands: &Commands<'_, A>,
         engine: &E,
     ) -> Result<(), GfxError>
         requires engine { IsEngine (E.may_list engine.now) (E.lists engine.now) (E.may_compile engine.now) (E.compiles engine.now) (E.may_draw engine.now) (E.draws engine.now) }
-        requires accepted { AreAccepted (map command_value commands.now) }
-        ensures ok { OnOk result (HasRun (map command_value commands.now) self.old self.new) }
+        ensures ok { OnOk result (HasRun commands.now self.old self.new) }
         ensures memory { IfErr result (λ e. e ≡ OutOfMemory) }
         ensures err { OnErr result (self.new ≡ self.old) }
     {
-        let compiled = self.compiled(commands, engine)?;
+        let compiled = self.compiled(commands.as_slice(), engine)?;
         let drawn = draw(engine, TileProgram::new(compiled), &mut self.target);
         keep(drawn, commands, &mut self.results, &mut self.bins)
     }
@@ -294,7 +292,6 @@ impl<A: Allocator + Copy + Send> Output<A> {
     {
         let program = self.program(waiting, places, engine)?;
         let drawn = draw(engine, program, &mut self.target);
-        let nothing: [Command<A>; 0] = [];
-        keep(drawn, &nothing, &mut self.results, &mut self.bins)
+        keep(drawn, &Commands::none(), &mut self.results, &mut self.bins)
     }
 }

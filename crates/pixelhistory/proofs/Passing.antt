@@ -18,10 +18,8 @@ use Rattle.command.specs.declared.command.Command.{Command as Code}
 use Rattle.command.specs.Seen.{command_value}
 use Rattle.binner.proofs.Accepted.{done, done_more, accepted_at, within_limits}
 use Rattle.pixelevents.specs.declared.Event.{Event}
-use Rattle.pixelevents.specs.declared.Place.{Place}
 use Rattle.pixelevents.specs.declared.Origin.{Origin}
 use Rattle.pixelevents.specs.History.{event, events_at, history_from, touches}
-use Rattle.pixelevents.specs.Places.{StandsAt}
 use Rattle.pixelevents.specs.Origins.{AreNamed}
 use Rattle.pixelevents.proofs.HistoryLaws.{follow}
 use Rattle.pixelevents.proofs.OriginLaws.{named_both, named_as}

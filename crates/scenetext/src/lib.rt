@@ -22,4 +22,4 @@ mod words;
 
 pub use law::one_reading;
 pub use reader::{read, read_line};
-pub use scene::{Actor, Line, Lines, Scene, Verb};
+pub use scene::{Actor, Line, Scene, Verb};

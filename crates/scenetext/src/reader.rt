@@ -8,7 +8,7 @@ ghost use Rattle.scenetext.specs.Reading.{number_of_error, counted_by, HasRoom, 
 
 use crate::fault::{Fault, ReadError};
 use crate::lines::{line_of, size_of};
-use crate::scene::{Actor, Line, Lines, Scene, Verb};
+use crate::scene::{Actor, Line, Scene, Verb};
 use crate::text::cut_line;
 use gfxspec::Size;
 use std::alloc::Allocator;
@@ -106,8 +106,5 @@ pub fn read<A: Allocator + Copy>(alloc: A, text: &[u8]) -> Result<Scene<A>, (u64
         }
         rest = more;
     }
-    Ok(Scene {
-        size,
-        lines: Lines::from_vec(lines),
-    })
+    Ok(Scene { size, lines })
 }

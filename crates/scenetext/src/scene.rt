@@ -3,7 +3,6 @@
 use command::Command;
 use gfxspec::Size;
 use std::alloc::{Allocator, Global};
-use std::marker::Model;
 
 /// Who takes a line: the immediate context, or a deferred one by its number, 0 to 7.
 #[derive(Clone, Copy, Debug, PartialEq, Eq)]
@@ -37,43 +36,9 @@ pub struct Line<A: Allocator> {
 // A script of 60 MB has millions of lines.
 const _: () = prove!(size_of::<Line<Global>>() <= 40);
 
-/// Lines in order.
-#[derive(Drop)]
-pub struct Lines<A: Allocator> {
-    items: Vec<Line<A>, A>,
-}
-
-impl<A: Allocator> Model for Lines<A> {
-    ghost use Rattle.std.specs.Prelude.{List, map};
-    ghost use Rattle.scenetext.specs.Scene.{Line};
-
-    ghost Value = { List Line };
-
-    ghost use Rattle.scenetext.specs.Seen.{line_value};
-
-    ghost view = { λ l. map line_value l.items.items };
-}
-
-impl<A: Allocator> Lines<A> {
-    ghost use Rattle.std.specs.Prelude.{◌≡◌, map};
-    ghost use Rattle.scenetext.specs.Seen.{line_value};
-
-    pub(crate) fn from_vec(items: Vec<Line<A>, A>) -> Self
-        ensures { result ≡ map line_value items.items }
-    {
-        Lines { items }
-    }
-
-    pub fn as_slice(&self) -> &[Line<A>]
-        ensures { map line_value result.now ≡ self.now }
-    {
-        self.items.as_slice()
-    }
-}
-
-/// The size that the first line gives, and the lines behind it.
+/// The size that the first line gives, and the lines behind it in order.
 #[derive(Drop)]
 pub struct Scene<A: Allocator> {
     pub size: Size,
-    pub lines: Lines<A>,
+    pub lines: Vec<Line<A>, A>,
 }

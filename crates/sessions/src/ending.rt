@@ -92,9 +92,9 @@ pub(crate) fn end<C: Drop, A: Allocator + Copy>(
 ) -> Performance<C, A>
     requires sized { is_size scene.now.size ≡ true }
     requires scene { IsScene (scene_value scene.now) }
-    requires recorded { AreRecorded scene.now.lines deferred (missing_in played.interruption) }
-    requires ended { HasEnded scene.now.size scene.now.lines played }
-    ensures draws { HasEndedWith scene.now.size scene.now.lines played.answers.items played
+    requires recorded { AreRecorded (scene_value scene.now).lines deferred (missing_in played.interruption) }
+    requires ended { HasEnded scene.now.size (scene_value scene.now).lines played }
+    ensures draws { HasEndedWith scene.now.size (scene_value scene.now).lines played.answers.items played
         → Draws (scene_value scene.now) (ended_by (image (scene_value scene.now)) result.answers.items result.end) }
     ensures draws_some { (lines : List ℕ) × Draws (scene_value scene.now) (ended_by (image (scene_value scene.now)) lines result.end) }
     ensures finished { IfOk result.end (λ c. (c ≡ played.context) × (played.interruption ≡ None)) }
@@ -128,8 +128,8 @@ pub(crate) fn end_drawn<A: Allocator + Copy>(
 ) -> Performance<ImmediateContext<A>, A>
     requires sized { is_size scene.now.size ≡ true }
     requires scene { IsScene (scene_value scene.now) }
-    requires recorded { AreRecorded scene.now.lines deferred (missing_in played.interruption) }
-    requires played { HasPlayed scene.now.size scene.now.lines played }
+    requires recorded { AreRecorded (scene_value scene.now).lines deferred (missing_in played.interruption) }
+    requires played { HasPlayed scene.now.size (scene_value scene.now).lines played }
     ensures { Draws (scene_value scene.now) (output_by result.answers.items result.end) }
 {
     end(scene, deferred, played)

@@ -100,7 +100,7 @@ fn trace_scene<A: Allocator + Copy + Send>(
     requires size { traced.context.surface.size ≡ scene.now.size }
     requires new { IsNew traced.context.surface.size (context_of traced.context) }
     requires traced { traces_beside scene.now.size [] traced.x traced.y traced }
-    ensures history { IfOk result (λ events. (end_of (answers (scene_value scene.now)) ≡ Done) × IsNamedHistory scene.now.size scene.now.lines traced.x traced.y events.items) }
+    ensures history { IfOk result (λ events. (end_of (answers (scene_value scene.now)) ≡ Done) × IsNamedHistory scene.now.size (scene_value scene.now).lines traced.x traced.y events.items) }
     ensures refused { (text : List ℕ) → Spells text (scene_value scene.now) → IfErr result (λ at. MayRefuse text at.0 at.1) }
 {
     let Ok(lines) = deal(alloc, scene.lines.as_slice()) else {

@@ -28,7 +28,7 @@ fn main(rt: HostRuntime) -> ExitCode {
     match asked(&rt) {
         Ok(settings) => match hold_standard(&rt) {
             Ok(_standing) => told(&rt, &drawn(&rt, &settings)),
-            Err(_) => unheld(&rt),
+            Err(_) => told(&rt, &Err(SessionFault::Read)),
         },
         Err(fault) => refused(&rt, &fault),
     }
@@ -104,14 +104,6 @@ fn told<R: Eprint>(rt: &R, outcome: &Result<Ended, SessionFault>) -> ExitCode
         let _ = rt.eprintln(text);
     }
     ExitCode::from(status)
-}
-
-/// Says that descriptors 0 to 2 can't be held, and gives the exit status.
-fn unheld<R: Eprint>(rt: &R) -> ExitCode
-    ensures { exit_status result ≡ 3 }
-{
-    let _ = rt.eprintln("tiledraw: cannot hold standard input, output and error");
-    ExitCode::from(3)
 }
 
 /// Says why the words are not taken, and gives the exit status.

@@ -17,6 +17,36 @@ pub(crate) struct DepthBrush {
     pub(crate) ghost kind: { tests_of brush.state ≡ Depth func write },
 }
 
+impl DepthBrush {
+    ghost use Rattle.std.specs.Prelude.{◌≡◌};
+
+    /// The same brush by its comparison, which stands as a constant.
+    #[inline(always)]
+    pub(crate) fn by(self, func: Compare) -> DepthBrush
+        requires { func ≡ self.func }
+        ensures { result.brush ≡ self.brush }
+    {
+        DepthBrush {
+            func,
+            write: self.write,
+            brush: self.brush,
+        }
+    }
+
+    /// The same brush by whether it stores depths, which stands as a constant.
+    #[inline(always)]
+    pub(crate) fn storing(self, write: bool) -> DepthBrush
+        requires { write ≡ self.write }
+        ensures { result.brush ≡ self.brush }
+    {
+        DepthBrush {
+            func: self.func,
+            write,
+            brush: self.brush,
+        }
+    }
+}
+
 /// A brush with a stencil test, and the test, which is made once for all its pixels.
 #[derive(Drop)]
 pub(crate) struct StencilBrush {

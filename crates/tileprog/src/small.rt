@@ -156,7 +156,7 @@ fn draw_columns(
     passed
 }
 
-/// The same, with the comparison and whether depths are stored known to each of the loops.
+/// The same, with the comparison known to each of the loops.
 #[inline(always)]
 fn draw_compared(
     block: &mut TilePixels,
@@ -172,92 +172,25 @@ fn draw_compared(
     ensures { SpreadDrew (stroke_of triangle.now) block.old block.new result }
 {
     match brush.func {
-        Compare::Never => {
-            let known = DepthBrush {
-                func: Compare::Never,
-                write: brush.write,
-                brush: brush.brush,
-            };
-            draw_columns(block, triangle, edges, walk, known)
-        }
-        Compare::Less => {
-            let known = DepthBrush {
-                func: Compare::Less,
-                write: brush.write,
-                brush: brush.brush,
-            };
-            draw_columns(block, triangle, edges, walk, known)
-        }
-        Compare::Equal => {
-            let known = DepthBrush {
-                func: Compare::Equal,
-                write: brush.write,
-                brush: brush.brush,
-            };
-            draw_columns(block, triangle, edges, walk, known)
-        }
+        Compare::Never => draw_columns(block, triangle, edges, walk, brush.by(Compare::Never)),
+        Compare::Less => draw_columns(block, triangle, edges, walk, brush.by(Compare::Less)),
+        Compare::Equal => draw_columns(block, triangle, edges, walk, brush.by(Compare::Equal)),
         Compare::LessEqual => {
-            let known = DepthBrush {
-                func: Compare::LessEqual,
-                write: brush.write,
-                brush: brush.brush,
-            };
-            draw_columns(block, triangle, edges, walk, known)
+            draw_columns(block, triangle, edges, walk, brush.by(Compare::LessEqual))
         }
-        Compare::Greater => {
-            let known = DepthBrush {
-                func: Compare::Greater,
-                write: brush.write,
-                brush: brush.brush,
-            };
-            draw_columns(block, triangle, edges, walk, known)
-        }
+        Compare::Greater => draw_columns(block, triangle, edges, walk, brush.by(Compare::Greater)),
         Compare::NotEqual => {
-            let known = DepthBrush {
-                func: Compare::NotEqual,
-                write: brush.write,
-                brush: brush.brush,
-            };
-            draw_columns(block, triangle, edges, walk, known)
+            draw_columns(block, triangle, edges, walk, brush.by(Compare::NotEqual))
         }
         Compare::GreaterEqual => {
-            let known = DepthBrush {
-                func: Compare::GreaterEqual,
-                write: brush.write,
-                brush: brush.brush,
-            };
-            draw_columns(block, triangle, edges, walk, known)
+            draw_columns(block, triangle, edges, walk, brush.by(Compare::GreaterEqual))
         }
-        Compare::Always => {
-            let known = DepthBrush {
-                func: Compare::Always,
-                write: brush.write,
-                brush: brush.brush,
-            };
-            draw_columns(block, triangle, edges, walk, known)
-        }
+        Compare::Always => draw_columns(block, triangle, edges, walk, brush.by(Compare::Always)),
     }
 }
 
-/// The same under a brush that stores depths.
-#[inline(always)]
-fn draw_stored(
-    block: &mut TilePixels,
-    triangle: &TileTriangle<'_>,
-    edges: EdgeQuads<'_>,
-    walk: DepthQuads<'_>,
-    brush: DepthBrush,
-) -> u32
-    requires over { IsQuads triangle.now block.old.rect }
-    requires brush { brush.brush ≡ triangle.now.brush.now }
-    requires edges { edges ≡ edges_at triangle.now block.old.rect triangle.now.first triangle.now.clip.top }
-    requires walk { walk ≡ walk_at triangle.now block.old.rect triangle.now.first triangle.now.clip.top }
-    ensures { SpreadDrew (stroke_of triangle.now) block.old block.new result }
-{
-    draw_compared(block, triangle, edges, walk, brush)
-}
-
-/// A small triangle under a brush that tests depth alone; the answer is how many pixels pass.
+/// A small triangle under a brush that tests depth alone; the answer is how many pixels pass. Whether depths are stored is known to each of
+/// the loops too.
 #[inline(always)]
 pub(crate) fn draw_small(
     block: &mut TilePixels,
@@ -273,18 +206,8 @@ pub(crate) fn draw_small(
     ensures { SpreadDrew (stroke_of triangle.now) block.old block.new result }
 {
     if brush.write {
-        let known = DepthBrush {
-            func: brush.func,
-            write: true,
-            brush: brush.brush,
-        };
-        draw_stored(block, triangle, edges, walk, known)
+        draw_compared(block, triangle, edges, walk, brush.storing(true))
     } else {
-        let known = DepthBrush {
-            func: brush.func,
-            write: false,
-            brush: brush.brush,
-        };
-        draw_compared(block, triangle, edges, walk, known)
+        draw_compared(block, triangle, edges, walk, brush.storing(false))
     }
 }

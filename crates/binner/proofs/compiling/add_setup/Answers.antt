@@ -1,5 +1,4 @@
-use Rattle.std.proofs.Common.{rules, refl, subst, arith, ◌∙◌, ap, ◌∷◌, [], ◌<◌, length, length-append}
-use Rattle.std.specs.Prelude.{slice_get}
+use Rattle.std.proofs.Common.{rules, refl, subst, arith, ◌∷◌, [], ◌<◌, length, length-append}
 use Rattle.gfxspec.specs.Tiles.{tile_rect}
 use Rattle.binner.specs.Lists.{EachChanges, TakesTriangle}
 use Rattle.binner.proofs.Growing.{at_end, more_or_same}

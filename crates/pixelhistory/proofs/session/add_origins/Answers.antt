@@ -1,4 +1,4 @@
-use Rattle.std.proofs.Common.{rules, arith, ap, ◌≡◌, ◌≤◌, ◌<◌, ◌-◌, ◌+◌, ℕ, subst, sym, get_or, w32, Fits}
+use Rattle.std.proofs.Common.{rules, ◌≡◌, ◌≤◌, ◌<◌, ◌-◌, ◌+◌, ℕ, subst, sym, get_or, w32, Fits}
 use Rattle.pixelevents.specs.declared.Event.{Event}
 use Rattle.pixelhistory.proofs.Passing.{added_fit}
 use Rattle.pixelhistory.proofs.session.add_origins.Goals as goal

@@ -1,4 +1,4 @@
-use Rattle.std.proofs.Common.{rules, sym, subst, ℕ, ◌≡◌, ◌∙◌, ◌+◌, ◌<◌, ◌≤◌, w32, Fits, drop, length}
+use Rattle.std.proofs.Common.{rules, sym, subst, ℕ, ◌≡◌, ◌+◌, ◌<◌, ◌≤◌, w32, Fits, drop, length}
 use Rattle.std.specs.Prelude.{All}
 use Rattle.meaning.specs.OneMore.{settings_with, triangles_of, performed_items}
 use Rattle.command.specs.Seen.{state_value, command_value}

@@ -46,7 +46,7 @@ loop-rest-preserved g c =
 pub returns-clause-scene : goal.returns-clause-scene
 returns-clause-scene g c =
     let none : length c.loop-rest.rest.now ≡ 0 = grind (arith, nat_tests) in
-    rw c.from_vec.ensures (is_read c.args.text.now c.in-Ok.first.0 (map line_value c.loop-rest.lines.items) c.loop-rest.finished c.loop-rest.rest.now c.loop-rest.invariant none)
+    is_read c.args.text.now c.in-Ok.first.0 (map line_value c.loop-rest.lines.items) c.loop-rest.finished c.loop-rest.rest.now c.loop-rest.invariant none
 
 pub is_empty-requires : goal.is_empty-requires
 is_empty-requires g c κs = search rules
@@ -112,9 +112,6 @@ returns-then-is_err-clause-first_line g c = search rules
 
 pub loop-rest-smaller : goal.loop-rest-smaller
 loop-rest-smaller g c = search rules
-
-pub from_vec-requires : goal.from_vec-requires
-from_vec-requires g c κs = search rules
 
 pub returns-clause-refused : goal.returns-clause-refused
 returns-clause-refused g c = search rules

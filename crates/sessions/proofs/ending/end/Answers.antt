@@ -1,4 +1,4 @@
-use Rattle.std.proofs.Common.{◌≡◌, ◌≤◌, ◌∙◌, ap, sym, subst, refl, arith, ◌+◌, [], length, take}
+use Rattle.std.proofs.Common.{◌≡◌, ◌≤◌, ◌∙◌, ap, sym, subst, refl, map, arith, ◌+◌, [], length, take}
 use Rattle.std.proofs.lemmas.List.{length-map, length-take-le, take-map}
 use Rattle.scenetext.specs.Seen.{line_value}
 use Rattle.scenetext.specs.SeenScene.{scene_value}
@@ -14,7 +14,7 @@ slice_bounds-before-end g c =
     let p = c.args.played in
     let stop = stop_is (scene_value c.args.scene.now) c.requires.sized c.requires.scene.1 c.args.deferred p c.requires.recorded c.requires.ended.0 c.requires.ended.1 c.in-Some.stop (c.in-Some.ensures ∙ ap (earlier_of c.args.deferred) c.refused_line.ensures) in
     let below = stop.below in
-    let count = sym (length-map c.as_slice.result.now line_value) ∙ ap length c.as_slice.ensures in
+    let count = sym (length-map c.as_slice.result.now line_value) ∙ ap length (ap (map line_value) c.as_slice.ensures) in
     let few : c.in-Some.stop.place ≤ length c.as_slice.result.now = omega (arith, below, count) in
     sym (length-take-le c.in-Some.stop.place c.as_slice.result.now few)
 
@@ -26,9 +26,9 @@ returns-in-Some-clause-draws g c own =
     let same = c.in-Some.ensures ∙ ap (earlier_of c.args.deferred) c.refused_line.ensures in
     let stops = stop_is scene c.requires.sized c.requires.scene.1 c.args.deferred p c.requires.recorded p.answers.items own stop same in
     let below = stops.below in
-    let count = sym (length-map c.as_slice.result.now line_value) ∙ ap length c.as_slice.ensures in
+    let count = sym (length-map c.as_slice.result.now line_value) ∙ ap length (ap (map line_value) c.as_slice.ensures) in
     let few : stop.place ≤ length c.as_slice.result.now = omega (arith, below, count) in
-    let lines_are = sym (take-map line_value stop.place c.as_slice.result.now) ∙ ap (take stop.place) c.as_slice.ensures in
+    let lines_are = sym (take-map line_value stop.place c.as_slice.result.now) ∙ ap (take stop.place) (ap (map line_value) c.as_slice.ensures) in
     let asked = subst (λ ls. length (answers_behind scene.size [] ls) ≡ c.asked.result) lines_are (c.asked.ensures scene.size) in
     let bytes = c.first_lines.result.items in
     let draws = stopped_draws scene c.requires.sized c.requires.scene.1 c.args.deferred p c.requires.recorded p.answers.items own stop bytes c.asked.result same c.first_lines.ensures asked in
@@ -42,7 +42,7 @@ returns-in-Some-clause-draws_some g c =
     let stop = c.in-Some.stop in
     let same = c.in-Some.ensures ∙ ap (earlier_of c.args.deferred) c.refused_line.ensures in
     let below = (stop_is scene c.requires.sized c.requires.scene.1 c.args.deferred p c.requires.recorded c.requires.ended.0 c.requires.ended.1 stop same).below in
-    let count = sym (length-map c.as_slice.result.now line_value) ∙ ap length c.as_slice.ensures in
+    let count = sym (length-map c.as_slice.result.now line_value) ∙ ap length (ap (map line_value) c.as_slice.ensures) in
     let few : stop.place ≤ length c.as_slice.result.now = omega (arith, below, count) in
     let bytes = answer_lines (answers_behind scene.size [] (take stop.place scene.lines)) in
     let draws = stopped_by scene c.requires.sized c.requires.scene.1 c.args.deferred p c.requires.recorded c.requires.ended.0 c.requires.ended.1 stop bytes same refl in (

@@ -1,4 +1,4 @@
-use Rattle.std.proofs.Common.{rules, ◌≡◌, ◌∙◌, ◌+◌, ◌<◌, ◌++◌, ◌∷◌, [], ap, sym, subst, refl, length, take, get_or}
+use Rattle.std.proofs.Common.{rules, ◌≡◌, ◌∙◌, ◌<◌, ◌++◌, ◌∷◌, [], ap, sym, subst, length, take, get_or}
 use Rattle.pixelevents.specs.declared.Event.{Event}
 use Rattle.pixelevents.specs.declared.Origin.{Origin}
 use Rattle.pixelevents.specs.declared.NamedEvent.{NamedEvent}
