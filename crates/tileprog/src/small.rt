@@ -183,7 +183,13 @@ fn draw_compared(
             draw_columns(block, triangle, edges, walk, brush.by(Compare::NotEqual))
         }
         Compare::GreaterEqual => {
-            draw_columns(block, triangle, edges, walk, brush.by(Compare::GreaterEqual))
+            draw_columns(
+                block,
+                triangle,
+                edges,
+                walk,
+                brush.by(Compare::GreaterEqual),
+            )
         }
         Compare::Always => draw_columns(block, triangle, edges, walk, brush.by(Compare::Always)),
     }
