@@ -23,7 +23,7 @@ returns-in_default-clause-refused g c text spells = record { output = refused_ou
 
 pub play_traced-played-requires-clause-may : goal.play_traced-played-requires-clause-may
 play_traced-played-requires-clause-may g c κs within = record {
-  sound = subst (AreLines []) (sym (c.in-Ok.ensures ∙ ap (map line_value) c.as_slice.ensures)) c.requires.scene.1;
+  sound = subst (AreLines []) (sym (c.in-Ok.ensures ∙ ap (map line_value) c.as_slice.ensures.value)) c.requires.scene.1;
   lists = λ k n. ap (λ ls. listed ls k n) c.record_alone-recorded.ensures;
   start = c.requires.new;
 }
@@ -31,13 +31,13 @@ play_traced-played-requires-clause-may g c κs within = record {
 pub end-ended-requires-clause-recorded : goal.end-ended-requires-clause-recorded
 end-ended-requires-clause-recorded g c =
     let played = c.play_traced-played in
-    let lines = ap (λ (a : Asked). a.lines) played.ensures.frame ∙ c.record_alone-recorded.ensures ∙ c.in-Ok.ensures ∙ ap (map line_value) c.as_slice.ensures in
+    let lines = ap (λ (a : Asked). a.lines) played.ensures.frame ∙ c.record_alone-recorded.ensures ∙ c.in-Ok.ensures ∙ ap (map line_value) c.as_slice.ensures.value in
     subst (λ ls. AreRecorded ls c.first_refused.result (missing_in played.result.interruption)) lines (c.first_refused.ensures (missing_in played.result.interruption) played.ensures.missing)
 
 pub end-ended-requires-clause-ended : goal.end-ended-requires-clause-ended
 end-ended-requires-clause-ended g c =
     let p = c.play_traced-played.result in
-    subst (λ ls. HasEnded c.args.scene.now.size ls p) (c.in-Ok.ensures ∙ ap (map line_value) c.as_slice.ensures)
+    subst (λ ls. HasEnded c.args.scene.now.size ls p) (c.in-Ok.ensures ∙ ap (map line_value) c.as_slice.ensures.value)
     (subst (λ s. HasEnded s c.in-Ok.lines p) c.requires.size (c.play_traced-played.ensures.ended tt))
 
 pub all_named-requires-clause-same : goal.all_named-requires-clause-same
@@ -51,7 +51,7 @@ all_named-requires-clause-below g c =
     let played = c.play_traced-played in
     let t = c.args.traced in
     let is : (d ≡ played.result.context) × (played.result.interruption ≡ None) = subst (λ e. IfOk e (λ k. (k ≡ played.result.context) × (played.result.interruption ≡ None))) same c.end-ended.ensures.finished in
-    let dealt : c.in-Ok.lines ≡ scene.lines = c.in-Ok.ensures ∙ ap (map line_value) c.as_slice.ensures in
+    let dealt : c.in-Ok.lines ≡ scene.lines = c.in-Ok.ensures ∙ ap (map line_value) c.as_slice.ensures.value in
     let whole = whole_history scene.size t.context.surface.size c.in-Ok.lines scene.lines t.x t.y played.result.interruption played.result.context d c.requires.size dealt is.1 is.0
     (played.ensures.traced t.x t.y (subst (λ z. traces_beside z [] t.x t.y t) (sym c.requires.size) c.requires.traced) tt) in
     subst (λ ls. AreNamed (λ k o. o.step < own_count ls) d.trace.trace.events.items d.trace.origins.items) (sym dealt)
@@ -66,7 +66,7 @@ returns-in-Ok-all_named-clause-history g c =
     let played = c.play_traced-played in
     let t = c.args.traced in
     let is : (d ≡ played.result.context) × (played.result.interruption ≡ None) = subst (λ e. IfOk e (λ k. (k ≡ played.result.context) × (played.result.interruption ≡ None))) same c.end-ended.ensures.finished in
-    let dealt : c.in-Ok.lines ≡ scene.lines = c.in-Ok.ensures ∙ ap (map line_value) c.as_slice.ensures in
+    let dealt : c.in-Ok.lines ≡ scene.lines = c.in-Ok.ensures ∙ ap (map line_value) c.as_slice.ensures.value in
     let whole = whole_history scene.size t.context.surface.size c.in-Ok.lines scene.lines t.x t.y played.result.interruption played.result.context d c.requires.size dealt is.1 is.0
     (played.ensures.traced t.x t.y (subst (λ z. traces_beside z [] t.x t.y t) (sym c.requires.size) c.requires.traced) tt) in
     let u = d.trace in

@@ -18,7 +18,7 @@ returns-in_default-open_ports g c = subst (Writes c.args.text.items) (sym c.stop
 
 pub play_in_scope-round-requires-clause-may : goal.play_in_scope-round-requires-clause-may
 play_in_scope-round-requires-clause-may g c κs within = record {
-  sound = subst (AreLines []) (sym (c.in-Ok-deal.ensures ∙ ap (map line_value) c.as_slice.ensures)) c.in-Ok.ensures.begun.spells.scene_is.1;
+  sound = subst (AreLines []) (sym (c.in-Ok-deal.ensures ∙ ap (map line_value) c.as_slice.ensures.value)) c.in-Ok.ensures.begun.spells.scene_is.1;
   lists = λ k n. refl;
   start = c.in-Ok.ensures.begun.new;
 }
@@ -27,13 +27,13 @@ pub end_drawn-requires-clause-recorded : goal.end_drawn-requires-clause-recorded
 end_drawn-requires-clause-recorded g c =
     let round = c.play_in_scope-round in
     let missing = missing_in round.result.played.interruption in
-    subst (λ l. AreRecorded l c.settle-deferred.result missing) (c.in-Ok-deal.ensures ∙ ap (map line_value) c.as_slice.ensures) (c.settle-deferred.ensures.refused _ missing round.ensures.results round.ensures.missing)
+    subst (λ l. AreRecorded l c.settle-deferred.result missing) (c.in-Ok-deal.ensures ∙ ap (map line_value) c.as_slice.ensures.value) (c.settle-deferred.ensures.refused _ missing round.ensures.results round.ensures.missing)
 
 pub end_drawn-requires-clause-played : goal.end_drawn-requires-clause-played
 end_drawn-requires-clause-played g c =
     let round = c.play_in_scope-round in
     let p = round.result.played in
-    subst (λ l. HasPlayed c.in-Ok.begun.0.size l p) (c.in-Ok-deal.ensures ∙ ap (map line_value) c.as_slice.ensures)
+    subst (λ l. HasPlayed c.in-Ok.begun.0.size l p) (c.in-Ok-deal.ensures ∙ ap (map line_value) c.as_slice.ensures.value)
     (subst (λ s. HasPlayed s c.in-Ok-deal.lines p) c.in-Ok.ensures.begun.size_is (round.ensures.played (c.settle-deferred.ensures.agrees _ round.ensures.results)))
 
 pub returns : goal.returns
