@@ -1,11 +1,20 @@
 -- One command more.
-use Rattle.std.proofs.Common.{◌≡◌, ◌∙◌, ap, sym, subst, refl, ℕ, List, [], ◌++◌, append-nil}
+use Rattle.std.proofs.Common.{◌≡◌, ◌∙◌, ap, sym, subst, refl, ℕ, true, List, [], ◌++◌, append-nil}
+use Rattle.std.specs.Prelude.{Option, IfSome}
+use Rattle.std.specs.declared.vec.Vec.{Vec}
+use Rattle.gfxspec.specs.declared.geometry.Size.{Size}
 use Rattle.gfxspec.specs.declared.pixel.DepthStencil.{DepthStencil}
 use Rattle.gfxspec.specs.State.{Settings}
+use Rattle.gfxspec.specs.Assembly.{Primitive}
 use Rattle.gfxspec.specs.Items.{Item}
-use Rattle.gfxspec.specs.Commands.{ClearColor, ClearDepthStencil}
-use Rattle.gfxspec.specs.Recorded.{items_at}
+use Rattle.gfxspec.specs.Commands.{Command, ClearColor, ClearDepthStencil}
+use Rattle.gfxspec.specs.Recorded.{items_at, is_drawing}
+use Rattle.cmdlist.specs.declared.draws.Drawing.{Drawing}
+use Rattle.cmdlist.specs.declared.draws.Drawing.TheVariants.{Nothing, Triangles}
+use Rattle.cmdlist.specs.Drawn.{Draws, IsOf}
+use Rattle.binner.specs.declared.setup.TriSetup.{TriSetup}
 use Rattle.binner.specs.declared.compiling.Compiling.{Compiling}
+use Rattle.binner.specs.Setups.{AreSetups, all_setups, IsSetUp}
 use Rattle.binner.specs.Compiling.{HasCompiled, IsSound, AddsColor, AddsDepth, Adds}
 use Rattle.binner.proofs.Growing.{color_means, color_sound, depth_means, depth_sound}
 
@@ -16,6 +25,16 @@ adds_nothing bits more k none sound = record {
   size = refl;
   means = λ items opened are h. subst (HasCompiled k) (sym (ap (λ l. items ++ l) (none opened) ∙ append-nil items)) h;
 }
+
+-- what is drawn is ready, if what was set up ahead is of these triangles
+pub drawing_ready : {A : Type 0} (s : Settings) (size : Size) (parts : Option (Vec (Vec TriSetup A) A)) (primitives : List Primitive) (drawing : Drawing) → Draws primitives drawing → IfSome parts (λ p. AreSetups s size primitives (all_setups p.items)) → IsSetUp s size parts drawing
+drawing_ready s size parts primitives (Triangles draw) h made = (h.0, h.1, subst (λ ps. IfSome parts (λ p. AreSetups s size ps (all_setups p.items))) (sym h.2) made)
+drawing_ready s size parts primitives drawing h made = tt
+
+-- what isn't nothing comes of a draw or a clear
+pub drawing_comes : (c : Command) (drawing : Drawing) → IsOf c drawing → (drawing ≡ Nothing → ⊥) → is_drawing c ≡ true
+drawing_comes c Nothing h some = absurd (some refl)
+drawing_comes c drawing h some = h
 
 -- the same items
 pub adds_same : {A : Type 0} {bits : ℕ} {old new : Compiling A} (f g : List ℕ → List Item) → ((opened : List ℕ) → f opened ≡ g opened) → Adds bits f old new → Adds bits g old new

@@ -1,6 +1,6 @@
 -- Lists that are cut into segments, command by command.
 use Rattle.std.proofs.Common.{◌≡◌, ◌∙◌, ap, sym, subst, refl, Bool, ℕ, ◌+◌, ◌<◌, ◌≤◌, List, [], ◌∷◌, ◌++◌, length, map, drop, get_or, append_assoc}
-use Rattle.std.specs.Prelude.{None}
+use Rattle.std.specs.Prelude.{ℤ, Option, Some, None}
 use Rattle.std.proofs.lemmas.List.{append-nil, take_all, map-append}
 use Rattle.std.proofs.lemmas.List.Elements.{filter_map-append}
 use Rattle.gfxspec.specs.State.{Settings}
@@ -16,7 +16,7 @@ use Rattle.command.specs.declared.command.Command.{Command as Code}
 use Rattle.command.specs.Seen.{command_value}
 use Rattle.binner.specs.Opened.{CanNote}
 use Rattle.binner.specs.Compiling.{CanStand, CanCompile}
-use Rattle.binner.specs.Segments.{IsOpenSegment, CanFollow, IsSame, IsMore, cut_items, laid_items}
+use Rattle.binner.specs.Segments.{IsOpenSegment, CanFollow, IsSame, IsMore, draw_of, cut_items, laid_items}
 use Rattle.binner.proofs.Accepted.{done, done_more, whole, can_note, drawable, accepted_at}
 
 -- ---- where no issue begins, none is open
@@ -61,6 +61,11 @@ still_open cs s t c h f e =
       state = is ∙ sym (settings_after-push cs c);
       sound = subst AreSound (sym is) f.sound;
     }
+
+-- a draw changes no setting
+pub draw_sets_nothing : (base : Option ℤ) (count start : ℕ) (s : Settings) → s ≡ settings_with (draw_of base count start) s
+draw_sets_nothing None count start s = refl
+draw_sets_nothing (Some base) count start s = refl
 
 -- ---- what segments mean
 

@@ -1,6 +1,6 @@
 -- Triangles that are made ready before any word is written.
-use Rattle.std.specs.Prelude.{ℕ, ◌≡◌, ◌<◌, ◌⊎◌, false, List, [], ◌∷◌, ◌++◌, map, take, Option, Some, None, slice_get}
-use Rattle.std.specs.List.{flat_map}
+use Rattle.std.specs.Prelude.{ℕ, ◌≡◌, ◌<◌, ◌⊎◌, false, List, [], ◌∷◌, ◌++◌, map, take, Option, Some, None, slice_get, IsTrue, IfSome}
+use Rattle.std.specs.List.{flat_map, list_all}
 use Rattle.std.specs.declared.vec.Vec.{Vec}
 use Rattle.gfxspec.specs.declared.geometry.Size.{Size}
 use Rattle.gfxspec.specs.Limits.{side_bound}
@@ -8,11 +8,15 @@ use Rattle.gfxspec.specs.State.{Settings}
 use Rattle.gfxspec.specs.Assembly.{Primitive}
 use Rattle.gfxspec.specs.Items.{reaches}
 use Rattle.gfxspec.specs.Recorded.{settings_after}
+use Rattle.gfxspec.specs.Refusals.{is_in_range}
+use Rattle.assemble.specs.Drawing.{IsInRange, triangles_of}
 use Rattle.command.specs.declared.command.Command.{Command as Code}
 use Rattle.command.specs.Seen.{command_value}
 use Rattle.binner.specs.declared.setup.TriSetup.{TriSetup}
 use Rattle.binner.specs.declared.ahead.DrawSetups.{DrawSetups}
 use Rattle.cmdlist.specs.Drawable.{drawn_by}
+use Rattle.cmdlist.specs.declared.draws.Drawing.{Drawing}
+use Rattle.cmdlist.specs.declared.draws.Drawing.TheVariants.{Triangles}
 use Rattle.binner.specs.Meaning.{IsSetupOf}
 
 -- the triangle reaches no pixel of a target of this size
@@ -38,6 +42,12 @@ settings_at cs place = settings_after (map command_value (take place cs))
 abbrev pub MatchesDraw : {A : Type 0} → List (Code A) → Size → DrawSetups A → Type 0
 MatchesDraw {A = A} cs size a =
     (c : Code A) → slice_get cs a.place ≡ Some c → AreSetups (settings_at cs a.place) size (drawn_by (settings_at cs a.place) (command_value c)) (all_setups a.parts.items)
+
+-- what is drawn has vertices in range, and its triangles are those of the parts, if it was set up already
+abbrev pub IsSetUp : {A : Type 0} → Settings → Size → Option (Vec (Vec TriSetup A) A) → Drawing → Type 0
+IsSetUp s size parts (Triangles draw) =
+    IsInRange draw × IsTrue (list_all is_in_range draw.vertices.now) × IfSome parts (λ p. AreSetups s size (triangles_of draw) (all_setups p.items))
+IsSetUp s size parts drawing = Unit {0}
 
 -- these parts were added for this place, if there are any
 abbrev pub Notes : {A : Type 0} → ℕ → Option (Vec (Vec TriSetup A) A) → List (DrawSetups A) → List (DrawSetups A) → Type 0

@@ -5,11 +5,11 @@ ghost use Rattle.gfxspec.specs.Assembly.{part};
 ghost use Rattle.std.specs.List.{list_all};
 ghost use Rattle.gfxspec.specs.Refusals.{is_in_range};
 ghost use Rattle.gfxspec.specs.Recorded.{drawn_items};
-ghost use Rattle.meaning.specs.OneMore.{performed_items};
 ghost use Rattle.assemble.specs.Drawing.{IsInRange, triangles_of};
 ghost use Rattle.command.specs.Seen.{state_value, command_value};
-ghost use Rattle.cmdlist.specs.Drawable.{IsDrawable, drawn_by, told};
-ghost use Rattle.binner.specs.Setups.{AreSetups, all_setups, MatchesDraw};
+ghost use Rattle.cmdlist.specs.Drawable.{told};
+ghost use Rattle.cmdlist.specs.Drawn.{drawing_items};
+ghost use Rattle.binner.specs.Setups.{AreSetups, all_setups, IsSetUp, MatchesDraw};
 ghost use Rattle.binner.specs.Compiling.{IsSound, AddsSetup, AddsColor, AddsDepth, Enters, Adds, AddsList, CanCompile};
 
 use crate::ahead::{DrawSetups, Parts, take_ahead};
@@ -269,23 +269,20 @@ fn add_drawn<A: Allocator + Copy>(
     }
 }
 
-/// Adds what a command draws or clears under a state, with the open issues as bits, unless the state's predicate
-/// withholds it. What it draws may be set up already, in parts.
-fn add_performed<A: Allocator + Copy>(
+/// Adds what is drawn or cleared under a state, with the open issues as bits. What is drawn may be set up already, in parts.
+fn add_drawing<A: Allocator + Copy>(
     compiling: &mut Compiling<A>,
-    command: &Command<A>,
+    drawing: Drawing<'_>,
     state: &State<'_>,
     issues: u64,
-    results: &[bool; 64],
     parts: Option<Parts<A>>,
 ) -> Result<(), AllocError>
-    requires drawable { IsDrawable (state_value state.now) (command_value command.now) }
     requires sound { IsSound compiling.old }
-    requires made { IfSome parts (λ parts. AreSetups (state_value state.now) compiling.old.lists.size (drawn_by (state_value state.now) (command_value command.now)) (all_setups parts.items)) }
+    requires ready { IsSetUp (state_value state.now) compiling.old.lists.size parts drawing }
     ensures bins { length compiling.new.lists.bins ≡ length compiling.old.lists.bins }
-    ensures drawn { OnOk result (Adds issues (λ opened. performed_items (told results.now) (state_value state.now) opened (command_value command.now)) compiling.old compiling.new) }
+    ensures drawn { OnOk result (Adds issues (λ opened. drawing_items (state_value state.now) opened drawing.entry) compiling.old compiling.new) }
 {
-    match drawing_of(command, state, results) {
+    match drawing {
         Drawing::Nothing => Ok(()),
         Drawing::Triangles(draw) => add_drawn(compiling, &draw, state, issues, parts),
         Drawing::ClearColor(rgba) => add_color(compiling, rgba),
@@ -315,10 +312,16 @@ pub(crate) fn add_commands<A: Allocator + Copy>(
     let mut of_query = nothing_begun();
     let mut ahead = ahead;
     for (place, command) in commands.iter().enumerate() {
-        let parts = take_ahead(&mut ahead, place, commands, size);
-        add_performed(compiling, command, &state, bits, results, parts)?;
-        note(&mut bits, &mut begun, &mut of_query, command);
-        state.change(command);
+        match drawing_of(command, &state, results) {
+            Drawing::Nothing => {
+                note(&mut bits, &mut begun, &mut of_query, command);
+                state.change(command);
+            }
+            drawing => {
+                let parts = take_ahead(&mut ahead, place, commands, size);
+                add_drawing(compiling, drawing, &state, bits, parts)?;
+            }
+        }
     }
     Ok(begun)
 }

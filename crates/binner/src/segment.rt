@@ -62,31 +62,30 @@ impl<A: Allocator> Model for OpenSegment<A> {
     ghost invariant = { λ s. IsOpenSegment (map command_value s.commands.items) (settings_value s.settings) };
 }
 
-/// No fewer triangles than a command draws under these settings.
-fn most_triangles<A: Allocator>(settings: &Settings<A>, command: &Command<A>) -> u32 {
-    let count = match command {
-        Command::Draw(count, _) => *count,
-        Command::DrawIndexed(count, _, _) => *count,
-        _ => 0,
-    };
-    match settings.topology {
-        Some(topology) => uncut_triangles(topology, count),
-        None => 0,
-    }
-}
-
-/// A draw of a triangle list, which can be cut at each third vertex: of vertices as they lie, or of indices with a base.
+/// A draw: of vertices as they lie, or of indices with a base.
 #[derive(Clone, Copy)]
-struct ListDraw {
+struct DrawCall {
     count: u32,
     start: u32,
     base: Option<i32>,
 }
 
-impl ListDraw {
-    ghost use Rattle.std.specs.Prelude.{◌≡◌};
+impl DrawCall {
+    ghost use Rattle.std.specs.Prelude.{◌≡◌, IfSome};
     ghost use Rattle.command.specs.Seen.{command_value};
     ghost use Rattle.binner.specs.Segments.{draw_of};
+
+    /// The draw that a command is.
+    fn of<A: Allocator>(command: &Command<A>) -> Option<DrawCall>
+        ensures { IfSome result (λ d. command_value command.now ≡ draw_of d.base d.count d.start) }
+    {
+        let (count, start, base) = match command {
+            Command::Draw(count, start) => (*count, *start, None),
+            Command::DrawIndexed(count, start, base) => (*count, *start, Some(*base)),
+            _ => return None,
+        };
+        Some(DrawCall { count, start, base })
+    }
 
     /// The draw as a command.
     fn command<A: Allocator>(self) -> Command<A>
@@ -100,7 +99,7 @@ impl ListDraw {
 }
 
 impl<A: Allocator + Copy> OpenSegment<A> {
-    ghost use Rattle.std.specs.Prelude.{◌≡◌, ◌<◌, ◌≤◌, ◌∷◌, ◌++◌, [], List, Some, OnOk, IfOk, IfSome};
+    ghost use Rattle.std.specs.Prelude.{◌≡◌, ◌<◌, ◌≤◌, ◌∷◌, ◌++◌, [], List, Some, OnOk, IfOk, IsTrue};
     ghost use Rattle.gfxspec.specs.declared.state.Topology.TheVariants.{TriangleList};
     ghost use Rattle.gfxspec.specs.Commands.{Command as Call};
     ghost use Rattle.gfxspec.specs.Recorded.{settings_after};
@@ -118,7 +117,22 @@ impl<A: Allocator + Copy> OpenSegment<A> {
         }
     }
 
-    /// One more command.
+    /// No fewer triangles than a draw has under the settings behind the segment.
+    fn most_triangles(&self, draw: DrawCall) -> u32 {
+        match self.settings.topology {
+            Some(topology) => uncut_triangles(topology, draw.count),
+            None => 0,
+        }
+    }
+
+    /// Whether each three vertices of a draw are a triangle of their own, so that it can be cut.
+    fn draws_lists(&self) -> bool
+        ensures { IsTrue result → (settings_after self.now).topology ≡ Some TriangleList }
+    {
+        matches!(self.settings.topology, Some(Topology::TriangleList))
+    }
+
+    /// One more command that is no draw.
     fn push(self, command: Command<A>) -> Result<Self, AllocError>
         requires follows { CanFollow (settings_after self) (command_value command) }
         ensures { (finished : List (List Call)) → IfOk result (λ s. IsMore (command_value command) finished self finished s) }
@@ -130,13 +144,32 @@ impl<A: Allocator + Copy> OpenSegment<A> {
         } = self;
         let mut commands = commands;
         let mut settings = settings;
-        let drawn = drawn.saturating_add(most_triangles(&settings, &command));
         settings.change(&command)?;
         commands.push(command)?;
         Ok(OpenSegment {
             commands,
             settings,
             drawn,
+        })
+    }
+
+    /// One more draw, which changes no setting.
+    fn push_draw(self, draw: DrawCall) -> Result<Self, AllocError>
+        requires follows { CanFollow (settings_after self) (draw_of draw.base draw.count draw.start) }
+        ensures { (finished : List (List Call)) → IfOk result (λ s. IsMore (draw_of draw.base draw.count draw.start) finished self finished s) }
+    {
+        let more = self.most_triangles(draw);
+        let OpenSegment {
+            commands,
+            settings,
+            drawn,
+        } = self;
+        let mut commands = commands;
+        commands.push(draw.command())?;
+        Ok(OpenSegment {
+            commands,
+            settings,
+            drawn: drawn.saturating_add(more),
         })
     }
 
@@ -160,18 +193,17 @@ impl<A: Allocator + Copy> OpenSegment<A> {
         })
     }
 
-    /// The segment is finished where it has drawn so many triangles and the command draws more.
+    /// The segment is finished where it has drawn so many triangles and the draw has more.
     fn finish_where_full(
         self,
         alloc: A,
-        command: &Command<A>,
+        draw: DrawCall,
         triangles: u32,
         segments: &mut Vec<Segment<A>, A>,
     ) -> Result<Self, AllocError>
         ensures { IfOk result (λ s. IsSame segments.old.items self segments.new.items s) }
     {
-        let more = most_triangles(&self.settings, command);
-        if more == 0 || self.drawn < triangles {
+        if self.most_triangles(draw) == 0 || self.drawn < triangles {
             return Ok(self);
         }
         self.finish(alloc, segments)
@@ -188,21 +220,6 @@ impl<A: Allocator + Copy> OpenSegment<A> {
         Ok(())
     }
 
-    /// The draw that a command is, where each three of its vertices are a triangle of their own.
-    fn list_draw(&self, command: &Command<A>) -> Option<ListDraw>
-        ensures { IfSome result (λ d. (command_value command.now ≡ draw_of d.base d.count d.start) × ((settings_after self.now).topology ≡ Some TriangleList)) }
-    {
-        let Some(Topology::TriangleList) = self.settings.topology else {
-            return None;
-        };
-        let (count, start, base) = match command {
-            Command::Draw(count, start) => (*count, *start, None),
-            Command::DrawIndexed(count, start, base) => (*count, *start, Some(*base)),
-            _ => return None,
-        };
-        Some(ListDraw { count, start, base })
-    }
-
     /// How many more triangles the segment may draw of so many, but no fewer than one and no more than a list has.
     fn room(&self, triangles: u32) -> u32
         ensures some { 0 < result }
@@ -215,7 +232,7 @@ impl<A: Allocator + Copy> OpenSegment<A> {
     fn add_parts(
         self,
         alloc: A,
-        draw: ListDraw,
+        draw: DrawCall,
         triangles: u32,
         segments: &mut Vec<Segment<A>, A>,
     ) -> Result<Self, AllocError>
@@ -230,21 +247,39 @@ impl<A: Allocator + Copy> OpenSegment<A> {
         let mut room = opened.room(triangles);
         while room < count / 3 {
             let part = 3 * room;
-            let first = ListDraw {
+            let first = DrawCall {
                 count: part,
                 start,
                 base,
             };
-            let full = opened.push(first.command())?;
+            let full = opened.push_draw(first)?;
             opened = full.finish(alloc, segments)?;
             count -= part;
             start += part;
             room = opened.room(triangles);
         }
-        opened.push(ListDraw { count, start, base }.command())
+        opened.push_draw(DrawCall { count, start, base })
     }
 
-    /// The next command of a list, behind a cut where the segment is full.
+    /// The next draw of a list, behind a cut where the segment is full.
+    fn add_draw(
+        self,
+        alloc: A,
+        draw: DrawCall,
+        triangles: u32,
+        segments: &mut Vec<Segment<A>, A>,
+    ) -> Result<Self, AllocError>
+        requires follows { CanFollow (settings_after self) (draw_of draw.base draw.count draw.start) }
+        ensures { IfOk result (λ s. IsMore (draw_of draw.base draw.count draw.start) segments.old.items self segments.new.items s) }
+    {
+        let roomy = self.finish_where_full(alloc, draw, triangles, segments)?;
+        if roomy.draws_lists() {
+            return roomy.add_parts(alloc, draw, triangles, segments);
+        }
+        roomy.push_draw(draw)
+    }
+
+    /// The next command of a list.
     fn add(
         self,
         alloc: A,
@@ -255,10 +290,9 @@ impl<A: Allocator + Copy> OpenSegment<A> {
         requires follows { CanFollow (settings_after self) (command_value command.now) }
         ensures { IfOk result (λ s. IsMore (command_value command.now) segments.old.items self segments.new.items s) }
     {
-        let roomy = self.finish_where_full(alloc, command, triangles, segments)?;
-        match roomy.list_draw(command) {
-            Some(draw) => roomy.add_parts(alloc, draw, triangles, segments),
-            None => roomy.push(command.share(alloc)?),
+        match DrawCall::of(command) {
+            Some(draw) => self.add_draw(alloc, draw, triangles, segments),
+            None => self.push(command.share(alloc)?),
         }
     }
 }

@@ -1,6 +1,6 @@
 -- One more command in a recorder.
-use Rattle.std.proofs.Common.{◌≡◌, ◌≢◌, ◌∙◌, ap, sym, subst, refl, inl, ℕ, ◌+◌, ◌<◌, ◌≤◌, arith, Bool, true, false, cond, List, [], ◌∷◌, ◌++◌, length, map, replicate}
-use Rattle.std.specs.Prelude.{ℤ, Option, Some, None, option_map, filter_map, Result, Ok, Err, IfErr, OnErr, nat_lt, nat_le, ◌==◌, ◌||◌, slice_index_or, slice_set}
+use Rattle.std.proofs.Common.{◌≡◌, ◌≢◌, ◌∙◌, ap, sym, subst, refl, ℕ, ◌+◌, ◌<◌, ◌≤◌, arith, Bool, true, false, cond, List, [], ◌∷◌, ◌++◌, length, map, replicate}
+use Rattle.std.specs.Prelude.{ℤ, Option, Some, None, option_map, filter_map, nat_lt, nat_le, ◌==◌, ◌||◌, slice_index_or, slice_set}
 use Rattle.std.specs.List.{cons_option}
 use Rattle.std.proofs.Math.Bool.{or-false, or-true}
 use Rattle.std.proofs.lemmas.List.{length_push, length-append, length-set, length-replicate, map-append, get_or_past, get_or-replicate, get_or-set_same, get_or-set_other}
@@ -9,11 +9,11 @@ use Rattle.std.proofs.lemmas.List.Elements.{filter_map-append}
 use Rattle.std.proofs.lemmas.Bool.Decides.{nat_tests}
 use Rattle.gfxspec.specs.declared.TheConstants.{LIST_LIMIT, QUERY_LIMIT}
 use Rattle.gfxspec.specs.Assembly.{draw_indexed_primitives}
-use Rattle.gfxspec.specs.Commands.{Command, SetPredication, DrawIndexed, Begin, Kept}
-use Rattle.gfxspec.specs.Recorded.{settings_after, issues, query_begun, query_named, queries_named, queries_open, triangle_count}
+use Rattle.gfxspec.specs.Commands.{Command, SetPredication, Draw, DrawIndexed, ClearColor, ClearDepthStencil, Begin, Kept}
+use Rattle.gfxspec.specs.Recorded.{settings_after, issues, query_begun, query_named, queries_named, queries_open, triangle_count, is_drawing}
 use Rattle.gfxspec.specs.declared.error.GfxError.{GfxError}
 use Rattle.gfxspec.specs.State.{Settings as PlainSettings}
-use Rattle.gfxspec.specs.Refusals.{Row, AnswersBy, first_row, list_rows, too_long, is_among, is_bad_predicate}
+use Rattle.gfxspec.specs.Refusals.{Row, first_row, list_rows, too_long, is_among, is_bad_predicate}
 use Rattle.gfxspec.specs.Accepted.{AreSound, IsAccepted, AreAccepted}
 use Rattle.meaning.specs.OneMore.{settings_with, queries_with}
 use Rattle.meaning.proofs.Nearest.{settings_after-push}
@@ -30,11 +30,6 @@ use Rattle.cmdlist.specs.declared.context.DeferredContext.TheInside.{Inside}
 accepted : (cs : List Command) (k : Command) → is_call k ≡ true → first_row (list_rows cs k) ≡ None → IsAccepted cs k
 accepted cs (Kept s) h e = absurd cc
 accepted cs k h e = e
-
--- what is refused by its rows is answered by them
-pub answered : (rows : List Row) (r : Result ℕ GfxError) → IfErr r (λ e. first_row rows ≡ Some e) → OnErr r (AnswersBy rows r)
-answered rows (Ok n) h = tt
-answered rows (Err e) h = inl h
 
 -- a call that isn't too long is refused by no row
 pub no_row : (cs : List Command) (k : Command) (triangles : ℕ) → OnlyLength cs k triangles → (too_long cs triangles).1 ≡ false → first_row (list_rows cs k) ≡ None
@@ -192,6 +187,34 @@ open_room c k triangles r only fits begins =
     let one : cond {A = ℕ} (is_begin k) 1 0 ≡ 1 = ap (λ b. cond {A = ℕ} b 1 0) begins in
     omega (arith, open_few (commands_of c), ap length r.opened, few, one)
 
+-- what a draw or a clear leaves as it is
+pub record Keeps (k : Command) : Type 0 where
+  pub settings : (s : PlainSettings) → settings_with k s ≡ s
+  pub opened : (qs : List ℕ) → queries_with k qs ≡ qs
+  pub begins : is_begin k ≡ false
+  pub begun : query_begun k ≡ None
+  pub named : query_named k ≡ None
+
+pub keeps : (k : Command) → is_drawing k ≡ true → Keeps k
+keeps (Draw count start) h = record { settings = λ s. refl; opened = λ qs. refl; begins = refl; begun = refl; named = refl }
+keeps (DrawIndexed count start base) h = record { settings = λ s. refl; opened = λ qs. refl; begins = refl; begun = refl; named = refl }
+keeps (ClearColor rgba) h = record { settings = λ s. refl; opened = λ qs. refl; begins = refl; begun = refl; named = refl }
+keeps (ClearDepthStencil depth stencil) h = record { settings = λ s. refl; opened = λ qs. refl; begins = refl; begun = refl; named = refl }
+keeps k h = absurd cc
+
+-- a draw or a clear is recorded
+pub drawing_recorded : {A : Type 0} (c d : Inside A) (k : Command) (triangles : ℕ) → is_drawing k ≡ true → IsRecorded c → OnlyLength (commands_of c) k triangles → (too_long (commands_of c) triangles).1 ≡ false → commands_of d ≡ commands_of c ++ k ∷ [] → d.settings ≡ c.settings → d.triangles ≡ c.triangles + triangles → d.queries ≡ c.queries → IsRecorded d
+drawing_recorded c d k triangles drawing r only fits commands settings drawn queries =
+    let keep = keeps k drawing in
+    let none : cond {A = ℕ} (is_begin k) 1 0 ≡ 0 = ap (λ b. cond {A = ℕ} b 1 0) keep.begins in
+    recorded c d k triangles r only fits commands
+    (ap settings_value settings ∙ sym (keep.settings (settings_value c.settings)))
+    drawn
+    (omega (arith, ap (λ q. q.issues) queries, none))
+    (ap (λ q. q.opened.items) queries ∙ sym (keep.opened c.queries.opened.items))
+    (ap (λ q. q.begun) queries ∙ ap (marked_by c.queries.begun) (sym keep.begun))
+    (ap (λ q. q.named) queries ∙ ap (marked_by c.queries.named) (sym keep.named))
+
 -- a push, as the definitions have the commands
 pub pushed : {A : Type 0} (old new : List (Code A)) (k : Code A) → new ≡ old ++ k ∷ [] → map command_value new ≡ map command_value old ++ command_value k ∷ []
 pushed old new k h = ap (map command_value) h ∙ map-append command_value old (k ∷ [])
@@ -214,7 +237,3 @@ pub refused_draw : {A : Type 0} (c : Inside A) (cs : List Command) (s : PlainSet
 refused_draw c cs s count start base e r same is h =
     first_row-more (draw_indexed_rows (settings_after cs) count start base) (too_long cs (length (draw_indexed_primitives (settings_after cs) count start base)) ∷ []) e
     (subst (λ x. first_row (draw_indexed_rows x count start base) ≡ Some e) (is ∙ r.settings ∙ ap settings_after same) h)
-
-pub refused_draws : {A : Type 0} (c : Inside A) (cs : List Command) (s : PlainSettings) (count start : ℕ) (base : ℤ) (r : Result ℕ GfxError) → IsRecorded c → commands_of c ≡ cs → s ≡ settings_value c.settings → IfErr r (λ e. first_row (draw_indexed_rows s count start base) ≡ Some e) → IfErr r (λ e. first_row (list_rows cs (DrawIndexed count start base)) ≡ Some e)
-refused_draws c cs s count start base (Ok n) h same is refused = refused
-refused_draws c cs s count start base (Err e) h same is refused = refused_draw c cs s count start base e h same is refused

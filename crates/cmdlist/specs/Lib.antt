@@ -1,4 +1,3 @@
-pub mod Calls
 pub mod Recorder
 pub mod DrawRows
 pub mod Drawable

@@ -5,16 +5,15 @@ ghost use Rattle.std.specs.List.{list_all};
 ghost use Rattle.gfxspec.specs.Refusals.{is_in_range};
 ghost use Rattle.gfxspec.specs.declared.error.GfxError.TheVariants.{ListTooLong};
 ghost use Rattle.gfxspec.specs.Commands.{Kept, SetVertices, SetIndices};
-ghost use Rattle.gfxspec.specs.Recorded.{issues, query_begun, query_named, queries_named, queries_open, after_finish};
+ghost use Rattle.gfxspec.specs.Recorded.{issues, query_begun, query_named, queries_named, queries_open, after_finish, is_drawing};
 ghost use Rattle.gfxspec.specs.Refusals.{AnswersBy, first_row, list_rows, finish_rows, some_open, is_among, is_bad_scissor, is_bad_predicate, is_begun_predicate, too_long};
 ghost use Rattle.gfxspec.specs.Accepted.{AreAccepted, AreSound};
 ghost use Rattle.command.specs.Seen.{command_value, settings_value};
 
-use crate::device_context::DeviceContext;
 use crate::drawing::{drawn_indexed_triangles, drawn_triangles};
 use crate::list::{CommandList, Commands};
 use crate::queries::{Queries, is_marked};
-use command::{Buffer, Command, Settings};
+use command::{Buffer, Command, DeviceContext, Settings};
 use gfxspec::{
     BUFFER_LIMIT, COORDINATE_LIMIT, DEPTH_MAX, GfxError, ISSUE_LIMIT, LIST_LIMIT, PixelRect,
     QUERY_LIMIT, SIDE_LIMIT, Vertex,
@@ -164,33 +163,21 @@ impl<A: Allocator + Copy> DeferredContext<A> {
         Ok(())
     }
 
-    /// Looks at each row of a command but that on the length of the list, and counts the triangles that it draws.
-    fn examine_but_length(&self, command: &Command<A>) -> Result<u32, GfxError>
-        ensures ok { IfOk result (λ triangles. OnlyLength self.now (command_value command.now) triangles) }
+    /// Looks at each row of a command but that on the length of the list.
+    fn examine_but_length(&self, command: &Command<A>) -> Result<(), GfxError>
+        requires { is_drawing (command_value command.now) ≡ false }
+        ensures ok { OnOk result (OnlyLength self.now (command_value command.now) 0) }
         ensures err { OnErr result (AnswersBy (list_rows self.now (command_value command.now)) result) }
     {
         match command {
-            Command::SetVertices(vertices) => {
-                self.examine_vertices(vertices.as_slice())?;
-                Ok(0)
-            }
-            Command::SetIndices(indices) => {
-                self.examine_indices(indices.as_slice())?;
-                Ok(0)
-            }
+            Command::SetVertices(vertices) => self.examine_vertices(vertices.as_slice()),
+            Command::SetIndices(indices) => self.examine_indices(indices.as_slice()),
             Command::SetScissor(scissor) if is_scissor_bad(*scissor) => Err(GfxError::ScissorRect),
             Command::SetPredication(predicate) if is_predicate_bad(*predicate) => {
                 Err(GfxError::QueryNumber)
             }
             Command::SetPredication(predicate) if self.is_predicate_begun(*predicate) => {
                 Err(GfxError::PredicateInList)
-            }
-            Command::Draw(count, start) => drawn_triangles(&self.settings.state(), *count, *start),
-            Command::DrawIndexed(count, start, base) => {
-                drawn_indexed_triangles(&self.settings.state(), *count, *start, *base)
-            }
-            Command::ClearDepthStencil(depth, _) if *depth > DEPTH_MAX => {
-                Err(GfxError::VertexRange)
             }
             Command::Begin(query) if *query >= QUERY_LIMIT => Err(GfxError::QueryNumber),
             Command::Begin(query) if self.is_open(*query) => Err(GfxError::QueryOpen),
@@ -199,7 +186,7 @@ impl<A: Allocator + Copy> DeferredContext<A> {
             Command::End(query) if *query >= QUERY_LIMIT => Err(GfxError::QueryNumber),
             Command::End(query) if !self.is_open(*query) => Err(GfxError::QueryNotOpen),
             Command::Kept(_) => Err(GfxError::OutOfMemory),
-            _ => Ok(0),
+            _ => Ok(()),
         }
     }
 
@@ -214,30 +201,43 @@ impl<A: Allocator + Copy> DeferredContext<A> {
         Ok(())
     }
 
-    /// Looks at each row of a command, and counts the triangles that it draws.
-    fn examine(&self, command: &Command<A>) -> Result<u32, GfxError>
+    /// Looks at each row of a command that neither draws nor clears.
+    fn examine(&self, command: &Command<A>) -> Result<(), GfxError>
+        requires { is_drawing (command_value command.now) ≡ false }
         ensures answer { AnswersBy (list_rows self.now (command_value command.now)) result }
-        ensures only { IfOk result (λ triangles. OnlyLength self.now (command_value command.now) triangles) }
-        ensures room { IfOk result (λ triangles. (too_long self.now triangles).1 ≡ false) }
+        ensures only { OnOk result (OnlyLength self.now (command_value command.now) 0) }
+        ensures room { OnOk result ((too_long self.now 0).1 ≡ false) }
     {
-        let triangles = self.examine_but_length(command)?;
-        self.examine_length(triangles)?;
-        Ok(triangles)
+        self.examine_but_length(command)?;
+        self.examine_length(0)
     }
 
-    /// Appends a command that no row refuses.
-    fn append(&mut self, command: Command<A>, triangles: u32) -> Result<(), GfxError>
-        requires only { OnlyLength self.old (command_value command) triangles }
-        requires room { (too_long self.old triangles).1 ≡ false }
+    /// Appends a command that no row refuses, and that draws no triangle.
+    fn append(&mut self, command: Command<A>) -> Result<(), GfxError>
+        requires only { OnlyLength self.old (command_value command) 0 }
+        requires room { (too_long self.old 0).1 ≡ false }
         ensures ok { OnOk result (self.new ≡ self.old ++ command_value command ∷ []) }
         ensures memory { IfErr result (λ e. e ≡ GfxError.OutOfMemory) }
         ensures err { OnErr result (self.new ≡ self.old) }
     {
         self.commands.try_reserve(1)?;
         self.settings.change(&command)?;
-        self.triangles += triangles;
         self.queries.note(&command);
         self.commands.push(command).unwrap();
+        Ok(())
+    }
+
+    /// Appends a draw or a clear, which changes no setting and no query. Refused with ListTooLong, OutOfMemory.
+    fn append_drawing(&mut self, command: Command<A>, triangles: u32) -> Result<(), GfxError>
+        requires drawing { is_drawing (command_value command) ≡ true }
+        requires only { OnlyLength self.old (command_value command) triangles }
+        ensures answer { AnswersBy (list_rows self.old (command_value command)) result }
+        ensures ok { OnOk result (self.new ≡ self.old ++ command_value command ∷ []) }
+        ensures err { OnErr result (self.new ≡ self.old) }
+    {
+        self.examine_length(triangles)?;
+        self.commands.push(command)?;
+        self.triangles += triangles;
         Ok(())
     }
 
@@ -338,23 +338,43 @@ impl<A: Allocator + Copy> DeviceContext for DeferredContext<A> {
     type Alloc = A;
 
     fn record(&mut self, command: &Command<A>) -> Result<(), GfxError> {
-        let triangles = self.examine(command)?;
-        let command = command.share(*self.commands.allocator())?;
-        self.append(command, triangles)
+        match command {
+            Command::Draw(count, start) => {
+                let triangles = drawn_triangles(&self.settings.state(), *count, *start)?;
+                self.append_drawing(Command::Draw(*count, *start), triangles)
+            }
+            Command::DrawIndexed(count, start, base) => {
+                let state = self.settings.state();
+                let triangles = drawn_indexed_triangles(&state, *count, *start, *base)?;
+                self.append_drawing(Command::DrawIndexed(*count, *start, *base), triangles)
+            }
+            Command::ClearColor(rgba) => self.append_drawing(Command::ClearColor(*rgba), 0),
+            Command::ClearDepthStencil(depth, _) if *depth > DEPTH_MAX => {
+                Err(GfxError::VertexRange)
+            }
+            Command::ClearDepthStencil(depth, stencil) => {
+                self.append_drawing(Command::ClearDepthStencil(*depth, *stencil), 0)
+            }
+            _ => {
+                self.examine(command)?;
+                let command = command.share(*self.commands.allocator())?;
+                self.append(command)
+            }
+        }
     }
 
     fn ia_set_vertices(&mut self, vertices: &[Vertex]) -> Result<(), GfxError> {
         self.examine_vertices(vertices)?;
         self.examine_length(0)?;
         let vertices = Buffer::from_slice(*self.commands.allocator(), vertices)?;
-        self.append(Command::SetVertices(vertices), 0)
+        self.append(Command::SetVertices(vertices))
     }
 
     fn ia_set_indices(&mut self, indices: &[u16]) -> Result<(), GfxError> {
         self.examine_indices(indices)?;
         self.examine_length(0)?;
         let indices = Buffer::from_slice(*self.commands.allocator(), indices)?;
-        self.append(Command::SetIndices(indices), 0)
+        self.append(Command::SetIndices(indices))
     }
 
     ghost appends = { λ commands c. refl };

@@ -9,7 +9,7 @@ ghost use Rattle.gfxspec.specs.Predication.{withholds};
 ghost use Rattle.meaning.specs.OneMore.{performed_items};
 ghost use Rattle.command.specs.Seen.{state_value, command_value};
 ghost use Rattle.cmdlist.specs.Drawable.{IsDrawable, drawn_by, told};
-ghost use Rattle.cmdlist.specs.Drawn.{drawing_items, Draws};
+ghost use Rattle.cmdlist.specs.Drawn.{drawing_items, Draws, IsOf};
 
 use crate::queries::is_marked;
 use assemble::Draw;
@@ -31,6 +31,7 @@ fn plain_draw<'a>(state: &State<'a>, count: u32, start: u32) -> Drawing<'a>
     requires { IsDrawable (state_value state.now) (DrawCall count start) }
     ensures items { (opened : List ℕ) → drawing_items (state_value state.now) opened result ≡ drawn_items (state_value state.now) opened (draw_primitives (state_value state.now) count start) }
     ensures draws { Draws (draw_primitives (state_value state.now) count start) result }
+    ensures command { IsOf (DrawCall count start) result }
 {
     let Some(topology) = state.topology else {
         return Drawing::Nothing;
@@ -50,6 +51,7 @@ fn indexed_draw<'a>(state: &State<'a>, count: u32, start: u32, base: i32) -> Dra
     requires { IsDrawable (state_value state.now) (IndexedCall count start base) }
     ensures items { (opened : List ℕ) → drawing_items (state_value state.now) opened result ≡ drawn_items (state_value state.now) opened (draw_indexed_primitives (state_value state.now) count start base) }
     ensures draws { Draws (draw_indexed_primitives (state_value state.now) count start base) result }
+    ensures command { IsOf (IndexedCall count start base) result }
 {
     let Some(topology) = state.topology else {
         return Drawing::Nothing;
@@ -83,6 +85,7 @@ pub fn drawing_of<'a, A: Allocator>(
     requires { IsDrawable (state_value state.now) (command_value command.now) }
     ensures items { (opened : List ℕ) → drawing_items (state_value state.now) opened result ≡ performed_items (told results.now) (state_value state.now) opened (command_value command.now) }
     ensures draws { Draws (drawn_by (state_value state.now) (command_value command.now)) result }
+    ensures command { IsOf (command_value command.now) result }
 {
     if is_withheld(results, state.predicate) {
         return Drawing::Nothing;

@@ -11,14 +11,12 @@
 #![tactic(auto)]
 
 mod context;
-mod device_context;
 mod drawing;
 mod draws;
 mod list;
 mod queries;
 
-pub use command::{Buffer, Command, Settings, State};
+pub use command::{Buffer, Command, DeviceContext, Settings, State};
 pub use context::DeferredContext;
-pub use device_context::DeviceContext;
 pub use draws::{Drawing, drawing_of};
 pub use list::{CommandList, Commands};

@@ -3,7 +3,7 @@ use Rattle.std.specs.Prelude.{ℕ, slice_index, ◌≡◌, ◌==◌, List, [], �
 use Rattle.gfxspec.specs.declared.error.GfxError.{GfxError}
 use Rattle.gfxspec.specs.declared.error.GfxError.TheVariants.{OutOfMemory, TargetSize, VertexRange, VertexCount, DrawRange, IndexRange, TopologyUnset, ScissorRect, QueryOpen, QueryNotOpen, QueryNumber, QueryLeftOpen, ListTooLong, TooManyIssues, PixelRange, WorkerCount, NotIssued, Unfinished, PortFull, PredicateInList}
 use Rattle.gfxspec.specs.Commands.{Command}
-use Rattle.cmdlist.specs.Calls.{RecordsCall}
+use Rattle.command.specs.Calls.{RecordsCall}
 use Rattle.gfxspec.specs.declared.pixel.Pixel.{Pixel}
 use Rattle.immediate.specs.Held.{Held, held_more}
 use Rattle.device_calls.specs.declared.devices.PixelTold.{PixelTold}

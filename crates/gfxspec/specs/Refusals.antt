@@ -11,7 +11,7 @@ use Rattle.gfxspec.specs.declared.state.Topology.{Topology}
 use Rattle.gfxspec.specs.declared.state.Topology.TheVariants.{TriangleList, TriangleStrip}
 use Rattle.gfxspec.specs.State.{Settings}
 use Rattle.gfxspec.specs.Assembly.{is_cut, part, draw_primitives, draw_indexed_primitives}
-use Rattle.gfxspec.specs.Commands.{Command, SetVertices, SetIndices, SetTopology, SetRaster, SetScissor, SetDepthStencil, SetBlend, SetPredication, Draw, DrawIndexed, ClearColor, ClearDepthStencil, Begin, End, Kept}
+use Rattle.gfxspec.specs.Commands.{Command, SetVertices, SetIndices, SetScissor, SetPredication, Draw, DrawIndexed, ClearDepthStencil, Begin, End, Kept}
 use Rattle.gfxspec.specs.Recorded.{settings_after, queries_open, queries_named, issues, triangle_count}
 
 -- a refusal, and whether it applies
@@ -68,16 +68,12 @@ abbrev pub too_long : List Command → ℕ → Row
 too_long list triangles =
     (ListTooLong, nat_lt LIST_LIMIT (length list + 1) || nat_lt LIST_LIMIT (triangle_count list + triangles))
 
--- a command behind those of a list, with these settings and open queries
+-- a command behind those of a list, with these settings and open queries; the kept state is no call
 abbrev pub command_rows : List Command → Settings → List ℕ → Command → List Row
 command_rows list s opened (SetVertices vertices) =
     (VertexCount, nat_lt BUFFER_LIMIT (length vertices)) ∷ (VertexRange, not (list_all is_in_range vertices)) ∷ too_long list 0 ∷ []
 command_rows list s opened (SetIndices indices) = (VertexCount, nat_lt BUFFER_LIMIT (length indices)) ∷ too_long list 0 ∷ []
-command_rows list s opened (SetTopology topology) = too_long list 0 ∷ []
-command_rows list s opened (SetRaster raster) = too_long list 0 ∷ []
 command_rows list s opened (SetScissor scissor) = (ScissorRect, is_bad_scissor scissor) ∷ too_long list 0 ∷ []
-command_rows list s opened (SetDepthStencil depth_stencil reference) = too_long list 0 ∷ []
-command_rows list s opened (SetBlend blend) = too_long list 0 ∷ []
 command_rows list s opened (SetPredication predicate) =
     (QueryNumber, is_bad_predicate predicate) ∷ (PredicateInList, is_begun_predicate list predicate) ∷ too_long list 0 ∷ []
 command_rows list s opened (Draw count start) =
@@ -87,7 +83,6 @@ command_rows list s opened (DrawIndexed count start base) =
     (TopologyUnset, is_none s.topology) ∷ (DrawRange, nat_lt (length s.indices) (start + count))
     ∷ (IndexRange, not (are_used_well s base (part count start s.indices)))
     ∷ too_long list (length (draw_indexed_primitives s count start base)) ∷ []
-command_rows list s opened (ClearColor rgba) = too_long list 0 ∷ []
 command_rows list s opened (ClearDepthStencil depth stencil) = (VertexRange, nat_lt DEPTH_MAX depth) ∷ too_long list 0 ∷ []
 command_rows list s opened (Begin query) =
     (QueryNumber, nat_le QUERY_LIMIT query) ∷ (QueryOpen, is_among query opened)
@@ -95,6 +90,7 @@ command_rows list s opened (Begin query) =
 command_rows list s opened (End query) =
     (QueryNumber, nat_le QUERY_LIMIT query) ∷ (QueryNotOpen, not (is_among query opened)) ∷ too_long list 0 ∷ []
 command_rows list s opened (Kept settings) = []
+command_rows list s opened c = too_long list 0 ∷ []
 
 -- a command behind those of a list of its own
 abbrev pub list_rows : List Command → Command → List Row

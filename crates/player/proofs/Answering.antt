@@ -9,9 +9,9 @@ use Rattle.gfxspec.specs.Commands.{Command}
 use Rattle.gfxspec.specs.Recorded.{queries_open}
 use Rattle.gfxspec.specs.Refusals.{AnswersBy, flush_rows, pixel_rows, query_rows}
 use Rattle.gfxspec.specs.Accepted.{AreAccepted}
-use Rattle.cmdlist.specs.Calls.{RecordsCall}
+use Rattle.command.specs.Calls.{RecordsCall}
 use Rattle.scenetext.specs.Scene.{Immediate, Deferred, Verb, Call, Finish, Flush, Execute, Query, Pixel}
-use Rattle.scenetext.specs.Spelling.{may_take}
+use Rattle.scenetext.specs.Commands.{may_take}
 use Rattle.immediate.specs.Held.{Held, held_more, shown, answered, Runs, Enqueues, IsRefused}
 use Rattle.recorders.specs.Recording.{Recording, nothing_recorded, with_verb, deferred_rows}
 use Rattle.answers.specs.declared.line.Answer.{Answer}

@@ -2,7 +2,7 @@
 
 ghost use Rattle.std.specs.Prelude.{◌≡◌, length, true};
 ghost use Rattle.scenetext.specs.Seen.{verb_value};
-ghost use Rattle.scenetext.specs.Spelling.{IsVerb, may_take};
+ghost use Rattle.scenetext.specs.Commands.{IsVerb, may_take};
 ghost use Rattle.scenetext.specs.Reading.{HasCounted};
 ghost use Rattle.player.specs.Lines.{deferred_of, finished_by};
 ghost use Rattle.player.specs.Answered.{untold, count_told, pixel_told, ImmediateAnswers};

@@ -2,7 +2,8 @@
 
 ghost use Rattle.std.specs.Prelude.{◌≡◌, ◌<◌, length, replicate, true, option_to_list, IfOk, IfErr, OnErr};
 ghost use Rattle.scenetext.specs.Seen.{actor_value, verb_value, line_value};
-ghost use Rattle.scenetext.specs.Spelling.{IsActor, IsVerb, may_take, is_immediate_actor};
+ghost use Rattle.scenetext.specs.Commands.{IsVerb, may_take};
+ghost use Rattle.scenetext.specs.Spelling.{IsActor, is_immediate_actor};
 ghost use Rattle.scenetext.specs.Reading.{HasCounted};
 ghost use Rattle.recorders.specs.Recording.{nothing_recorded};
 ghost use Rattle.player.specs.Lines.{deferred_of, contexts_of, finished_by, PlaysLine, RefusesLine, IsLeft};

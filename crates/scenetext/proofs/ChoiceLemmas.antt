@@ -14,7 +14,7 @@ use Rattle.gfxspec.specs.declared.state.LogicOp.TheVariants as logics
 use Rattle.gfxspec.specs.Numbers.{cull_number, topology_number, compare_number, stencil_op_number, logic_op_number}
 use Rattle.scenetext.specs.declared.range.Range.{Range}
 use Rattle.scenetext.specs.declared.range.TheConstants.{FLAG, CULL, TOPOLOGY, COMPARISON, STENCIL_OP, LOGIC_OP}
-use Rattle.scenetext.specs.Spelling.{flag_number}
+use Rattle.scenetext.specs.Commands.{flag_number}
 use Rattle.scenetext.specs.Ranges.{IsIn}
 
 -- a number is out of range where no choice has it

@@ -8,11 +8,10 @@ use Rattle.std.proofs.lemmas.List.{length-append, length-map}
 use Rattle.std.proofs.lemmas.Bool.{eqb-true}
 use Rattle.gfxspec.specs.declared.geometry.Vertex.{Vertex}
 use Rattle.scenetext.specs.declared.range.Range.{Range}
-use Rattle.scenetext.specs.declared.command_word.CommandWord.TheVariants as words
+use Rattle.scenetext.specs.declared.verbs.CommandWord.TheVariants as words
 use Rattle.scenetext.specs.declared.range.TheConstants.{U32, BYTE, INDEX}
 use Rattle.scenetext.specs.Numbers.{Kind, fits_kind, fit, i32s}
-use Rattle.scenetext.specs.Commands.{vertex_kinds, Groups, ranges, shape, kinds_of}
-use Rattle.scenetext.specs.Spelling.{vertex_words, IsVertex}
+use Rattle.scenetext.specs.Commands.{vertex_kinds, Groups, ranges, shape, kinds_of, vertex_words, IsVertex}
 use Rattle.scenetext.specs.Ranges.{kind_of, kinds, AreIn}
 use Rattle.scenetext.proofs.TextLemmas.{IsWordText, and_left, and_right}
 use Rattle.scenetext.proofs.NumberLemmas.{IsWordText-signed_decimal, integer_fits, small_signed, value-signed_decimal, value, number, value-decimal, natural_between, integer_is}

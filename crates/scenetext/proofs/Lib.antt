@@ -2,7 +2,6 @@ pub mod TextLemmas
 pub mod NumberLemmas
 pub mod RangeLemmas
 pub mod ChoiceLemmas
-pub mod MadeLemmas
 pub mod GroupLemmas
 pub mod VerbLemmas
 pub mod SceneLemmas

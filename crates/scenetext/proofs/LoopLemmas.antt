@@ -15,7 +15,8 @@ use Rattle.scenetext.specs.Scene.{Actor, Immediate, Deferred, Verb, Execute, Lin
 use Rattle.scenetext.specs.declared.scene.Line as code_line
 use Rattle.scenetext.specs.Seen.{line_value}
 use Rattle.scenetext.specs.Text.{TextLine, before_lines, lines_of, line_text}
-use Rattle.scenetext.specs.Spelling.{is_finish, is_deferred, finishes_list, line_words, size_words, IsVerb, HasList, IsLine, AreLines, IsTarget, Spells}
+use Rattle.scenetext.specs.Commands.{IsVerb}
+use Rattle.scenetext.specs.Spelling.{is_finish, is_deferred, finishes_list, line_words, size_words, HasList, IsLine, AreLines, IsTarget, Spells}
 use Rattle.scenetext.specs.Faults.{number_of_fault, found_in, line_fault, first_fault, fault_of_lines, fault_of, last_read}
 use Rattle.scenetext.specs.Reading.{Counts, HasCounted, HasRoom, ReadsLine, line_record, CutsLine, ReadsSize, number_of_error, counted_for, counted_by, ReadsFirst, RefusesText, ReadsNext, RefusesNext, Refused}
 use Rattle.scenetext.proofs.TextLemmas.{line_bytes, text_from-lines_of, join-words_of}

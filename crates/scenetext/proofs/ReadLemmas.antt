@@ -12,13 +12,13 @@ use Rattle.gfxspec.specs.DepthStencil.{FaceSetting}
 use Rattle.scenetext.specs.declared.fault.Fault.TheVariants as faults
 use Rattle.scenetext.specs.declared.fault.ReadError.{ReadError}
 use Rattle.scenetext.specs.declared.fault.ReadError.TheVariants as errors
-use Rattle.scenetext.specs.declared.command_word.CommandWord.{CommandWord}
-use Rattle.scenetext.specs.declared.command_word.CommandWord.TheVariants as words
+use Rattle.scenetext.specs.declared.verbs.CommandWord.{CommandWord}
+use Rattle.scenetext.specs.declared.verbs.CommandWord.TheVariants as words
 use Rattle.scenetext.specs.Scene.{Actor, Verb, Execute}
 use Rattle.scenetext.specs.Text.{TextLine, words_of}
 use Rattle.scenetext.specs.Numbers.{Kind, NonZero, context_word, fits_kind, fit}
-use Rattle.scenetext.specs.Commands.{vertex_kinds, face_ranges, ranges, shape, name, serves, kinds_of}
-use Rattle.scenetext.specs.Spelling.{face_numbers, vertex_words, verb_words, IsVertex, IsVerb, actor_word, is_immediate_actor}
+use Rattle.scenetext.specs.Commands.{vertex_kinds, face_ranges, ranges, shape, name, serves, kinds_of, face_numbers, vertex_words, verb_words, IsVertex, IsVerb}
+use Rattle.scenetext.specs.Spelling.{actor_word, is_immediate_actor}
 use Rattle.scenetext.specs.Faults.{word, or_fault, unless, finishes, has_list, later_line_fault}
 use Rattle.scenetext.specs.declared.range.TheConstants.{INDEX}
 use Rattle.scenetext.specs.Ranges.{kind_of, kinds, AreIn}

@@ -9,13 +9,13 @@ use Rattle.std.proofs.lemmas.Fmt.{digits_value-decimal}
 use Rattle.gfxspec.specs.declared.geometry.Size.{Size}
 use Rattle.scenetext.specs.declared.fault.Fault.{Fault}
 use Rattle.scenetext.specs.declared.fault.Fault.TheVariants as faults
-use Rattle.scenetext.specs.declared.command_word.CommandWord.{CommandWord}
-use Rattle.scenetext.specs.declared.command_word.CommandWord.TheVariants.{Vb}
+use Rattle.scenetext.specs.declared.verbs.CommandWord.{CommandWord}
+use Rattle.scenetext.specs.declared.verbs.CommandWord.TheVariants.{Vb}
 use Rattle.scenetext.specs.Scene.{Actor, Immediate, Deferred, Verb, Execute, Line, Scene}
 use Rattle.scenetext.specs.Text.{TextLine, lines_of, words_of, has_form, line_text, is_printable, is_word}
 use Rattle.scenetext.specs.Numbers.{context_word, fit, is_context}
-use Rattle.scenetext.specs.Commands.{OneOf, name, serves, shape, kinds_of, is_named, commands, command_named}
-use Rattle.scenetext.specs.Spelling.{actor_word, is_immediate_actor, verb_words, may_take, line_words, size_words, IsVerb, IsActor, finishes_list, HasList, IsLine, AreLines, IsTarget, Spells}
+use Rattle.scenetext.specs.Commands.{OneOf, name, serves, shape, kinds_of, is_named, commands, command_named, verb_words, may_take, IsVerb}
+use Rattle.scenetext.specs.Spelling.{actor_word, is_immediate_actor, line_words, size_words, IsActor, finishes_list, HasList, IsLine, AreLines, IsTarget, Spells}
 use Rattle.scenetext.specs.Faults.{number_of_fault, word, unless, or_fault, found_in, is_immediate, finishes, has_list, arguments_fault, first_line_fault, later_line_fault, line_fault, first_fault, fault_of_lines, fault_of, HasFault}
 use Rattle.scenetext.specs.Ranges.{kinds, AreIn}
 use Rattle.scenetext.proofs.TextLemmas.{IsWordText, and_left, and_right, line_bytes, text_from-lines_of, join-words_of, joined_words}

@@ -11,8 +11,8 @@ use Rattle.gfxspec.specs.Commands as gfx
 use Rattle.scenetext.specs.Scene.{Actor, Immediate, Deferred, Verb, Call, Execute, Line, Scene}
 use Rattle.scenetext.specs.Text.{TextLine, lines_of, words_of, line_text}
 use Rattle.scenetext.specs.Numbers.{context_word, is_context}
-use Rattle.scenetext.specs.Commands.{name, serves}
-use Rattle.scenetext.specs.Spelling.{actor_word, is_immediate_actor, verb_words, may_take, line_words, size_words, text_of, IsVerb, IsActor, is_finish, is_deferred, finishes_list, HasList, IsLine, AreLines, IsTarget, IsScene, Spells}
+use Rattle.scenetext.specs.Commands.{name, serves, verb_words, may_take, IsVerb}
+use Rattle.scenetext.specs.Spelling.{actor_word, is_immediate_actor, line_words, size_words, text_of, IsActor, is_finish, is_deferred, finishes_list, HasList, IsLine, AreLines, IsTarget, IsScene, Spells}
 use Rattle.scenetext.specs.declared.fault.Fault.TheVariants as faults
 use Rattle.scenetext.specs.Faults.{word, unless, found_in, fault_of_lines, is_immediate, finishes, has_list, first_line_fault, later_line_fault, line_fault, first_fault, fault_of}
 use Rattle.scenetext.proofs.TextLemmas.{IsWordText, joined_words, has_form-joined, lines_of-line}

@@ -1,54 +1,213 @@
 -- Verbs and their words: the words are what the table of commands wants, and what it lets through are words of a verb.
-use Rattle.std.proofs.Common.{◌≡◌, ◌≢◌, ℕ, ℤ, pos, negsuc, zero, suc, ◌+◌, ◌-◌, ◌*◌, ◌/◌, ◌<◌, Bool, true, false, cond, not, eqb, eq-eqb, List, [], ◌∷◌, ◌++◌, length, map, replicate, Some, None, refl, sym, ap, subst, ◌∙◌, arith}
-use Rattle.std.specs.Prelude.{decimal, codes, FitsSigned, Option}
+use Rattle.std.proofs.Common.{◌≡◌, ◌≢◌, ℕ, ℤ, pos, negsuc, zero, suc, ◌+◌, ◌-◌, ◌*◌, ◌/◌, ◌<◌, Bool, true, false, cond, not, eqb, eq-eqb, List, [], ◌∷◌, ◌++◌, length, map, replicate, Some, None, refl, sym, ap, subst, ◌∙◌, arith, get_or}
+use Rattle.std.specs.Prelude.{decimal, codes, FitsSigned, Option, Some, None}
 use Rattle.std.specs.List.{list_all, AllByRecursion, flat_map}
 use Rattle.std.specs.Int.{w32}
 use Rattle.std.specs.Fmt.{signed_decimal}
 use Rattle.std.proofs.lemmas.List.{length-map, length-replicate}
 use Rattle.std.proofs.lemmas.Bool.{eqb-true}
 use Rattle.std.proofs.lemmas.Bool.Decides.{nat_tests}
-use Rattle.gfxspec.specs.Numbers.{cull_number, topology_number}
+use Rattle.gfxspec.specs.Numbers.{cull_number, topology_number, compare_number}
 use Rattle.gfxspec.specs.State.{RasterSetting}
 use Rattle.gfxspec.specs.Commands as gfx
 use Rattle.scenetext.specs.declared.range.Range.{Range}
 use Rattle.scenetext.specs.declared.range.TheConstants.{U32, FLAG}
-use Rattle.scenetext.specs.declared.command_word.CommandWord.{CommandWord}
-use Rattle.scenetext.specs.declared.command_word.CommandWord.TheVariants as words
+use Rattle.scenetext.specs.declared.verbs.CommandWord.{CommandWord}
+use Rattle.scenetext.specs.declared.verbs.CommandWord.TheVariants as words
 use Rattle.scenetext.specs.Scene.{Verb, Call, Finish, Flush, Execute, Query, Pixel}
 use Rattle.scenetext.specs.Text.{is_printable, is_word}
 use Rattle.scenetext.specs.Numbers.{context_word, Kind, NonZero, Context, is_context, fits_kind, fit, i32s}
-use Rattle.scenetext.specs.Commands.{vertex_kinds, OneOf, name, serves, ranges, shape, kinds_of, command_named}
-use Rattle.scenetext.specs.Spelling.{flag_number, raster_numbers, bias_words, rect_numbers, depth_stencil_numbers, blend_numbers, vertex_words, verb_words, may_take, IsPredicate, IsVerb}
+use Rattle.scenetext.specs.Commands.{vertex_kinds, OneOf, name, serves, ranges, shape, kinds_of, command_named, flag_number, raster_numbers, bias_words, rect_numbers, depth_stencil_numbers, blend_numbers, vertex_words, verb_words, may_take, IsPredicate, IsVerb, face_ranges, face_numbers}
 use Rattle.scenetext.specs.Faults.{word}
 use Rattle.scenetext.specs.Ranges.{kind_of, kinds, IsIn, AreIn}
 use Rattle.scenetext.proofs.TextLemmas.{IsWordText, Lacks, and_left, and_right}
 use Rattle.scenetext.proofs.NumberLemmas.{IsWordText-decimal, IsWordText-signed_decimal, IsWordText-context, natural_fits, integer_fits, nonzero_fits, context_fits, small_signed, value-signed_decimal, value, number, context, value-decimal, natural_between, integer_is, nonzero_is, context_is}
 use Rattle.scenetext.proofs.RangeLemmas.{are_small, length-AreIn, naturals_fit, naturals_texts, values_again, naturals_back}
-use Rattle.scenetext.proofs.ChoiceLemmas.{flag_from, flag_back, flag_again, topology_again}
-use Rattle.scenetext.proofs.MadeLemmas.{topology_set, raster_from, scissor_set, depth_stencil_set, blend_set, predicate_set, drawn, color_cleared, depth_stencil_cleared, begun, ended, finished, flushed, query_asked, pixel_asked, IsMade, topology_made, raster_back, scissor_made, depth_stencil_made, blend_made, draw_made, color_made, clear_made, begin_made, end_made, finish_made, flush_made, query_made, pixel_made, raster_again, depth_stencil_again, blend_again}
+use Rattle.scenetext.proofs.ChoiceLemmas.{flag_from, flag_back, flag_again, topology_again, topology_from, topology_back, cull_from, cull_back, cull_again, compare_from, compare_back, compare_again, stencil_op_from, stencil_op_back, stencil_op_again, logic_op_from, logic_op_back, logic_op_again}
 use Rattle.scenetext.proofs.GroupLemmas.{fit-append, groups_found, vertices_from, vertices_texts, length-vertices, vertices_fit, vertices_again, groups_of, vertices_back, IsIndex, index_ranges, indices_small, indices_in, indices_are, singles_of}
+use Rattle.gfxspec.specs.DepthStencil.{FaceSetting, DepthStencilSetting}
+use Rattle.gfxspec.specs.Color.{BlendSetting}
 
--- the verb of a command with these words
+-- ---- the verb of a command with these words
+
+abbrev raster_from : List ℕ → ℤ → RasterSetting
+raster_from ns bias = record { cull = cull_from (get_or ns 0 0); front_ccw = flag_from (get_or ns 1 0); scissor = flag_from (get_or ns 2 0); depth_bias = bias }
+
+abbrev face_from : ℕ → ℕ → ℕ → ℕ → FaceSetting
+face_from fail depth_fail pass func = record { fail = stencil_op_from fail; depth_fail = stencil_op_from depth_fail; pass = stencil_op_from pass; func = compare_from func }
+
+abbrev depth_stencil_from : List ℕ → DepthStencilSetting
+depth_stencil_from ns =
+    record {
+      depth = flag_from (get_or ns 0 0);
+      write = flag_from (get_or ns 1 0);
+      func = compare_from (get_or ns 2 0);
+      stencil = flag_from (get_or ns 3 0);
+      read_mask = get_or ns 4 0;
+      write_mask = get_or ns 5 0;
+      front = face_from (get_or ns 6 0) (get_or ns 7 0) (get_or ns 8 0) (get_or ns 9 0);
+      back = face_from (get_or ns 10 0) (get_or ns 11 0) (get_or ns 12 0) (get_or ns 13 0);
+    }
+
+-- of a command whose arguments are natural numbers
+abbrev verb_of : CommandWord → List ℕ → Verb
+verb_of words.Topology ns = Call (gfx.SetTopology (topology_from (get_or ns 0 0)))
+verb_of words.Scissor ns = Call (gfx.SetScissor (record { left = get_or ns 0 0; top = get_or ns 1 0; right = get_or ns 2 0; bottom = get_or ns 3 0 }))
+verb_of words.Ds ns = Call (gfx.SetDepthStencil (depth_stencil_from ns) (get_or ns 14 0))
+verb_of words.Blend ns = Call (gfx.SetBlend (record { logic = flag_from (get_or ns 0 0); op = logic_op_from (get_or ns 1 0); mask = get_or ns 2 0 }))
+verb_of words.Draw ns = Call (gfx.Draw (get_or ns 0 0) (get_or ns 1 0))
+verb_of words.Clearc ns = Call (gfx.ClearColor ns)
+verb_of words.Cleards ns = Call (gfx.ClearDepthStencil (get_or ns 0 0) (get_or ns 1 0))
+verb_of words.Begin ns = Call (gfx.Begin (get_or ns 0 0))
+verb_of words.End ns = Call (gfx.End (get_or ns 0 0))
+verb_of words.Finish ns = Finish (flag_from (get_or ns 0 0))
+verb_of words.Query ns = Query (get_or ns 0 0)
+verb_of words.Pixel ns = Pixel (get_or ns 0 0) (get_or ns 1 0)
+verb_of c ns = Flush
+
+abbrev predicate_set : List ℕ → Verb
+predicate_set [] = Call (gfx.SetPredication None)
+predicate_set (n ∷ ns) = Call (gfx.SetPredication (Some (n, flag_from (get_or ns 0 0))))
+
 abbrev pub verb_from : CommandWord → List (List ℕ) → Verb
 verb_from words.Vb ws = Call (gfx.SetVertices (vertices_from ws))
 verb_from words.Ib ws = Call (gfx.SetIndices (map value ws))
-verb_from words.Topology ws = topology_set (map value ws)
 verb_from words.Raster ws = Call (gfx.SetRaster (raster_from (map value ws) (number (word ws 3))))
-verb_from words.Scissor ws = scissor_set (map value ws)
-verb_from words.Ds ws = depth_stencil_set (map value ws)
-verb_from words.Blend ws = blend_set (map value ws)
 verb_from words.Predicate ws = predicate_set (map value ws)
-verb_from words.Draw ws = drawn (map value ws)
 verb_from words.Drawi ws = Call (gfx.DrawIndexed (value (word ws 0)) (value (word ws 1)) (number (word ws 2)))
-verb_from words.Clearc ws = color_cleared (map value ws)
-verb_from words.Cleards ws = depth_stencil_cleared (map value ws)
-verb_from words.Begin ws = begun (map value ws)
-verb_from words.End ws = ended (map value ws)
-verb_from words.Finish ws = finished (map value ws)
-verb_from words.Flush ws = flushed (map value ws)
 verb_from words.Exec ws = Execute (context (word ws 0)) (value (word ws 1)) (flag_from (value (word ws 2)))
-verb_from words.Query ws = query_asked (map value ws)
-verb_from words.Pixel ws = pixel_asked (map value ws)
+verb_from c ws = verb_of c (map value ws)
+
+-- a command whose arguments are natural numbers, one of each of its ranges
+abbrev is_plain : CommandWord → Bool
+is_plain words.Vb = false
+is_plain words.Ib = false
+is_plain words.Raster = false
+is_plain words.Predicate = false
+is_plain words.Drawi = false
+is_plain words.Exec = false
+is_plain c = true
+
+record IsPlain (c : CommandWord) : Type 0 where
+  pub shape_is : shape c ≡ OneOf (kinds (ranges c) ∷ [])
+  pub small : are_small (ranges c) ≡ true
+  pub from : (ws : List (List ℕ)) → verb_from c ws ≡ verb_of c (map value ws)
+
+plain : (c : CommandWord) → is_plain c ≡ true → IsPlain c
+plain words.Vb p = absurd cc
+plain words.Ib p = absurd cc
+plain words.Raster p = absurd cc
+plain words.Predicate p = absurd cc
+plain words.Drawi p = absurd cc
+plain words.Exec p = absurd cc
+plain c p = record { shape_is = refl; small = refl; from = λ ws. refl }
+
+-- ---- numbers by their places
+
+-- as many numbers of a list, from a place on
+abbrev pub entries : List Range → ℕ → List ℕ → List ℕ
+entries [] i ns = []
+entries (r ∷ rs) i ns = get_or ns i 0 ∷ entries rs (suc i) ns
+
+entries-cons : (rs : List Range) (i n : ℕ) (ns : List ℕ) → entries rs (suc i) (n ∷ ns) ≡ entries rs i ns
+entries-cons [] i n ns = refl
+entries-cons (r ∷ rs) i n ns = ap (λ x. get_or ns i 0 ∷ x) (entries-cons rs (suc i) n ns)
+
+pub entries_are : (rs : List Range) (ns : List ℕ) → AreIn rs ns → entries rs 0 ns ≡ ns
+entries_are [] [] h = refl
+entries_are [] (n ∷ ns) h = absurd h
+entries_are (r ∷ rs) [] h = absurd h
+entries_are (r ∷ rs) (n ∷ ns) h = ap (λ x. n ∷ x) (entries-cons rs 0 n ns ∙ entries_are rs ns h.1)
+
+pub in_at : (rs : List Range) (ns : List ℕ) → AreIn rs ns → (i : ℕ) → i < length rs → IsIn (get_or rs i U32) (get_or ns i 0)
+in_at [] ns h i below = absurd (omega (arith, below))
+in_at (r ∷ rs) [] h i below = absurd h
+in_at (r ∷ rs) (n ∷ ns) h zero below = h.0
+in_at (r ∷ rs) (n ∷ ns) h (suc i) below = in_at rs ns h.1 i (omega (arith, below))
+
+-- ---- a verb spells the numbers that it is made of
+
+record IsMade (c : CommandWord) (ns : List ℕ) (v : Verb) : Type 0 where
+  pub words : verb_words v ≡ name c ∷ map decimal ns
+  pub verb : IsVerb v
+  pub taken : (immediate : Bool) → may_take v immediate ≡ serves c immediate
+
+-- a verb of numbers that are these
+made_of : (c : CommandWord) (ns numbers : List ℕ) (v : Verb) → verb_words v ≡ name c ∷ map decimal numbers → ((immediate : Bool) → may_take v immediate ≡ serves c immediate) → (AreIn (ranges c) numbers → IsVerb v) → AreIn (ranges c) ns → numbers ≡ ns → IsMade c ns v
+made_of c ns numbers v words taken verb h same = record {
+  words = words ∙ ap (λ x. name c ∷ map decimal x) same;
+  verb = verb (subst (λ x. AreIn (ranges c) x) (sym same) h);
+  taken = taken;
+}
+
+-- a verb of the numbers as they stand
+made_plain : (c : CommandWord) (ns : List ℕ) (v : Verb) → verb_words v ≡ name c ∷ map decimal (entries (ranges c) 0 ns) → ((immediate : Bool) → may_take v immediate ≡ serves c immediate) → (AreIn (ranges c) (entries (ranges c) 0 ns) → IsVerb v) → AreIn (ranges c) ns → IsMade c ns v
+made_plain c ns v words taken verb h = made_of c ns (entries (ranges c) 0 ns) v words taken verb h (entries_are (ranges c) ns h)
+
+-- a state that has these numbers
+depth_stencil_read : (ns : List ℕ) (s : DepthStencilSetting) → AreIn (ranges words.Ds) ns → s.depth ≡ flag_from (get_or ns 0 0) → s.write ≡ flag_from (get_or ns 1 0) → compare_number s.func ≡ get_or ns 2 0 → s.stencil ≡ flag_from (get_or ns 3 0) → s.read_mask ≡ get_or ns 4 0 → s.write_mask ≡ get_or ns 5 0
+    → face_numbers s.front ≡ get_or ns 6 0 ∷ get_or ns 7 0 ∷ get_or ns 8 0 ∷ get_or ns 9 0 ∷ [] → face_numbers s.back ≡ get_or ns 10 0 ∷ get_or ns 11 0 ∷ get_or ns 12 0 ∷ get_or ns 13 0 ∷ []
+    → IsMade words.Ds ns (Call (gfx.SetDepthStencil s (get_or ns 14 0)))
+depth_stencil_read ns s h depth write func stencil read_mask write_mask front back =
+    let at = in_at (ranges words.Ds) ns h in
+    let d : flag_number s.depth ≡ get_or ns 0 0 = ap flag_number depth ∙ flag_back (get_or ns 0 0) (at 0 (omega arith)) in
+    let w : flag_number s.write ≡ get_or ns 1 0 = ap flag_number write ∙ flag_back (get_or ns 1 0) (at 1 (omega arith)) in
+    let t : flag_number s.stencil ≡ get_or ns 3 0 = ap flag_number stencil ∙ flag_back (get_or ns 3 0) (at 3 (omega arith)) in
+    let same : depth_stencil_numbers s (get_or ns 14 0) ≡ entries (ranges words.Ds) 0 ns = cc in
+    made_of words.Ds ns (depth_stencil_numbers s (get_or ns 14 0)) (Call (gfx.SetDepthStencil s (get_or ns 14 0))) refl (λ im. refl) (λ a. a) h (same ∙ entries_are (ranges words.Ds) ns h)
+
+face_back : (fail depth_fail pass func : ℕ) → AreIn face_ranges (fail ∷ depth_fail ∷ pass ∷ func ∷ []) → face_numbers (face_from fail depth_fail pass func) ≡ fail ∷ depth_fail ∷ pass ∷ func ∷ []
+face_back fail depth_fail pass func h = rw (stencil_op_back fail h.0, stencil_op_back depth_fail h.1.0, stencil_op_back pass h.1.1.0, compare_back func h.1.1.1.0) refl
+
+depth_stencil_made : (ns : List ℕ) → AreIn (ranges words.Ds) ns → IsMade words.Ds ns (verb_of words.Ds ns)
+depth_stencil_made ns h =
+    let at = in_at (ranges words.Ds) ns h in
+    depth_stencil_read ns (depth_stencil_from ns) h refl refl (compare_back (get_or ns 2 0) (at 2 (omega arith))) refl refl refl
+    (face_back (get_or ns 6 0) (get_or ns 7 0) (get_or ns 8 0) (get_or ns 9 0) (at 6 (omega arith), (at 7 (omega arith), (at 8 (omega arith), (at 9 (omega arith), tt)))))
+    (face_back (get_or ns 10 0) (get_or ns 11 0) (get_or ns 12 0) (get_or ns 13 0) (at 10 (omega arith), (at 11 (omega arith), (at 12 (omega arith), (at 13 (omega arith), tt)))))
+
+blend_made : (ns : List ℕ) → AreIn (ranges words.Blend) ns → IsMade words.Blend ns (verb_of words.Blend ns)
+blend_made ns h =
+    let logic = flag_back (get_or ns 0 0) (in_at (ranges words.Blend) ns h 0 (omega arith)) in
+    let op = logic_op_back (get_or ns 1 0) (in_at (ranges words.Blend) ns h 1 (omega arith)) in
+    let made : BlendSetting = record { logic = flag_from (get_or ns 0 0); op = logic_op_from (get_or ns 1 0); mask = get_or ns 2 0 } in
+    made_of words.Blend ns (blend_numbers made) (verb_of words.Blend ns) refl (λ im. refl) (λ a. a) h (rw (logic, op) (entries_are (ranges words.Blend) ns h))
+
+made : (c : CommandWord) (ns : List ℕ) → is_plain c ≡ true → AreIn (ranges c) ns → IsMade c ns (verb_of c ns)
+made words.Vb ns p h = absurd cc
+made words.Ib ns p h = absurd cc
+made words.Raster ns p h = absurd cc
+made words.Predicate ns p h = absurd cc
+made words.Drawi ns p h = absurd cc
+made words.Exec ns p h = absurd cc
+made words.Topology ns p h =
+    made_of words.Topology ns _ (verb_of words.Topology ns) refl (λ im. refl) (λ a. a) h
+    (ap (λ n. n ∷ []) (topology_back (get_or ns 0 0) (in_at (ranges words.Topology) ns h 0 (omega arith))) ∙ entries_are (ranges words.Topology) ns h)
+made words.Ds ns p h = depth_stencil_made ns h
+made words.Blend ns p h = blend_made ns h
+made words.Clearc ns p h = made_of words.Clearc ns ns (verb_of words.Clearc ns) refl (λ im. refl) (λ a. a) h refl
+made words.Finish ns p h =
+    made_of words.Finish ns _ (verb_of words.Finish ns) refl (λ im. refl) (λ a. a) h
+    (ap (λ n. n ∷ []) (flag_back (get_or ns 0 0) (in_at (ranges words.Finish) ns h 0 (omega arith))) ∙ entries_are (ranges words.Finish) ns h)
+made c ns p h = made_plain c ns (verb_of c ns) refl (λ im. refl) (λ a. a) h
+
+-- ---- it is made of its numbers again
+
+raster_again : (r : RasterSetting) → raster_from (raster_numbers r) r.depth_bias ≡ r
+raster_again r = rw (cull_again r.cull, flag_again r.front_ccw, flag_again r.scissor) refl
+
+depth_stencil_again : (s : DepthStencilSetting) (reference : ℕ) → verb_of words.Ds (depth_stencil_numbers s reference) ≡ Call (gfx.SetDepthStencil s reference)
+depth_stencil_again s reference = simp (flag_again, compare_again, stencil_op_again)
+
+blend_again : (b : BlendSetting) → verb_of words.Blend (blend_numbers b) ≡ Call (gfx.SetBlend b)
+blend_again b = rw (flag_again b.logic, logic_op_again b.op) refl
+
+raster_back : (ns : List ℕ) (bias : ℤ) → AreIn (ranges words.Raster) ns → raster_numbers (raster_from ns bias) ≡ ns
+raster_back ns bias h =
+    let cull = cull_back (get_or ns 0 0) (in_at (ranges words.Raster) ns h 0 (omega arith)) in
+    let front_ccw = flag_back (get_or ns 1 0) (in_at (ranges words.Raster) ns h 1 (omega arith)) in
+    let scissor = flag_back (get_or ns 2 0) (in_at (ranges words.Raster) ns h 2 (omega arith)) in
+    rw (cull, front_ccw, scissor) (entries_are (ranges words.Raster) ns h)
 
 -- ---- from a verb to its words
 
@@ -69,19 +228,20 @@ found_naturals rs ns h =
     let e : length (kinds rs) ≡ length (map decimal ns) = length-map rs _ ∙ length-AreIn rs ns h ∙ sym (length-map ns decimal) in
     ap (λ b. cond b (Some (kinds rs)) None) (eq-eqb _ _ e)
 
-naturals : (c : CommandWord) (make : List ℕ → Verb) (ns : List ℕ) (v : Verb) → verb_words v ≡ name c ∷ map decimal ns → ((immediate : Bool) → may_take v immediate ≡ serves c immediate)
-    → shape c ≡ OneOf (kinds (ranges c) ∷ []) → are_small (ranges c) ≡ true → ((ws : List (List ℕ)) → verb_from c ws ≡ make (map value ws)) → make ns ≡ v → AreIn (ranges c) ns → Fits v
-naturals c make ns v words taken sh small from made h = record {
-  command = c;
-  arguments = map decimal ns;
-  words_are = words;
-  taken = taken;
-  kinds = kinds (ranges c);
-  found = ap (λ s. kinds_of s (length (map decimal ns))) sh ∙ found_naturals (ranges c) ns h;
-  fits = naturals_fit (ranges c) ns small h;
-  texts = naturals_texts (ranges c) ns small h;
-  again = from (map decimal ns) ∙ ap make (values_again (ranges c) ns small h) ∙ made;
-}
+naturals : (c : CommandWord) (ns : List ℕ) (v : Verb) → is_plain c ≡ true → verb_words v ≡ name c ∷ map decimal ns → ((immediate : Bool) → may_take v immediate ≡ serves c immediate) → verb_of c ns ≡ v → AreIn (ranges c) ns → Fits v
+naturals c ns v p words taken again h =
+    let is = plain c p in
+    record {
+      command = c;
+      arguments = map decimal ns;
+      words_are = words;
+      taken = taken;
+      kinds = kinds (ranges c);
+      found = ap (λ s. kinds_of s (length (map decimal ns))) is.shape_is ∙ found_naturals (ranges c) ns h;
+      fits = naturals_fit (ranges c) ns is.small h;
+      texts = naturals_texts (ranges c) ns is.small h;
+      again = is.from (map decimal ns) ∙ ap (verb_of c) (values_again (ranges c) ns is.small h) ∙ again;
+    }
 
 indices_fits : (is : List ℕ) → AllByRecursion IsIndex is → Fits (Call (gfx.SetIndices is))
 indices_fits is h =
@@ -214,23 +374,23 @@ verb_fits (Call (gfx.SetVertices vs)) h = record {
   again = ap (λ us. Call (gfx.SetVertices us)) (vertices_again vs h);
 }
 verb_fits (Call (gfx.SetIndices is)) h = indices_fits is h
-verb_fits (Call (gfx.SetTopology t)) h = naturals words.Topology topology_set (topology_number t ∷ []) _ refl (λ im. refl) refl refl (λ ws. refl) (ap (λ x. Call (gfx.SetTopology x)) (topology_again t)) h
+verb_fits (Call (gfx.SetTopology t)) h = naturals words.Topology (topology_number t ∷ []) _ refl refl (λ im. refl) (ap (λ x. Call (gfx.SetTopology x)) (topology_again t)) h
 verb_fits (Call (gfx.SetRaster r)) h = raster_fits r r.depth_bias refl h.0 h.1
-verb_fits (Call (gfx.SetScissor r)) h = naturals words.Scissor scissor_set (rect_numbers r) _ refl (λ im. refl) refl refl (λ ws. refl) refl h
-verb_fits (Call (gfx.SetDepthStencil s reference)) h = naturals words.Ds depth_stencil_set (depth_stencil_numbers s reference) _ refl (λ im. refl) refl refl (λ ws. refl) (depth_stencil_again s reference) h
-verb_fits (Call (gfx.SetBlend b)) h = naturals words.Blend blend_set (blend_numbers b) _ refl (λ im. refl) refl refl (λ ws. refl) (blend_again b) h
+verb_fits (Call (gfx.SetScissor r)) h = naturals words.Scissor (rect_numbers r) _ refl refl (λ im. refl) refl h
+verb_fits (Call (gfx.SetDepthStencil s reference)) h = naturals words.Ds (depth_stencil_numbers s reference) _ refl refl (λ im. refl) (depth_stencil_again s reference) h
+verb_fits (Call (gfx.SetBlend b)) h = naturals words.Blend (blend_numbers b) _ refl refl (λ im. refl) (blend_again b) h
 verb_fits (Call (gfx.SetPredication o)) h = predicate_fits o h
-verb_fits (Call (gfx.Draw count start)) h = naturals words.Draw drawn (count ∷ start ∷ []) _ refl (λ im. refl) refl refl (λ ws. refl) refl h
+verb_fits (Call (gfx.Draw count start)) h = naturals words.Draw (count ∷ start ∷ []) _ refl refl (λ im. refl) refl h
 verb_fits (Call (gfx.DrawIndexed count start base)) h = drawi_fits count start base h.0 h.1
-verb_fits (Call (gfx.ClearColor rgba)) h = naturals words.Clearc color_cleared rgba _ refl (λ im. refl) refl refl (λ ws. refl) refl h
-verb_fits (Call (gfx.ClearDepthStencil depth stencil)) h = naturals words.Cleards depth_stencil_cleared (depth ∷ stencil ∷ []) _ refl (λ im. refl) refl refl (λ ws. refl) refl h
-verb_fits (Call (gfx.Begin query)) h = naturals words.Begin begun (query ∷ []) _ refl (λ im. refl) refl refl (λ ws. refl) refl h
-verb_fits (Call (gfx.End query)) h = naturals words.End ended (query ∷ []) _ refl (λ im. refl) refl refl (λ ws. refl) refl h
-verb_fits (Finish restore) h = naturals words.Finish finished (flag_number restore ∷ []) _ refl (λ im. refl) refl refl (λ ws. refl) (ap Finish (flag_again restore)) h
-verb_fits Flush h = naturals words.Flush flushed [] _ refl (λ im. refl) refl refl (λ ws. refl) refl tt
+verb_fits (Call (gfx.ClearColor rgba)) h = naturals words.Clearc rgba _ refl refl (λ im. refl) refl h
+verb_fits (Call (gfx.ClearDepthStencil depth stencil)) h = naturals words.Cleards (depth ∷ stencil ∷ []) _ refl refl (λ im. refl) refl h
+verb_fits (Call (gfx.Begin query)) h = naturals words.Begin (query ∷ []) _ refl refl (λ im. refl) refl h
+verb_fits (Call (gfx.End query)) h = naturals words.End (query ∷ []) _ refl refl (λ im. refl) refl h
+verb_fits (Finish restore) h = naturals words.Finish (flag_number restore ∷ []) _ refl refl (λ im. refl) (ap Finish (flag_again restore)) h
+verb_fits Flush h = naturals words.Flush [] _ refl refl (λ im. refl) refl tt
 verb_fits (Execute context list restore) h = exec_fits context list restore h.0 h.1
-verb_fits (Query query) h = naturals words.Query query_asked (query ∷ []) _ refl (λ im. refl) refl refl (λ ws. refl) refl h
-verb_fits (Pixel x y) h = naturals words.Pixel pixel_asked (x ∷ y ∷ []) _ refl (λ im. refl) refl refl (λ ws. refl) refl h
+verb_fits (Query query) h = naturals words.Query (query ∷ []) _ refl refl (λ im. refl) refl h
+verb_fits (Pixel x y) h = naturals words.Pixel (x ∷ y ∷ []) _ refl refl (λ im. refl) refl h
 verb_fits v h = absurd h
 
 -- ---- from words to their verb
@@ -248,16 +408,16 @@ one_of ks ls n h = one_of_test ks ls (eqb (length ks) n) n refl h
     one_of_test ks ls true n e h = (eqb-true _ _ e, cc)
     one_of_test ks ls false n e h = absurd cc
 
-naturals_backs : (c : CommandWord) (make : List ℕ → Verb) → shape c ≡ OneOf (kinds (ranges c) ∷ []) → are_small (ranges c) ≡ true → ((ws : List (List ℕ)) → verb_from c ws ≡ make (map value ws)) → ((ns : List ℕ) → AreIn (ranges c) ns → IsMade c ns (make ns))
-    → (ls : List Kind) (ws : List (List ℕ)) → kinds_of (shape c) (length ws) ≡ Some ls → fit ls ws ≡ true → Backs c ws
-naturals_backs c make sh small from made ls ws found fits =
-    let g = one_of (kinds (ranges c)) ls (length ws) (ap (λ s. kinds_of s (length ws)) (sym sh) ∙ found) in
-    let b = naturals_back (ranges c) ws small (sym (length-map (ranges c) _) ∙ g.0) (subst (λ ks. fit ks ws ≡ true) (sym g.1) fits) in
-    let m = made (map value ws) b.1 in
+naturals_backs : (c : CommandWord) → is_plain c ≡ true → (ls : List Kind) (ws : List (List ℕ)) → kinds_of (shape c) (length ws) ≡ Some ls → fit ls ws ≡ true → Backs c ws
+naturals_backs c p ls ws found fits =
+    let is = plain c p in
+    let g = one_of (kinds (ranges c)) ls (length ws) (ap (λ s. kinds_of s (length ws)) (sym is.shape_is) ∙ found) in
+    let b = naturals_back (ranges c) ws is.small (sym (length-map (ranges c) _) ∙ g.0) (subst (λ ks. fit ks ws ≡ true) (sym g.1) fits) in
+    let m = made c (map value ws) p b.1 in
     record {
-      words = ap verb_words (from ws) ∙ m.words ∙ ap (λ x. name c ∷ x) b.0;
-      verb = subst (λ v. IsVerb v) (sym (from ws)) m.verb;
-      taken = λ im. ap (λ v. may_take v im) (from ws) ∙ m.taken im;
+      words = ap verb_words (is.from ws) ∙ m.words ∙ ap (λ x. name c ∷ x) b.0;
+      verb = subst (λ v. IsVerb v) (sym (is.from ws)) m.verb;
+      taken = λ im. ap (λ v. may_take v im) (is.from ws) ∙ m.taken im;
     }
 
 drawi_backs : (ws : List (List ℕ)) → 3 ≡ length ws → fit (kinds (ranges words.Drawi) ++ i32s ∷ []) ws ≡ true → Backs words.Drawi ws
@@ -409,27 +569,15 @@ backs words.Vb ls ws found fits =
     let r = vertices_back (length ws / 7) ws e (subst (λ ks. fit ks ws ≡ true) (sym g.1) fits) in
     record { words = ap (λ x. codes "vb" ∷ x) r.0; verb = r.1; taken = λ im. refl }
 backs words.Ib ls ws found fits = indices_backs ls ws found fits
-backs words.Topology ls ws found fits = naturals_backs words.Topology topology_set refl refl (λ ws. refl) topology_made ls ws found fits
 backs words.Raster ls ws found fits = raster_backs ls ws found fits
-backs words.Scissor ls ws found fits = naturals_backs words.Scissor scissor_set refl refl (λ ws. refl) scissor_made ls ws found fits
-backs words.Ds ls ws found fits = naturals_backs words.Ds depth_stencil_set refl refl (λ ws. refl) depth_stencil_made ls ws found fits
-backs words.Blend ls ws found fits = naturals_backs words.Blend blend_set refl refl (λ ws. refl) blend_made ls ws found fits
 backs words.Predicate ls ws found fits = predicate_backs ls ws found fits
-backs words.Draw ls ws found fits = naturals_backs words.Draw drawn refl refl (λ ws. refl) draw_made ls ws found fits
 backs words.Drawi ls ws found fits =
     let g = one_of (kinds (ranges words.Drawi) ++ i32s ∷ []) ls (length ws) found in
     drawi_backs ws g.0 (subst (λ ks. fit ks ws ≡ true) (sym g.1) fits)
-backs words.Clearc ls ws found fits = naturals_backs words.Clearc color_cleared refl refl (λ ws. refl) color_made ls ws found fits
-backs words.Cleards ls ws found fits = naturals_backs words.Cleards depth_stencil_cleared refl refl (λ ws. refl) clear_made ls ws found fits
-backs words.Begin ls ws found fits = naturals_backs words.Begin begun refl refl (λ ws. refl) begin_made ls ws found fits
-backs words.End ls ws found fits = naturals_backs words.End ended refl refl (λ ws. refl) end_made ls ws found fits
-backs words.Finish ls ws found fits = naturals_backs words.Finish finished refl refl (λ ws. refl) finish_made ls ws found fits
-backs words.Flush ls ws found fits = naturals_backs words.Flush flushed refl refl (λ ws. refl) flush_made ls ws found fits
 backs words.Exec ls ws found fits =
     let g = one_of (Context ∷ kinds (ranges words.Exec)) ls (length ws) found in
     exec_backs ws g.0 (subst (λ ks. fit ks ws ≡ true) (sym g.1) fits)
-backs words.Query ls ws found fits = naturals_backs words.Query query_asked refl refl (λ ws. refl) query_made ls ws found fits
-backs words.Pixel ls ws found fits = naturals_backs words.Pixel pixel_asked refl refl (λ ws. refl) pixel_made ls ws found fits
+backs c ls ws found fits = naturals_backs c refl ls ws found fits
 
 -- ---- the names of commands
 
@@ -452,21 +600,4 @@ IsWordText-known w a b c = record { is = a; printable = b; no_space = lacks_from
 
 pub IsWordText-name : (c : CommandWord) → IsWordText (name c)
 IsWordText-name words.Vb = IsWordText-known (codes "vb") refl refl refl
-IsWordText-name words.Ib = IsWordText-known (codes "ib") refl refl refl
-IsWordText-name words.Topology = IsWordText-known (codes "topology") refl refl refl
-IsWordText-name words.Raster = IsWordText-known (codes "raster") refl refl refl
-IsWordText-name words.Scissor = IsWordText-known (codes "scissor") refl refl refl
-IsWordText-name words.Ds = IsWordText-known (codes "ds") refl refl refl
-IsWordText-name words.Blend = IsWordText-known (codes "blend") refl refl refl
-IsWordText-name words.Predicate = IsWordText-known (codes "predicate") refl refl refl
-IsWordText-name words.Draw = IsWordText-known (codes "draw") refl refl refl
-IsWordText-name words.Drawi = IsWordText-known (codes "drawi") refl refl refl
-IsWordText-name words.Clearc = IsWordText-known (codes "clearc") refl refl refl
-IsWordText-name words.Cleards = IsWordText-known (codes "cleards") refl refl refl
-IsWordText-name words.Begin = IsWordText-known (codes "begin") refl refl refl
-IsWordText-name words.End = IsWordText-known (codes "end") refl refl refl
-IsWordText-name words.Finish = IsWordText-known (codes "finish") refl refl refl
-IsWordText-name words.Flush = IsWordText-known (codes "flush") refl refl refl
-IsWordText-name words.Exec = IsWordText-known (codes "exec") refl refl refl
-IsWordText-name words.Query = IsWordText-known (codes "query") refl refl refl
-IsWordText-name words.Pixel = IsWordText-known (codes "pixel") refl refl refl
+IsWordText-name c = IsWordText-known (name c) refl refl refl

@@ -8,14 +8,14 @@ use Rattle.scenetext.specs.declared.range.Range.{Range}
 use Rattle.scenetext.specs.declared.range.TheConstants.{U32}
 use Rattle.scenetext.specs.declared.fault.ReadError.{ReadError}
 use Rattle.scenetext.specs.declared.fault.ReadError.TheVariants as errors
-use Rattle.scenetext.specs.declared.command_word.CommandWord.{CommandWord}
+use Rattle.scenetext.specs.declared.verbs.CommandWord.{CommandWord}
 use Rattle.scenetext.specs.declared.text.FrontForm.{FrontForm}
 use Rattle.gfxspec.specs.declared.geometry.Size.{Size}
 use Rattle.scenetext.specs.Scene.{Actor, Immediate, Deferred, Verb, Execute, Line}
 use Rattle.scenetext.specs.Text.{TextLine, lines_of, words_of, is_printable, has_form}
 use Rattle.scenetext.specs.Numbers.{context_word}
-use Rattle.scenetext.specs.Commands.{Shape, name, shape, serves}
-use Rattle.scenetext.specs.Spelling.{actor_word, is_immediate_actor, verb_words, line_words, size_words, may_take, is_finish, IsActor, IsVerb, IsTarget}
+use Rattle.scenetext.specs.Commands.{Shape, name, shape, serves, verb_words, may_take, IsVerb}
+use Rattle.scenetext.specs.Spelling.{actor_word, is_immediate_actor, line_words, size_words, is_finish, IsActor, IsTarget}
 use Rattle.scenetext.specs.Faults.{number_of_fault, arguments_fault, finishes, first_line_fault, later_line_fault, first_fault, fault_of, last_read, HasFault}
 
 -- these words are the arguments of this verb

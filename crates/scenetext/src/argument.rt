@@ -5,7 +5,7 @@ ghost use Rattle.gfxspec.specs.Numbers.{cull_number, topology_number, compare_nu
 ghost use Rattle.states.specs.ColorMask.{mask_bits};
 ghost use Rattle.scenetext.specs.declared.range.TheConstants.{U32, BYTE, FLAG, INDEX, TOPOLOGY, CULL, COMPARISON, STENCIL_OP, LOGIC_OP, COLOR_MASK};
 ghost use Rattle.scenetext.specs.Numbers.{fits_kind};
-ghost use Rattle.scenetext.specs.Spelling.{flag_number};
+ghost use Rattle.scenetext.specs.Commands.{flag_number};
 ghost use Rattle.scenetext.specs.Faults.{word};
 ghost use Rattle.scenetext.specs.Ranges.{kind_of, IsIn};
 ghost use Rattle.scenetext.specs.Reading.{Numbering};

@@ -8,7 +8,6 @@
 #![tactic(auto)]
 
 mod argument;
-mod command_word;
 mod fault;
 mod law;
 mod lines;

@@ -2,19 +2,18 @@
 
 ghost use Rattle.std.specs.Prelude.{◌≡◌, ◌≢◌, ◌<◌, ◌||◌, ℕ, List, length, false, IfSome, IfNone, IfOk, IfErr, IsTrue, Err, Some, None};
 ghost use Rattle.scenetext.specs.Numbers.{is_context};
-ghost use Rattle.scenetext.specs.Commands.{command_named};
+ghost use Rattle.scenetext.specs.Commands.{command_named, IsVerb};
 ghost use Rattle.scenetext.specs.Seen.{actor_value, verb_value, line_value};
-ghost use Rattle.scenetext.specs.Spelling.{actor_word, is_immediate_actor, IsActor, IsVerb};
+ghost use Rattle.scenetext.specs.Spelling.{actor_word, is_immediate_actor, IsActor};
 ghost use Rattle.scenetext.specs.Faults.{is_immediate};
 ghost use Rattle.scenetext.specs.Reading.{ReadsLine, RefusesLine, HasCounted, LacksCounted, IsHead, RefusesHead, ReadsSize, RefusesFirst};
 
 use crate::argument::next_argument;
-use crate::command_word::CommandWord;
 use crate::fault::{Fault, ReadError};
 use crate::numbers::expect;
 use crate::scene::{Actor, Line, Verb};
 use crate::text::FormedLine;
-use crate::verbs::verb_of;
+use crate::verbs::{CommandWord, verb_of};
 use crate::words::{Words, context};
 use gfxspec::Size;
 use std::alloc::Allocator;

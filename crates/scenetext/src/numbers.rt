@@ -4,14 +4,13 @@ ghost use Rattle.std.specs.Prelude.{◌≡◌, ◌≢◌, ◌<◌, ◌≤◌, �
 ghost use Rattle.std.specs.Fmt.{signed_decimal};
 ghost use Rattle.states.specs.DepthStencil.{face_setting};
 ghost use Rattle.scenetext.specs.Numbers.{NonZero, fits_kind, fit, i32s, is_context, context_word};
-ghost use Rattle.scenetext.specs.Commands.{face_ranges, ranges, vertex_kinds};
-ghost use Rattle.scenetext.specs.Spelling.{face_numbers, vertex_words, IsVertex};
+ghost use Rattle.scenetext.specs.Commands.{face_ranges, ranges, vertex_kinds, face_numbers, vertex_words, IsVertex};
 ghost use Rattle.scenetext.specs.Faults.{word};
 ghost use Rattle.scenetext.specs.Ranges.{kinds, AreIn};
 
 use crate::argument::next_argument;
-use crate::command_word::CommandWord;
 use crate::fault::{Fault, ReadError};
+use crate::verbs::CommandWord;
 use crate::words::{Words, context};
 use gfxspec::Vertex;
 use states::Face;

@@ -18,7 +18,8 @@ use Rattle.meaning.specs.Standing.{Stands, session_result}
 use Rattle.meaning.proofs.Contexts.{stands_new, shows}
 use Rattle.immediate.specs.Held.{Held, context_of, shown, answered, Executed, Ran}
 use Rattle.scenetext.specs.Scene.{Actor, Immediate, Deferred, Verb, Call, Finish, Flush, Execute, Query, Pixel, Line, Scene}
-use Rattle.scenetext.specs.Spelling.{IsVerb, AreLines, Spells}
+use Rattle.scenetext.specs.Commands.{IsVerb}
+use Rattle.scenetext.specs.Spelling.{AreLines, Spells}
 use Rattle.recorders.specs.Recording.{Recording, nothing_recorded, with_verb, with_line, recording_of, deferred_rows, listed}
 use Rattle.tga.specs.Image.{image_bytes}
 use Rattle.tga.proofs.ImageLemmas.{same_image}

@@ -5,7 +5,8 @@ use Rattle.std.proofs.lemmas.List.{take_all, take_more, drop_more, take-append-d
 use Rattle.gfxspec.specs.declared.geometry.Size.{Size}
 use Rattle.gfxspec.specs.Session.{Step, Records, Flushes}
 use Rattle.scenetext.specs.Scene.{Verb, Call, Finish, Flush, Execute, Query, Pixel, Line}
-use Rattle.scenetext.specs.Spelling.{AreLines, may_take, is_immediate_actor}
+use Rattle.scenetext.specs.Commands.{may_take}
+use Rattle.scenetext.specs.Spelling.{AreLines, is_immediate_actor}
 use Rattle.recorders.specs.Apart.{a_line, line_at}
 use Rattle.pixelevents.specs.declared.Event.{Event}
 use Rattle.pixelevents.specs.declared.Origin.{Origin}

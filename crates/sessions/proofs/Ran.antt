@@ -12,7 +12,7 @@ use Rattle.gfxspec.specs.Recorded.{queries_open}
 use Rattle.gfxspec.specs.declared.error.GfxError.TheVariants.{OutOfMemory}
 use Rattle.gfxspec.specs.Refusals.{Row, first_row, flush_rows}
 use Rattle.gfxspec.specs.Accepted.{AreAccepted}
-use Rattle.cmdlist.specs.Calls.{RecordsCall}
+use Rattle.command.specs.Calls.{RecordsCall}
 use Rattle.immediate.specs.declared.task.Task.TheVariants.{Settle}
 use Rattle.immediate.specs.Tasks.{Performs}
 use Rattle.immediate.specs.Held.{Held, context_of, held_more, Executed, Ran, Stays, MayHaveRun, IsRefused, Runs, Enqueues}

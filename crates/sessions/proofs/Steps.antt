@@ -10,7 +10,8 @@ use Rattle.meaning.specs.Standing.{Stands, IsNew}
 use Rattle.meaning.proofs.Contexts.{stands_new}
 use Rattle.scenetext.specs.Seen.{verb_value}
 use Rattle.scenetext.specs.Scene.{Actor, Immediate, Deferred, Verb, Call, Finish, Flush, Execute, Query, Pixel, Line}
-use Rattle.scenetext.specs.Spelling.{is_immediate_actor, may_take, HasList, IsLine, AreLines}
+use Rattle.scenetext.specs.Commands.{may_take}
+use Rattle.scenetext.specs.Spelling.{is_immediate_actor, HasList, IsLine, AreLines}
 use Rattle.recorders.specs.Recording.{recording_of, listed}
 use Rattle.recorders.specs.Apart.{a_line, line_at, Cause}
 use Rattle.recorders.proofs.Recordings.{lists_counted}

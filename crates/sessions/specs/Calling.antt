@@ -10,7 +10,7 @@ use Rattle.gfxspec.specs.Refusals.{first_row, AnswersBy, finish_rows, flush_rows
 use Rattle.gfxspec.specs.Accepted.{AreAccepted}
 use Rattle.tileblock.specs.Surface.{size_rows}
 use Rattle.meaning.specs.Standing.{IsNew, session_result}
-use Rattle.cmdlist.specs.Calls.{RecordsCall}
+use Rattle.command.specs.Calls.{RecordsCall}
 use Rattle.immediate.specs.Held.{Held, context_of, held_more, shown, answered, Runs, Enqueues}
 use Rattle.scenetext.specs.Scene.{Actor, Immediate, Deferred, Verb, Call, Finish, Flush, Execute, Query, Pixel, Line, Scene}
 use Rattle.recorders.specs.Recording.{Recording, nothing_recorded}

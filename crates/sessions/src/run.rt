@@ -35,7 +35,7 @@ pub(crate) enum Question {
 pub(crate) trait RecordsCalls {
     ghost use Rattle.scenetext.specs.Scene.{Call};
     ghost use Rattle.command.specs.Seen.{command_value};
-    ghost use Rattle.cmdlist.specs.Calls.{RecordsCall};
+    ghost use Rattle.command.specs.Calls.{RecordsCall};
     ghost use Rattle.immediate.specs.Held.{Held, Executed, IsExamined, held_more};
     ghost use Rattle.std.specs.Prelude.{◌≡◌, ℕ, Bool, List, [], ◌∷◌, true, OnOk, IfErr};
     ghost use Rattle.gfxspec.specs.declared.geometry.Size.{Size};

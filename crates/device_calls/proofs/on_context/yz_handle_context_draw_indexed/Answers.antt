@@ -2,7 +2,7 @@ use Rattle.std.proofs.Common.{ap, sym, ◌∙◌, subst, ℤ, List, [], ◌∷�
 use Rattle.std.proofs.Math.Facts.{to_z-of_z}
 use Rattle.std.specs.Prelude.{Some}
 use Rattle.gfxspec.specs.Commands.{Command, DrawIndexed}
-use Rattle.cmdlist.specs.Calls.{RecordsCall}
+use Rattle.command.specs.Calls.{RecordsCall}
 use Rattle.device_calls.proofs.Recorded.{by_handle}
 use Rattle.device_calls.proofs.on_context.yz_handle_context_draw_indexed.Goals as goal
 

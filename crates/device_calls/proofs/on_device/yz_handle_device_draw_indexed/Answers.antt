@@ -2,7 +2,7 @@ use Rattle.std.proofs.Common.{ap, sym, ◌∙◌, subst, ℤ}
 use Rattle.std.proofs.Math.Facts.{to_z-of_z}
 use Rattle.std.specs.Prelude.{Some}
 use Rattle.gfxspec.specs.Commands.{DrawIndexed}
-use Rattle.cmdlist.specs.Calls.{RecordsCall}
+use Rattle.command.specs.Calls.{RecordsCall}
 use Rattle.immediate.specs.Held.{Held, held_more}
 use Rattle.device_calls.proofs.Recorded.{by_handle}
 use Rattle.device_calls.proofs.on_device.yz_handle_device_draw_indexed.Goals as goal

@@ -1,7 +1,7 @@
 use Rattle.std.proofs.Common.{sym, subst}
 use Rattle.command.specs.Seen.{command_value}
 use Rattle.scenetext.specs.Seen.{verb_value}
-use Rattle.scenetext.specs.Spelling.{IsVerb}
+use Rattle.scenetext.specs.Commands.{IsVerb}
 use Rattle.scenetext.specs.Scene.{Call, Flush, Execute, Query, Pixel}
 use Rattle.player.specs.Lines.{deferred_of}
 use Rattle.player.specs.Answered.{ImmediateAnswers}

@@ -1,5 +1,5 @@
 use Rattle.std.proofs.Common.{ap}
-use Rattle.scenetext.specs.declared.command_word.CommandWord.TheVariants.{Ds}
+use Rattle.scenetext.specs.declared.verbs.CommandWord.TheVariants.{Ds}
 use Rattle.scenetext.specs.Commands.{ranges, shape, kinds_of}
 use Rattle.scenetext.specs.Ranges.{kinds}
 use Rattle.scenetext.proofs.ReadLemmas.{handed_on, words_fail, refused}

@@ -1,6 +1,6 @@
 use Rattle.std.proofs.Common.{◌≡◌, ◌++◌, ◌*◌, ◌-◌, length}
 use Rattle.std.specs.List.{flat_map, AllByRecursion}
-use Rattle.scenetext.specs.Spelling.{vertex_words, IsVertex}
+use Rattle.scenetext.specs.Commands.{vertex_words, IsVertex}
 use Rattle.scenetext.proofs.verbs.set_vertices.Given as goal
 
 abbrev pub invariant-loop : goal.invariant-loop

@@ -1,9 +1,8 @@
-use Rattle.std.proofs.Common.{rules, arith, ◌≡◌, ◌*◌, List, sym, subst}
+use Rattle.std.proofs.Common.{rules, arith, ◌*◌, List}
 use Rattle.gfxspec.specs.Commands.{Command}
 use Rattle.gfxspec.specs.Recorded.{settings_after}
 use Rattle.std.proofs.lemmas.Result.{IfOk-weaker}
-use Rattle.command.specs.Seen.{command_value}
-use Rattle.binner.specs.Segments.{CanFollow, IsMore, draw_of}
+use Rattle.binner.specs.Segments.{IsMore, draw_of}
 use Rattle.binner.proofs.Dividing.{all_left, less_left, can_draw_part, fits}
 use Rattle.binner.proofs.segment.OpenSegment.add_parts.Goals as goal
 
@@ -14,14 +13,11 @@ loop-room-init g c = record {
   few = search rules;
 }
 
-pub push-requires : goal.push-requires
-push-requires g c =
+pub push_draw-requires : goal.push_draw-requires
+push_draw-requires g c =
     let l = c.loop-room in
-    let b = c.args.draw.base in
-    let first : command_value c.command.result ≡ draw_of b (3 * l.room) l.start = c.command.ensures in
     record {
-      follows = subst (CanFollow (settings_after l.opened)) (sym first)
-          (can_draw_part b (settings_after l.opened) l.count l.start (3 * l.room) l.start (omega arith) (omega (arith, c.loop-room-test.true)) l.invariant.left.follows);
+      follows = can_draw_part c.args.draw.base (settings_after l.opened) l.count l.start (3 * l.room) l.start (omega arith) (omega (arith, c.loop-room-test.true)) l.invariant.left.follows;
     }
 
 pub overflow_add-start : goal.overflow_add-start
@@ -37,15 +33,16 @@ loop-room-preserved g c =
     let full = c.in_ok-full.full in
     record {
       left = less_left b c.args.draw.count c.args.draw.start c.args.segments.now.items c.args.self l.room l.count l.start l.segments.items l.opened full c.finish.new.segments.items c.in_ok-opened.opened (omega (arith, c.loop-room-test.true)) l.invariant.left
-          (subst (λ k. IsMore k l.segments.items l.opened l.segments.items full) c.command.ensures (c.in_ok-full.ensures l.segments.items)) c.in_ok-opened.ensures;
+          (c.in_ok-full.ensures l.segments.items) c.in_ok-opened.ensures;
       some = c.room-room-in-loop-room.ensures.some;
       few = c.room-room-in-loop-room.ensures.few;
     }
 
 pub returns : goal.returns
 returns g c =
+    let d = c.args.draw in
     let l = c.loop-room in
     let gs = l.segments.items in
-    IfOk-weaker c.push-2.result (λ (s : List Command). IsMore (command_value c.command-2.result) gs l.opened gs s) (λ (s : List Command). IsMore (draw_of c.args.draw.base c.args.draw.count c.args.draw.start) c.args.segments.now.items c.args.self gs s)
-    (λ s m. l.invariant.left.means gs s (subst (λ k. IsMore k gs l.opened gs s) c.command-2.ensures m))
-    (c.push-2.ensures gs)
+    IfOk-weaker c.push_draw-2.result (λ (s : List Command). IsMore (draw_of d.base l.count l.start) gs l.opened gs s) (λ (s : List Command). IsMore (draw_of d.base d.count d.start) c.args.segments.now.items c.args.self gs s)
+    (λ s m. l.invariant.left.means gs s m)
+    (c.push_draw-2.ensures gs)

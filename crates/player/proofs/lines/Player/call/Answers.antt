@@ -1,6 +1,7 @@
 use Rattle.std.proofs.Common.{◌≡◌, ◌∙◌, sym, subst, true, List, set}
 use Rattle.scenetext.specs.Seen.{actor_value, verb_value}
-use Rattle.scenetext.specs.Spelling.{IsActor, may_take, is_immediate_actor}
+use Rattle.scenetext.specs.Commands.{may_take}
+use Rattle.scenetext.specs.Spelling.{IsActor, is_immediate_actor}
 use Rattle.scenetext.specs.Scene.{Deferred}
 use Rattle.recorders.specs.Recording.{Recording}
 use Rattle.player.specs.Lines.{deferred_of, contexts_of}

@@ -1,5 +1,5 @@
 use Rattle.std.proofs.Common.{rules}
-use Rattle.cmdlist.proofs.device_context.DeviceContext.end.Goals as goal
+use Rattle.command.proofs.command.DeviceContext.draw.Goals as goal
 
 pub returns : goal.returns
 returns g c = search rules

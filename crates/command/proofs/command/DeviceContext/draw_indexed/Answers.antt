@@ -2,8 +2,8 @@ use Rattle.std.proofs.Common.{rules, subst, w32}
 use Rattle.std.specs.Prelude.{FitsSigned}
 use Rattle.std.proofs.lemmas.Int.{to_z-of_z}
 use Rattle.gfxspec.specs.Commands.{DrawIndexed}
-use Rattle.cmdlist.specs.Calls.{RecordsCall}
-use Rattle.cmdlist.proofs.device_context.DeviceContext.draw_indexed.Goals as goal
+use Rattle.command.specs.Calls.{RecordsCall}
+use Rattle.command.proofs.command.DeviceContext.draw_indexed.Goals as goal
 
 pub returns : goal.returns
 returns g c =
