@@ -5,7 +5,6 @@ ghost use Rattle.gfxspec.specs.Assembly.{primitives};
 ghost use Rattle.assemble.specs.Drawing.{IsInRange, triangles_of};
 ghost use Rattle.command.specs.Seen.{state_value};
 
-use crate::same::is_same_raster;
 use assemble::Draw;
 use cmdlist::State;
 use gfxspec::{PixelRect, Size, Topology, Vertex};
@@ -33,12 +32,6 @@ pub(crate) fn remembered<'a>(draw: &Draw<'a>) -> Option<&'a [Vertex]>
             Some(&draw.vertices[start..start + draw.count as usize])
         }
     }
-}
-
-fn is_same_topology(a: Topology, b: Topology) -> bool
-    ensures { IsTrue result → a ≡ b }
-{
-    a == b
 }
 
 /// A draw without indices, with the settings and the size of the target that its triangles were set up for, and the
@@ -69,10 +62,10 @@ impl<A: Allocator> EarlierDraw<A> {
         ensures scissor { IsTrue result → self.now.scissor ≡ (state_value state.now).scissor }
         ensures size { IsTrue result → self.now.size ≡ size }
     {
-        if !is_same_topology(self.topology, topology) || self.size != size {
+        if self.topology != topology || self.size != size {
             return false;
         }
-        if !is_same_raster(self.raster, state.raster) || self.scissor != state.scissor {
+        if self.raster != state.raster || self.scissor != state.scissor {
             return false;
         }
         self.vertices.as_slice() == vertices

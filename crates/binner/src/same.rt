@@ -2,16 +2,10 @@
 
 ghost use Rattle.std.specs.Prelude.{◌≡◌, IsTrue};
 
-use gfxspec::{Compare, Cull, LogicOp, StencilOp};
-use states::{BlendState, DepthStencilState, Face, RasterState};
+use gfxspec::{Compare, LogicOp, StencilOp};
+use states::{BlendState, DepthStencilState, Face};
 
 fn is_same_compare(a: Compare, b: Compare) -> bool
-    ensures { IsTrue result → a ≡ b }
-{
-    a == b
-}
-
-fn is_same_cull(a: Cull, b: Cull) -> bool
     ensures { IsTrue result → a ≡ b }
 {
     a == b
@@ -74,14 +68,4 @@ pub(crate) fn is_same_blend(a: BlendState, b: BlendState) -> bool
     ensures { IsTrue result → a ≡ b }
 {
     a.logic() == b.logic() && is_same_logic_op(a.op(), b.op()) && a.mask() == b.mask()
-}
-
-/// Whether two rasterizer states set the same.
-pub(crate) fn is_same_raster(a: RasterState, b: RasterState) -> bool
-    ensures { IsTrue result → a ≡ b }
-{
-    is_same_cull(a.cull(), b.cull())
-        && a.front_ccw() == b.front_ccw()
-        && a.scissor() == b.scissor()
-        && a.depth_bias() == b.depth_bias()
 }
