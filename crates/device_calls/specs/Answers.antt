@@ -1,7 +1,8 @@
 -- How calls by handles are answered (this project's own): by a number, and what a handle holds before and behind is what the call of a context says.
-use Rattle.std.specs.Prelude.{ℕ, slice_index, ◌≡◌, ◌==◌, List, [], ◌∷◌, ◌++◌, Option, Some, None, Result, Ok, Err, if◌then◌else◌}
+use Rattle.std.specs.Prelude.{ℕ, slice_index, ◌≡◌, ◌==◌, List, [], ◌∷◌, ◌++◌, find, Option, Some, None, unwrap_or, Result, Ok, Err, if◌then◌else◌}
 use Rattle.gfxspec.specs.declared.error.GfxError.{GfxError}
 use Rattle.gfxspec.specs.declared.error.GfxError.TheVariants.{OutOfMemory, TargetSize, VertexRange, VertexCount, DrawRange, IndexRange, TopologyUnset, ScissorRect, QueryOpen, QueryNotOpen, QueryNumber, QueryLeftOpen, ListTooLong, TooManyIssues, PixelRange, WorkerCount, NotIssued, Unfinished, PortFull, PredicateInList}
+use Rattle.gfxspec.specs.Error.{error_number}
 use Rattle.gfxspec.specs.Commands.{Command}
 use Rattle.command.specs.Calls.{RecordsCall}
 use Rattle.gfxspec.specs.declared.pixel.Pixel.{Pixel}
@@ -11,25 +12,10 @@ use Rattle.device_calls.specs.declared.devices.PixelTold.{PixelTold}
 -- the refusal of a number
 abbrev pub refusal_of : ℕ → GfxError
 refusal_of n =
-    if n == 1 then OutOfMemory else
-    if n == 2 then TargetSize else
-    if n == 3 then VertexRange else
-    if n == 4 then VertexCount else
-    if n == 5 then DrawRange else
-    if n == 6 then IndexRange else
-    if n == 7 then TopologyUnset else
-    if n == 8 then ScissorRect else
-    if n == 9 then QueryOpen else
-    if n == 10 then QueryNotOpen else
-    if n == 11 then QueryNumber else
-    if n == 12 then QueryLeftOpen else
-    if n == 13 then ListTooLong else
-    if n == 14 then TooManyIssues else
-    if n == 15 then PixelRange else
-    if n == 16 then WorkerCount else
-    if n == 17 then NotIssued else
-    if n == 18 then Unfinished else
-    if n == 19 then PortFull else PredicateInList
+    unwrap_or
+    (find (λ e. error_number e == n)
+    (OutOfMemory ∷ TargetSize ∷ VertexRange ∷ VertexCount ∷ DrawRange ∷ IndexRange ∷ TopologyUnset ∷ ScissorRect ∷ QueryOpen ∷ QueryNotOpen ∷ QueryNumber ∷ QueryLeftOpen ∷ ListTooLong ∷ TooManyIssues ∷ PixelRange ∷ WorkerCount ∷ NotIssued ∷ Unfinished ∷ PortFull ∷ []))
+    PredicateInList
 
 -- the answer that a number is: 0, or the number of a refusal
 abbrev pub answer_of : ℕ → Result (Unit {0}) GfxError

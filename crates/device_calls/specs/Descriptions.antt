@@ -1,5 +1,6 @@
 -- States as C describes them, and what is described, if anything is: choices have the numbers of the Direct3D 11 headers (Microsoft Learn, D3D11_CULL_MODE, D3D11_PRIMITIVE_TOPOLOGY, D3D11_COMPARISON_FUNC, D3D11_STENCIL_OP, D3D11_LOGIC_OP, D3D11_COLOR_WRITE_ENABLE).
-use Rattle.std.specs.Prelude.{ℕ, ◌==◌, nat_lt, not, Bool, Option, Some, None, if◌then◌else◌}
+use Rattle.std.specs.Prelude.{ℕ, ◌==◌, nat_lt, not, Bool, [], ◌∷◌, find, Option, Some, None, if◌then◌else◌}
+use Rattle.gfxspec.specs.Numbers.{cull_number, topology_number, compare_number, stencil_op_number, logic_op_number}
 use Rattle.gfxspec.specs.State.{RasterSetting}
 use Rattle.gfxspec.specs.DepthStencil.{DepthStencilSetting}
 use Rattle.gfxspec.specs.Color.{BlendSetting}
@@ -20,62 +21,23 @@ use Rattle.gfxspec.specs.declared.state.StencilOp.TheVariants as St
 use Rattle.gfxspec.specs.declared.state.LogicOp.{LogicOp}
 use Rattle.gfxspec.specs.declared.state.LogicOp.TheVariants as Lo
 
+-- the choice that has this number, if there is one
 abbrev pub cull_numbered : ℕ → Option Cull
-cull_numbered n =
-    if n == 1 then Some Cu.None else
-    if n == 2 then Some Cu.Front else
-    if n == 3 then Some Cu.Back else
-    None
+cull_numbered n = find (λ x. cull_number x == n) (Cu.None ∷ Cu.Front ∷ Cu.Back ∷ [])
 
 abbrev pub topology_numbered : ℕ → Option Topology
-topology_numbered n =
-    if n == 4 then Some To.TriangleList else
-    if n == 5 then Some To.TriangleStrip else
-    None
+topology_numbered n = find (λ x. topology_number x == n) (To.TriangleList ∷ To.TriangleStrip ∷ [])
 
 abbrev pub compare_numbered : ℕ → Option Compare
-compare_numbered n =
-    if n == 1 then Some Co.Never else
-    if n == 2 then Some Co.Less else
-    if n == 3 then Some Co.Equal else
-    if n == 4 then Some Co.LessEqual else
-    if n == 5 then Some Co.Greater else
-    if n == 6 then Some Co.NotEqual else
-    if n == 7 then Some Co.GreaterEqual else
-    if n == 8 then Some Co.Always else
-    None
+compare_numbered n = find (λ x. compare_number x == n) (Co.Never ∷ Co.Less ∷ Co.Equal ∷ Co.LessEqual ∷ Co.Greater ∷ Co.NotEqual ∷ Co.GreaterEqual ∷ Co.Always ∷ [])
 
 abbrev pub stencil_op_numbered : ℕ → Option StencilOp
-stencil_op_numbered n =
-    if n == 1 then Some St.Keep else
-    if n == 2 then Some St.Zero else
-    if n == 3 then Some St.Replace else
-    if n == 4 then Some St.IncrSat else
-    if n == 5 then Some St.DecrSat else
-    if n == 6 then Some St.Invert else
-    if n == 7 then Some St.Incr else
-    if n == 8 then Some St.Decr else
-    None
+stencil_op_numbered n = find (λ x. stencil_op_number x == n) (St.Keep ∷ St.Zero ∷ St.Replace ∷ St.IncrSat ∷ St.DecrSat ∷ St.Invert ∷ St.Incr ∷ St.Decr ∷ [])
 
 abbrev pub logic_op_numbered : ℕ → Option LogicOp
 logic_op_numbered n =
-    if n == 0 then Some Lo.Clear else
-    if n == 1 then Some Lo.Set else
-    if n == 2 then Some Lo.Copy else
-    if n == 3 then Some Lo.CopyInverted else
-    if n == 4 then Some Lo.Noop else
-    if n == 5 then Some Lo.Invert else
-    if n == 6 then Some Lo.And else
-    if n == 7 then Some Lo.Nand else
-    if n == 8 then Some Lo.Or else
-    if n == 9 then Some Lo.Nor else
-    if n == 10 then Some Lo.Xor else
-    if n == 11 then Some Lo.Equiv else
-    if n == 12 then Some Lo.AndReverse else
-    if n == 13 then Some Lo.AndInverted else
-    if n == 14 then Some Lo.OrReverse else
-    if n == 15 then Some Lo.OrInverted else
-    None
+    find (λ x. logic_op_number x == n)
+    (Lo.Clear ∷ Lo.Set ∷ Lo.Copy ∷ Lo.CopyInverted ∷ Lo.Noop ∷ Lo.Invert ∷ Lo.And ∷ Lo.Nand ∷ Lo.Or ∷ Lo.Nor ∷ Lo.Xor ∷ Lo.Equiv ∷ Lo.AndReverse ∷ Lo.AndInverted ∷ Lo.OrReverse ∷ Lo.OrInverted ∷ [])
 
 -- a switch is on but at 0
 abbrev pub switched : ℕ → Bool
@@ -91,10 +53,7 @@ raster_described d = raster_by d (cull_numbered d.cull)
 
 abbrev pub face_by : Option StencilOp → Option StencilOp → Option StencilOp → Option Compare → Option Face
 face_by (Some fail) (Some depth_fail) (Some pass) (Some func) = Some (record { fail = fail; depth_fail = depth_fail; pass = pass; func = func })
-face_by None _ _ _ = None
-face_by (Some _) None _ _ = None
-face_by (Some _) (Some _) None _ = None
-face_by (Some _) (Some _) (Some _) None = None
+face_by _ _ _ _ = None
 
 abbrev pub face_described : FaceDescription → Option Face
 face_described d = face_by (stencil_op_numbered d.fail) (stencil_op_numbered d.depth_fail) (stencil_op_numbered d.pass) (compare_numbered d.compare)
@@ -111,9 +70,7 @@ depth_stencil_by d (Some func) (Some front) (Some back) =
       front = face_setting front;
       back = face_setting back;
     })
-depth_stencil_by d None _ _ = None
-depth_stencil_by d (Some _) None _ = None
-depth_stencil_by d (Some _) (Some _) None = None
+depth_stencil_by d _ _ _ = None
 
 abbrev pub depth_stencil_described : DepthStencilDescription → Option DepthStencilSetting
 depth_stencil_described d = depth_stencil_by d (compare_numbered d.compare) (face_described d.front) (face_described d.back)

@@ -57,82 +57,35 @@ pub struct BlendDescription {
 fn cull_of(number: u32) -> Option<Cull>
     ensures { result ≡ cull_numbered number }
 {
-    match number {
-        1 => Some(Cull::None),
-        2 => Some(Cull::Front),
-        3 => Some(Cull::Back),
-        _ => None,
-    }
+    Cull::from_number(number)
 }
 
 /// By number.
 pub(crate) fn topology_of(number: u32) -> Option<Topology>
     ensures { result ≡ topology_numbered number }
 {
-    match number {
-        4 => Some(Topology::TriangleList),
-        5 => Some(Topology::TriangleStrip),
-        _ => None,
-    }
+    Topology::from_number(number)
 }
 
 /// By number.
 fn compare_of(number: u32) -> Option<Compare>
     ensures { result ≡ compare_numbered number }
 {
-    match number {
-        1 => Some(Compare::Never),
-        2 => Some(Compare::Less),
-        3 => Some(Compare::Equal),
-        4 => Some(Compare::LessEqual),
-        5 => Some(Compare::Greater),
-        6 => Some(Compare::NotEqual),
-        7 => Some(Compare::GreaterEqual),
-        8 => Some(Compare::Always),
-        _ => None,
-    }
+    Compare::from_number(number)
 }
 
 /// By number.
 fn stencil_op_of(number: u32) -> Option<StencilOp>
     ensures { result ≡ stencil_op_numbered number }
 {
-    match number {
-        1 => Some(StencilOp::Keep),
-        2 => Some(StencilOp::Zero),
-        3 => Some(StencilOp::Replace),
-        4 => Some(StencilOp::IncrSat),
-        5 => Some(StencilOp::DecrSat),
-        6 => Some(StencilOp::Invert),
-        7 => Some(StencilOp::Incr),
-        8 => Some(StencilOp::Decr),
-        _ => None,
-    }
+    StencilOp::from_number(number)
 }
 
 /// By number.
 fn logic_op_of(number: u32) -> Option<LogicOp>
     ensures { result ≡ logic_op_numbered number }
 {
-    match number {
-        0 => Some(LogicOp::Clear),
-        1 => Some(LogicOp::Set),
-        2 => Some(LogicOp::Copy),
-        3 => Some(LogicOp::CopyInverted),
-        4 => Some(LogicOp::Noop),
-        5 => Some(LogicOp::Invert),
-        6 => Some(LogicOp::And),
-        7 => Some(LogicOp::Nand),
-        8 => Some(LogicOp::Or),
-        9 => Some(LogicOp::Nor),
-        10 => Some(LogicOp::Xor),
-        11 => Some(LogicOp::Equiv),
-        12 => Some(LogicOp::AndReverse),
-        13 => Some(LogicOp::AndInverted),
-        14 => Some(LogicOp::OrReverse),
-        15 => Some(LogicOp::OrInverted),
-        _ => None,
-    }
+    LogicOp::from_number(number)
 }
 
 /// A rasterizer state, if it is one.

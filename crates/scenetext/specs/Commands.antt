@@ -172,10 +172,7 @@ verb_words v = []
 abbrev pub may_take : Verb → Bool → Bool
 may_take (Call c) immediate = true
 may_take (scene.Finish restore) immediate = not immediate
-may_take scene.Flush immediate = immediate
-may_take (scene.Execute context list restore) immediate = immediate
-may_take (scene.Query query) immediate = immediate
-may_take (scene.Pixel x y) immediate = immediate
+may_take v immediate = immediate
 
 pub record IsVertex (v : Vertex) : Type 0 where
   pub x : FitsSigned w32 v.x

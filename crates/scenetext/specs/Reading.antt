@@ -29,11 +29,6 @@ abbrev pub RefusesShape : Shape → List (List ℕ) → ReadError → Type 0
 RefusesShape s words errors.Memory = Unit {0}
 RefusesShape s words (errors.Fault f) = (rows : Option Fault) → arguments_fault s words rows ≡ Some f
 
--- what takes no memory wants none
-abbrev pub IsFault : ReadError → Type 0
-IsFault errors.Memory = ⊥
-IsFault (errors.Fault f) = Unit {0}
-
 abbrev pub Refuses : CommandWord → List (List ℕ) → ReadError → Type 0
 Refuses command words e = RefusesShape (shape command) words e
 

@@ -23,12 +23,12 @@ use Rattle.sessions.specs.declared.play.Played.{Played}
 use Rattle.sessions.specs.declared.play.Interruption.{Interruption}
 use Rattle.sessions.specs.declared.play.Interruption.TheVariants.{Refused}
 use Rattle.gfxspec.specs.Session.{Step, Executes, Flushes}
-use Rattle.sessions.specs.Lists.{verb_steps, actor_steps, steps_of}
+use Rattle.sessions.specs.Lists.{taken_steps, verb_steps, actor_steps, steps_of}
 use Rattle.answers.specs.declared.line.Answer.{Answer}
 use Rattle.answers.specs.Lines.{answer_lines, answer_line}
 use Rattle.sessions.specs.Answers.{answer_of, line_rows, refusal, answers_behind, answers_or, answers_from}
 use Rattle.sessions.specs.Playing.{own_count, own_place, IsPlayed, ListsOf, ImmediateAccepts, HasReached, IsInterrupted, IsTold, IsPlayedTo, HasTakenAll, HasFinished, HasEndedWith}
-use Rattle.sessions.specs.Taking.{held_rows, HasTaken, HasRun, held_answers, Interrupts, taken_steps, TracesOn}
+use Rattle.sessions.specs.Taking.{held_rows, HasTaken, HasRun, held_answers, Interrupts, TracesOn}
 use Rattle.sessions.proofs.Played.{steps_of-push, rows_are, next_played, answers_are}
 use Rattle.std.proofs.lemmas.Bool.{eqb-true}
 use Rattle.std.proofs.Math.Nat.{mod-lt}
