@@ -1,6 +1,6 @@
 -- What the parts of the reader owe.
-use Rattle.std.proofs.Common.{◌≡◌, ℕ, zero, suc, ◌+◌, ◌-◌, ◌*◌, ◌<◌, Bool, true, false, ◌&&◌, List, [], ◌∷◌, ◌++◌, length, map, replicate, Some, refl, sym, ap, subst, ◌∙◌, append_assoc, arith}
-use Rattle.std.specs.Prelude.{Result, IfErr, decimal, slice_index, count_by}
+use Rattle.std.proofs.Common.{◌≡◌, ℕ, zero, suc, ◌+◌, ◌-◌, ◌*◌, ◌<◌, ◌≤◌, Bool, true, false, ◌&&◌, List, [], ◌∷◌, ◌++◌, length, map, replicate, Some, refl, sym, ap, subst, ◌∙◌, append_assoc, arith}
+use Rattle.std.specs.Prelude.{Result, Ok, Err, None, IfOk, IfErr, Bool, bytes_eq, codes, decimal, drop, slice_index, count_by}
 use Rattle.std.specs.Result.{IsErrAnd}
 use Rattle.std.specs.List.{AllByRecursion, flat_map}
 use Rattle.std.proofs.lemmas.List.{length-append, length-map}
@@ -15,18 +15,18 @@ use Rattle.scenetext.specs.declared.fault.ReadError.TheVariants as errors
 use Rattle.scenetext.specs.declared.verbs.CommandWord.{CommandWord}
 use Rattle.scenetext.specs.declared.verbs.CommandWord.TheVariants as words
 use Rattle.scenetext.specs.Scene.{Actor, Verb, Execute}
-use Rattle.scenetext.specs.Text.{TextLine, words_of}
+use Rattle.scenetext.specs.Text.{words_of}
 use Rattle.scenetext.specs.Numbers.{Kind, NonZero, context_word, fits_kind, fit}
-use Rattle.scenetext.specs.Commands.{vertex_kinds, face_ranges, ranges, shape, name, serves, kinds_of, face_numbers, vertex_words, verb_words, IsVertex, IsVerb}
+use Rattle.scenetext.specs.Commands.{vertex_kinds, face_ranges, ranges, shape, name, kinds_of, face_numbers, vertex_words, verb_words, IsVertex}
 use Rattle.scenetext.specs.Spelling.{actor_word, is_immediate_actor}
-use Rattle.scenetext.specs.Faults.{word, or_fault, unless, finishes, has_list, later_line_fault}
+use Rattle.scenetext.specs.Faults.{word, or_fault, unless, arguments_fault, finishes, has_list, later_line_fault}
 use Rattle.scenetext.specs.declared.range.TheConstants.{INDEX}
 use Rattle.scenetext.specs.Ranges.{kind_of, kinds, AreIn}
-use Rattle.scenetext.specs.Reading.{Reads, Refuses, Counts, LacksCounted, IsHead, RefusesLine}
+use Rattle.scenetext.specs.Reading.{Reads, Refuses, HasCounted, ReadsCounted, RefusesCounted, IsHead, RefusesLine}
 use Rattle.scenetext.proofs.NumberLemmas.{own}
 use Rattle.scenetext.proofs.RangeLemmas.{and_false, fit_fails, length-AreIn, naturals_fit}
 use Rattle.scenetext.proofs.GroupLemmas.{fit-append, vertex_fits, length-vertex_words, length-vertices, groups_of, IsIndex, index_ranges, indices_in, singles_of}
-use Rattle.scenetext.proofs.VerbLemmas.{Fits, verb_fits, command_named-name}
+use Rattle.scenetext.proofs.VerbLemmas.{exec_fit, command_named-name}
 use Rattle.scenetext.proofs.SceneLemmas.{actor_known, immediate_is}
 
 fit-front : (ks ls : List Kind) (ws : List (List ℕ)) → fit ks ws ≡ false → fit (ks ++ ls) ws ≡ false
@@ -128,28 +128,40 @@ indices_refuse old ws is e fault t h l f =
     ∙ fit_fails (index_ranges (length is)) is INDEX (index_ranges more) ws (indices_in is h) l f in
     refused words.Ib (kinds (index_ranges (length is + suc more))) old e found fault fails
 
+-- ---- a list that is finished
+
+-- a command other than `exec` names no list
+pub counted : {V : Type 0} (value : V → Verb) (finished : List ℕ) (c : CommandWord) (ws : List (List ℕ)) (r : Result V ReadError) → bytes_eq (name c) (codes "exec") ≡ false → IfOk r (λ v. Reads c ws (value v)) → IfOk r (λ v. ReadsCounted finished c ws (value v))
+counted value finished c ws (Ok v) other h = record { reads = h; has_list = lists (value v) h.words_are }
+  where
+    lists : (v : Verb) → verb_words v ≡ name c ∷ ws → HasCounted finished v
+    lists (Execute k list restore) e =
+        let is : false ≡ true = sym other ∙ ap (λ x. bytes_eq (word x 0) (codes "exec")) (sym e) in
+        absurd cc
+    lists v e = tt
+counted value finished c ws (Err e) other h = tt
+
+-- a row that applies whatever rows come after it
+pub refused_counted : {V : Type 0} (finished : List ℕ) (c : CommandWord) (ws : List (List ℕ)) (r : Result V ReadError) → IfErr r (Refuses c ws) → IfErr r (RefusesCounted finished c ws)
+refused_counted finished c ws (Ok v) h = tt
+refused_counted finished c ws (Err errors.Memory) h = tt
+refused_counted finished c ws (Err (errors.Fault f)) h = λ earlier actor n. h _
+
+-- an `exec` of a list that is not finished
+pub list_missing : (finished : List ℕ) (ws : List (List ℕ)) (k list : ℕ) (restore : Bool) → Reads words.Exec ws (Execute k list restore) → slice_index finished k ≤ list → RefusesCounted finished words.Exec ws (errors.Fault faults.NoSuchList)
+list_missing finished ws k list restore r h earlier actor n =
+    let count : slice_index finished k ≡ count_by (finishes (context_word k)) earlier = n k r.verb.0 in
+    let lacks : has_list earlier (actor ∷ verb_words (Execute k list restore)) ≡ false =
+    rw (digits_value-decimal own list (omega (arith, r.verb.1.0.high)), ← count) (grind (arith, nat_tests)) in
+    subst
+    (λ x. arguments_fault (shape words.Exec) x (unless (has_list earlier (actor ∷ name words.Exec ∷ x)) faults.NoSuchList None) ≡ Some faults.NoSuchList)
+    (ap (drop 1) r.words_are)
+    (rw (exec_fit k list restore r.verb.0 r.verb.1, lacks) refl)
+
 -- ---- a later line
 
-lacks_list : (earlier : List TextLine) (finished : List ℕ) (a : Actor) (v : Verb) → Counts earlier finished → IsVerb v → LacksCounted finished v → has_list earlier (actor_word a ∷ verb_words v) ≡ false
-lacks_list earlier finished a (Execute k list restore) n i h =
-    let count : slice_index finished k ≡ count_by (finishes (context_word k)) earlier = n k i.0 in
-    rw (digits_value-decimal own list (omega (arith, i.1.0.high)), ← count) (grind (arith, nat_tests))
-lacks_list earlier finished a v n i h = absurd h
-
--- an `exec` of a list that is not finished, behind its head
-pub list_missing : (finished line : List ℕ) (ws args : List (List ℕ)) (a : Actor) (c : CommandWord) (v : Verb) → ws ≡ words_of line → IsHead ws a c args → Reads c args v → LacksCounted finished v → RefusesLine finished line (errors.Fault faults.NoSuchList)
-list_missing finished line ws args a c v e i r h earlier n = by (verb_fits v r.verb)
-  where
-    by : Fits v → later_line_fault earlier (words_of line) ≡ Some faults.NoSuchList
-    by f =
-        let whole : words_of line ≡ actor_word a ∷ name f.command ∷ f.arguments = sym e ∙ i.words_are ∙ ap (λ x. actor_word a ∷ x) (sym r.words_are ∙ f.words_are) in
-        let taken : serves f.command (is_immediate_actor a) ≡ true = sym (f.taken (is_immediate_actor a)) ∙ r.taken (is_immediate_actor a) ∙ i.serves in
-        let lacks : has_list earlier (actor_word a ∷ name f.command ∷ f.arguments) ≡ false = ap (λ x. has_list earlier (actor_word a ∷ x)) (sym f.words_are) ∙ lacks_list earlier finished a v n r.verb h in
-        ap (later_line_fault earlier) whole
-        ∙ rw (actor_known a i.actor, immediate_is a, command_named-name f.command (is_immediate_actor a) taken, f.found, f.fits, lacks) refl
-
 -- arguments that the table refuses, behind their head
-pub arguments_refused : (finished line : List ℕ) (ws args : List (List ℕ)) (a : Actor) (c : CommandWord) (e : ReadError) → ws ≡ words_of line → IsHead ws a c args → Refuses c args e → RefusesLine finished line e
+pub arguments_refused : (finished line : List ℕ) (ws args : List (List ℕ)) (a : Actor) (c : CommandWord) (e : ReadError) → ws ≡ words_of line → IsHead ws a c args → RefusesCounted finished c args e → RefusesLine finished line e
 arguments_refused finished line ws args a c errors.Memory e i h = tt
 arguments_refused finished line ws args a c (errors.Fault f) e i h = λ earlier n.
-    ap (later_line_fault earlier) (sym e ∙ i.words_are) ∙ rw (actor_known a i.actor, immediate_is a, command_named-name c (is_immediate_actor a) i.serves) (h _)
+    ap (later_line_fault earlier) (sym e ∙ i.words_are) ∙ rw (actor_known a i.actor, immediate_is a, command_named-name c (is_immediate_actor a) i.serves) (h earlier (actor_word a) n)

@@ -273,6 +273,10 @@ drawi_fits count start base h hb = record {
   again = rw (value-decimal count (omega (arith, h.0.high)), value-decimal start (omega (arith, h.1.0.high)), value-signed_decimal base (small_signed base hb)) refl;
 }
 
+-- a context, the number of a list, and a flag
+pub exec_fit : (k list : ℕ) (restore : Bool) → k < 8 → AreIn (ranges words.Exec) (list ∷ flag_number restore ∷ []) → fit (Context ∷ kinds (ranges words.Exec)) (context_word k ∷ map decimal (list ∷ flag_number restore ∷ [])) ≡ true
+exec_fit k list restore h numbers = rw (context_fits k h) (naturals_fit (ranges words.Exec) (list ∷ flag_number restore ∷ []) refl numbers)
+
 exec_fits : (k list : ℕ) (restore : Bool) → k < 8 → AreIn (ranges words.Exec) (list ∷ flag_number restore ∷ []) → Fits (Execute k list restore)
 exec_fits k list restore h numbers =
     let ns : List ℕ = list ∷ flag_number restore ∷ [] in
@@ -283,7 +287,7 @@ exec_fits k list restore h numbers =
       taken = λ im. refl;
       kinds = Context ∷ kinds (ranges words.Exec);
       found = refl;
-      fits = rw (context_fits k h) (naturals_fit (ranges words.Exec) ns refl numbers);
+      fits = exec_fit k list restore h numbers;
       texts = (IsWordText-context k h, naturals_texts (ranges words.Exec) ns refl numbers);
       again = (
           let e : 48 + k - 48 ≡ k = omega arith in

@@ -2,8 +2,9 @@
 use Rattle.std.specs.List.{join_with_byte, list_all, position_or_len}
 use Rattle.std.specs.Char.{is_ascii_digit}
 use Rattle.std.specs.Str.Parse.{AllDigits, digits_value}
-use Rattle.std.specs.Prelude.{ℕ, Bool, ◌≡◌, ◌⊎◌, ◌+◌, ◌==◌, ◌&&◌, slice_set, if◌then◌else◌, ◌<◌, ◌≤◌, ◌^◌, nat_le, length, take, true, false, Option, Some, List, [], ◌∷◌, ◌++◌, slice_index, count_by}
+use Rattle.std.specs.Prelude.{ℕ, Bool, ◌≡◌, ◌⊎◌, ◌+◌, ◌==◌, ◌&&◌, slice_set, if◌then◌else◌, ◌<◌, ◌≤◌, ◌^◌, nat_le, length, take, true, false, Option, Some, None, List, [], ◌∷◌, ◌++◌, slice_index, count_by}
 use Rattle.scenetext.specs.declared.fault.Fault.{Fault}
+use Rattle.scenetext.specs.declared.fault.Fault.TheVariants as faults
 use Rattle.scenetext.specs.declared.range.Range.{Range}
 use Rattle.scenetext.specs.declared.range.TheConstants.{U32}
 use Rattle.scenetext.specs.declared.fault.ReadError.{ReadError}
@@ -16,7 +17,7 @@ use Rattle.scenetext.specs.Text.{TextLine, lines_of, words_of, is_printable, has
 use Rattle.scenetext.specs.Numbers.{context_word}
 use Rattle.scenetext.specs.Commands.{Shape, name, shape, serves, verb_words, may_take, IsVerb}
 use Rattle.scenetext.specs.Spelling.{actor_word, is_immediate_actor, line_words, size_words, is_finish, IsActor, IsTarget}
-use Rattle.scenetext.specs.Faults.{number_of_fault, arguments_fault, finishes, first_line_fault, later_line_fault, first_fault, fault_of, last_read, HasFault}
+use Rattle.scenetext.specs.Faults.{number_of_fault, unless, arguments_fault, finishes, has_list, first_line_fault, later_line_fault, first_fault, fault_of, last_read, HasFault}
 
 -- these words are the arguments of this verb
 pub record Reads (command : CommandWord) (words : List (List ℕ)) (v : Verb) : Type 0 where
@@ -40,6 +41,16 @@ abbrev pub HasCounted : List ℕ → Verb → Type 0
 HasCounted finished (Execute context list restore) = list < slice_index finished context
 HasCounted finished v = Unit {0}
 
+-- these words are the arguments of this verb, and a list that it executes is finished
+pub record ReadsCounted (finished : List ℕ) (command : CommandWord) (words : List (List ℕ)) (v : Verb) : Type 0 where
+  pub reads : Reads command words v
+  pub has_list : HasCounted finished v
+
+-- the first row that applies to these arguments, with that on lists; want of memory says nothing
+abbrev pub RefusesCounted : List ℕ → CommandWord → List (List ℕ) → ReadError → Type 0
+RefusesCounted finished command words errors.Memory = Unit {0}
+RefusesCounted finished command words (errors.Fault f) = (earlier : List TextLine) (actor : List ℕ) → Counts earlier finished → arguments_fault (shape command) words (unless (has_list earlier (actor ∷ name command ∷ words)) faults.NoSuchList None) ≡ Some f
+
 -- this line of a script is a line of a scene
 pub record ReadsLine (finished bytes : List ℕ) (l : Line) : Type 0 where
   pub words_are : line_words l ≡ words_of bytes
@@ -52,10 +63,6 @@ pub record ReadsLine (finished bytes : List ℕ) (l : Line) : Type 0 where
 abbrev pub RefusesLine : List ℕ → List ℕ → ReadError → Type 0
 RefusesLine finished bytes errors.Memory = Unit {0}
 RefusesLine finished bytes (errors.Fault f) = (earlier : List TextLine) → Counts earlier finished → later_line_fault earlier (words_of bytes) ≡ Some f
-
-abbrev pub LacksCounted : List ℕ → Verb → Type 0
-LacksCounted finished (Execute context list restore) = slice_index finished context ≤ list
-LacksCounted finished v = ⊥
 
 -- the first two words of a later line
 pub record IsHead (old : List (List ℕ)) (a : Actor) (command : CommandWord) (rest : List (List ℕ)) : Type 0 where

@@ -6,12 +6,12 @@ ghost use Rattle.scenetext.specs.Commands.{command_named, IsVerb};
 ghost use Rattle.scenetext.specs.Seen.{actor_value, verb_value, line_value};
 ghost use Rattle.scenetext.specs.Spelling.{actor_word, is_immediate_actor, IsActor};
 ghost use Rattle.scenetext.specs.Faults.{is_immediate};
-ghost use Rattle.scenetext.specs.Reading.{ReadsLine, RefusesLine, HasCounted, LacksCounted, IsHead, RefusesHead, ReadsSize, RefusesFirst};
+ghost use Rattle.scenetext.specs.Reading.{ReadsLine, RefusesLine, IsHead, RefusesHead, ReadsSize, RefusesFirst};
 
 use crate::argument::next_argument;
 use crate::fault::{Fault, ReadError};
 use crate::numbers::expect;
-use crate::scene::{Actor, Line, Verb};
+use crate::scene::{Actor, Line};
 use crate::text::FormedLine;
 use crate::verbs::{CommandWord, verb_of};
 use crate::words::{Words, context};
@@ -36,18 +36,6 @@ fn is_immediate_context(actor: Actor) -> bool
     ensures { result ≡ is_immediate_actor (actor_value actor) }
 {
     matches!(actor, Actor::Immediate)
-}
-
-/// Tests that the list that a verb executes is finished.
-fn has_list<A: Allocator>(finished: &[u64; 8], verb: &Verb<A>) -> bool
-    requires { IsVerb (verb_value verb.now) }
-    ensures yes { IsTrue result → HasCounted finished.now (verb_value verb.now) }
-    ensures no { result ≡ false → LacksCounted finished.now (verb_value verb.now) }
-{
-    match verb {
-        Verb::Execute(context, list, _) => (*list as u64) < finished[*context as usize],
-        _ => true,
-    }
 }
 
 /// The actor and the command of a later line.
@@ -81,10 +69,7 @@ pub(crate) fn line_of<A: Allocator + Copy>(
 {
     let mut words = Words::new(line);
     let (actor, command) = head_of(&mut words)?;
-    let verb = verb_of(alloc, command, &mut words)?;
-    if !has_list(finished, &verb) {
-        return Err(ReadError::Fault(Fault::NoSuchList));
-    }
+    let verb = verb_of(alloc, finished, command, &mut words)?;
     Ok(Line { actor, verb })
 }
 

@@ -4,7 +4,8 @@ ghost use Rattle.std.specs.Prelude.{◌≡◌, ◌≤◌, ◌++◌, pos, true, f
 ghost use Rattle.states.specs.Raster.{raster_setting};
 ghost use Rattle.scenetext.specs.Seen.{verb_value};
 ghost use Rattle.scenetext.specs.Numbers.{fit};
-ghost use Rattle.scenetext.specs.Reading.{Reads, Refuses};
+ghost use Rattle.scenetext.specs.Scene.{Execute};
+ghost use Rattle.scenetext.specs.Reading.{Reads, Refuses, ReadsCounted, RefusesCounted};
 ghost use Rattle.scenetext.specs.Commands.{ranges, raster_numbers};
 ghost use Rattle.scenetext.specs.Ranges.{kinds, AreIn};
 
@@ -322,14 +323,27 @@ fn flush<A: Allocator>(words: &mut Words) -> Result<Verb<A>, ReadError>
     Ok(Verb::Flush)
 }
 
-fn execute<A: Allocator>(words: &mut Words) -> Result<Verb<A>, ReadError>
-    ensures ok { IfOk result (λ v. Reads CommandWord.Exec words.old (verb_value v)) }
+/// The context, the number of the list, and whether the state is kept.
+fn next_list(words: &mut Words) -> Result<(u32, u32, bool), ReadError>
+    ensures ok { IfOk result (λ list. Reads CommandWord.Exec words.old (Execute list.0 list.1 list.2)) }
     ensures err { IfErr result (Refuses CommandWord.Exec words.old) }
 {
     expect(words, 3)?;
     let context = next_context(words)?;
     let list = next_argument(words)?;
     let restore = next_argument(words)?;
+    Ok((context, list, restore))
+}
+
+/// The execution of a list that is finished.
+fn execute<A: Allocator>(finished: &[u64; 8], words: &mut Words) -> Result<Verb<A>, ReadError>
+    ensures ok { IfOk result (λ v. ReadsCounted finished.now CommandWord.Exec words.old (verb_value v)) }
+    ensures err { IfErr result (RefusesCounted finished.now CommandWord.Exec words.old) }
+{
+    let (context, list, restore) = next_list(words)?;
+    if finished[context as usize] <= list as u64 {
+        return Err(ReadError::Fault(Fault::NoSuchList));
+    }
     Ok(Verb::Execute(context, list, restore))
 }
 
@@ -351,14 +365,16 @@ fn pixel<A: Allocator>(words: &mut Words) -> Result<Verb<A>, ReadError>
     Ok(Verb::Pixel(x, y))
 }
 
-/// The verb of a command with these arguments.
+/// The verb of a command with these arguments, where the contexts have finished so many lists.
+#[tactic(auto, using(crate::proofs::ReadLemmas::counted, crate::proofs::ReadLemmas::refused_counted))]
 pub(crate) fn verb_of<A: Allocator + Copy>(
     alloc: A,
+    finished: &[u64; 8],
     command: CommandWord,
     words: &mut Words,
 ) -> Result<Verb<A>, ReadError>
-    ensures ok { IfOk result (λ v. Reads command words.old (verb_value v)) }
-    ensures err { IfErr result (Refuses command words.old) }
+    ensures ok { IfOk result (λ v. ReadsCounted finished.now command words.old (verb_value v)) }
+    ensures err { IfErr result (RefusesCounted finished.now command words.old) }
 {
     match command {
         CommandWord::Vb => set_vertices(alloc, words),
@@ -377,7 +393,7 @@ pub(crate) fn verb_of<A: Allocator + Copy>(
         CommandWord::End => end(words),
         CommandWord::Finish => finish(words),
         CommandWord::Flush => flush(words),
-        CommandWord::Exec => execute(words),
+        CommandWord::Exec => execute(finished, words),
         CommandWord::Query => query(words),
         CommandWord::Pixel => pixel(words),
     }
