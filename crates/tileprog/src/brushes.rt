@@ -7,14 +7,18 @@ ghost use Rattle.tileprog.specs.declared.kind.Tests.TheVariants.{Depth, Stencil}
 use crate::brush::Brush;
 use gfxspec::Compare;
 use lanes::StencilTest;
+use logicop::ColorWrite;
 
-/// A brush that tests depth alone, with the comparison and whether depths are stored: loops have both as constants.
+/// A brush that tests depth alone, with the comparison, whether depths are stored, and which bits of stored colours are kept: loops have them as
+/// constants.
 #[derive(Clone, Copy)]
 pub(crate) struct DepthBrush {
     pub(crate) func: Compare,
     pub(crate) write: bool,
+    pub(crate) keep: u32,
     pub(crate) brush: Brush,
     pub(crate) ghost kind: { tests_of brush.state ≡ Depth func write },
+    pub(crate) ghost kept: { keep ≡ brush.write.keep },
 }
 
 impl DepthBrush {
@@ -29,6 +33,7 @@ impl DepthBrush {
         DepthBrush {
             func,
             write: self.write,
+            keep: self.keep,
             brush: self.brush,
         }
     }
@@ -42,7 +47,33 @@ impl DepthBrush {
         DepthBrush {
             func: self.func,
             write,
+            keep: self.keep,
             brush: self.brush,
+        }
+    }
+
+    /// The same brush by the bits that it keeps of stored colours, which stand as a constant.
+    #[inline(always)]
+    pub(crate) fn keeping(self, keep: u32) -> DepthBrush
+        requires { keep ≡ self.keep }
+        ensures { result.brush ≡ self.brush }
+    {
+        DepthBrush {
+            func: self.func,
+            write: self.write,
+            keep,
+            brush: self.brush,
+        }
+    }
+
+    /// What the brush makes of stored colours.
+    #[inline(always)]
+    pub(crate) fn colors(&self) -> ColorWrite
+        ensures { result ≡ self.now.brush.write }
+    {
+        ColorWrite {
+            keep: self.keep,
+            flip: self.brush.write.flip,
         }
     }
 }

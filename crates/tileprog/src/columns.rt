@@ -179,6 +179,7 @@ pub(crate) fn draw_column<W: Walks>(
             let tested = DepthBrush {
                 func: *func,
                 write: *write,
+                keep: brush.write.keep,
                 brush: *brush,
             };
             depth_column(block, column, edges, walk, tested)

@@ -7,7 +7,6 @@ ghost use Rattle.tileprog.specs.Counting.{one_if, stroke_count};
 ghost use Rattle.tileprog.specs.Quads.{IsQuads, QuadDrew, edges_at, walk_at, drawn_quad, deepened_quad, painted_quad, picked, sum4};
 ghost use Rattle.tileprog.specs.Spreads.{SpreadDrew, stroke_of};
 
-use crate::brush::Brush;
 use crate::brushes::DepthBrush;
 use crate::draw::TileTriangle;
 use depthplane::DepthQuads;
@@ -46,11 +45,11 @@ fn keep_quad(
 
 /// Writes the colours of these pixels.
 #[inline(always)]
-fn paint_quad(block: &mut TilePixels, pixels: QuadPixels, brush: &Brush)
-    ensures { QuadStored block.old block.new pixels.quad pixels.row (painted_quad brush.now pixels.picked) }
+fn paint_quad(block: &mut TilePixels, pixels: QuadPixels, brush: &DepthBrush)
+    ensures { QuadStored block.old block.new pixels.quad pixels.row (painted_quad brush.now.brush pixels.picked) }
 {
     let old = block.color_quad(pixels.quad, pixels.row);
-    let new = write4(brush.write, &old);
+    let new = write4(brush.colors(), &old);
     let painted = select4(&pixels.picked, &new, &old);
     block.set_color_quad(pixels.quad, pixels.row, painted);
 }
@@ -76,7 +75,7 @@ fn draw_quad(
         picked: ones,
     };
     keep_quad(block, passed, new, &old, brush.write);
-    paint_quad(block, passed, &brush.brush);
+    paint_quad(block, passed, brush);
     ones
 }
 
@@ -195,6 +194,28 @@ fn draw_compared(
     }
 }
 
+/// The same; where no bit of a stored colour is kept, that too is known to each of the loops, which then read no colour.
+#[inline(always)]
+fn draw_painted(
+    block: &mut TilePixels,
+    triangle: &TileTriangle<'_>,
+    edges: EdgeQuads<'_>,
+    walk: DepthQuads<'_>,
+    brush: DepthBrush,
+) -> u32
+    requires over { IsQuads triangle.now block.old.rect }
+    requires brush { brush.brush ≡ triangle.now.brush.now }
+    requires edges { edges ≡ edges_at triangle.now block.old.rect triangle.now.first triangle.now.clip.top }
+    requires walk { walk ≡ walk_at triangle.now block.old.rect triangle.now.first triangle.now.clip.top }
+    ensures { SpreadDrew (stroke_of triangle.now) block.old block.new result }
+{
+    if brush.keep == 0 {
+        draw_compared(block, triangle, edges, walk, brush.keeping(0))
+    } else {
+        draw_compared(block, triangle, edges, walk, brush)
+    }
+}
+
 /// A small triangle under a brush that tests depth alone; the answer is how many pixels pass. Whether depths are stored is known to each of
 /// the loops too.
 #[inline(always)]
@@ -212,8 +233,8 @@ pub(crate) fn draw_small(
     ensures { SpreadDrew (stroke_of triangle.now) block.old block.new result }
 {
     if brush.write {
-        draw_compared(block, triangle, edges, walk, brush.storing(true))
+        draw_painted(block, triangle, edges, walk, brush.storing(true))
     } else {
-        draw_compared(block, triangle, edges, walk, brush.storing(false))
+        draw_painted(block, triangle, edges, walk, brush.storing(false))
     }
 }

@@ -93,7 +93,12 @@ fn draw_quads_under(
     };
     let colors = write_under(&entry.blend, triangle.rgba, flip);
     let brush = make_brush(entry.depth_stencil, triangle.front, entry.reference, colors);
-    let tested = DepthBrush { func, write, brush };
+    let tested = DepthBrush {
+        func,
+        write,
+        keep: colors.keep,
+        brush,
+    };
     draw_quads(block, triangle, mask.bits(), &tested, clip)
 }
 
@@ -165,7 +170,7 @@ fn depth_range(triangle: &TriSetup, rect: PixelRect, asked: bool, whole: bool) -
 
 /// A triangle that is less wide and less high than a tile, over the pixels of a clip rectangle: its vertices tell as much of its depths
 /// as its plane does, and whole tiles aren't asked about.
-#[inline(never)]
+#[inline(always)]
 fn run_small(
     block: &mut TilePixels,
     triangle: &TriSetup,
@@ -185,6 +190,49 @@ fn run_small(
     let (least, greatest) = (triangle.least_depth, triangle.greatest_depth);
     let after = bounds_after(entry, least, greatest, false, stored);
     let passed = draw_small_under(block, triangle, mask, entry, clip, flip);
+    keep_after(block, after, entry.depth_stencil.func(), passed);
+    passed
+}
+
+/// A triangle that is as wide or as high as a tile, over the pixels of a clip rectangle; the answer is how many pixels pass.
+#[inline(never)]
+fn run_large(
+    block: &mut TilePixels,
+    flip: &mut u32,
+    triangle: &TriSetup,
+    mask: EdgeMask,
+    entry: &StateEntry,
+    clip: PixelRect,
+) -> u32
+    requires tile { IsTile block.old.rect }
+    requires class { IsClassOf (Cut (edge_bits mask)) triangle.now.plane.triangle block.old.rect }
+    requires bounded { IsBounded triangle.now entry.now }
+    requires within { IsWithin clip block.old.rect }
+    requires inside { (u v : ℕ) → IsIn block.old.rect u v → is_in_rect clip u v ≡ is_in_rect triangle.now.bounds u v }
+    ensures rect { block.new.rect ≡ block.old.rect }
+    ensures pixels { (u v : ℕ) → IsIn block.old.rect u v → stands_for flip.new block.new u v ≡ triangle_by mask (Some triangle.now) (Some entry.now) u v (stands_for flip.old block.old u v) }
+    ensures count { result ≡ sum_over block.old.rect (triangle_count mask triangle.now entry.now block.old) }
+    ensures few { result ≤ 1024 }
+{
+    let rect = block.rect();
+    let whole = is_whole(rect, clip, mask);
+    let open = is_open(entry, whole);
+    if open {
+        return run_open(block, flip, triangle, entry);
+    }
+    let stored = block.depth_bounds();
+    let asked = asks_plane(entry, stored);
+    let (least, greatest) = depth_range(triangle, rect, asked, whole);
+    let hidden = is_hidden(entry, least, greatest, stored);
+    if hidden {
+        return 0;
+    }
+    let outcome = alike_outcome(triangle, entry, least, greatest, whole, stored);
+    if let Some(deep) = outcome {
+        return run_alike(block, triangle, entry, deep);
+    }
+    let after = bounds_after(entry, least, greatest, whole, stored);
+    let passed = draw_under(block, triangle, &mask, entry, &clip, *flip);
     keep_after(block, after, entry.depth_stencil.func(), passed);
     passed
 }
@@ -215,26 +263,7 @@ fn run_triangle(
     if !is_large(triangle.bounds.rect()) {
         return run_small(block, triangle, &mask, entry, &clip, *flip);
     }
-    let whole = is_whole(rect, clip, mask);
-    let open = is_open(entry, whole);
-    if open {
-        return run_open(block, flip, triangle, entry);
-    }
-    let stored = block.depth_bounds();
-    let asked = asks_plane(entry, stored);
-    let (least, greatest) = depth_range(triangle, rect, asked, whole);
-    let hidden = is_hidden(entry, least, greatest, stored);
-    if hidden {
-        return 0;
-    }
-    let outcome = alike_outcome(triangle, entry, least, greatest, whole, stored);
-    if let Some(deep) = outcome {
-        return run_alike(block, triangle, entry, deep);
-    }
-    let after = bounds_after(entry, least, greatest, whole, stored);
-    let passed = draw_under(block, triangle, &mask, entry, &clip, *flip);
-    keep_after(block, after, entry.depth_stencil.func(), passed);
-    passed
+    run_large(block, flip, triangle, mask, entry, clip)
 }
 
 /// A triangle under a state entry over a tile, of whose colours bits may still have to be flipped; the answer is how many pixels pass.
